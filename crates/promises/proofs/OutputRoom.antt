@@ -1,0 +1,81 @@
+-- "The output never needs more frame bytes than the input", and the program itself never gives 12.
+use mathlib.Core.Path.{_≡_, refl, _∙_, ap}
+use mathlib.Core.List.{List, [], _∷_}
+use Prim.Native.Nat.{ℕ, _+_, _*_, _≤_}
+use native.Mathlib.Omega.{arith}
+use lib.Dec.{leb}
+use lib.ListN.{length, length-append}
+use borrow.Author.Tests.{le-leb}
+use Rattle.laws.specs.Lists.{total, each}
+use Rattle.laws.proofs.Tests.{false-true, and-both, both-ways}
+use Rattle.rules.specs.declared.Refusal.the-variants.{Room}
+use Rattle.rules.specs.Programs.{Program}
+use Rattle.rules.specs.Rewriting.{anchor, instrBytes, optimized}
+use Rattle.rules.specs.Output.{hexByte, frameOf, lineOf, textOf, writeBack, compact}
+use Rattle.rules.specs.Run.{outputOf, fits, listingRoomOfProgram, imageRoomOfProgram}
+use Rattle.promises.specs.Demand1.{Cause, reading, naming, laying, defining, encoding, room}
+use Rattle.promises.specs.Demand2.{Input, outputProgram}
+use Rattle.promises.specs.Room.{frameBytes, OutputRoom, NeverRoom}
+use Rattle.promises.proofs.Weights.{step-length}
+use Rattle.promises.proofs.Chains.{chain-keeps}
+use Rattle.promises.proofs.Anchors.{length-anchor}
+use Rattle.promises.proofs.RefusedOnce.{refused-once}
+use Rattle.promises.proofs.Listings.{read-made, read-limits, read-whole}
+use Rattle.promises.proofs.WritesBack.{length-writeBack}
+use Rattle.promises.proofs.Ranks.{length-compact}
+use Rattle.promises.proofs.FrameRoom.{output-frames}
+use Rattle.promises.proofs.ImageOfOutput.{image-of-output}
+use Rattle.promises.proofs.ImageRoom.{image-room}
+
+-- two characters a byte, and a line feed
+pub digits-length : (s : List ℕ) → length (each (λ b. hexByte b) s) ≡ 2 * length s
+unfolding each
+digits-length [] = refl
+digits-length (b ∷ s) = omega (arith, digits-length s)
+
+line-length : (s : List ℕ) → length (lineOf s) ≡ 2 * length s + 1
+unfolding lineOf
+line-length s = length-append (each (λ b. hexByte b) s) (10 ∷ []) ∙ ap (λ (n : ℕ). n + 1) (digits-length s)
+
+text-length : (p : Program) → length (textOf p) ≡ 2 * total frameBytes p + length p
+unfolding textOf each total
+text-length [] = refl
+text-length (s ∷ p) = omega (arith, length-append (lineOf (frameOf s)) (textOf p), line-length (frameOf s), text-length p)
+
+-- one slot for each statement of the input
+end-length : (p : Program) → length (optimized p .program) ≡ length p
+unfolding optimized
+end-length p = chain-keeps (λ q. length q ≡ length p) (λ r t st h. step-length r t st ∙ h) (total instrBytes p) (anchor p) (length-anchor p)
+
+-- output-room: no more frame bytes, statements or text than the input, and both results fit in the program's rooms
+pub output-room : (p : Program) (h : Input p) → OutputRoom (h .text) p
+unfolding outputOf outputProgram
+output-room p h =
+    let q : Program = compact (writeBack (optimized p .program)) in
+    let frames : total frameBytes q ≤ total frameBytes p = unfold outputProgram in output-frames p (read-made (h .text) p (h .reads)) in
+    let limits = read-limits (h .text) p (h .reads) in
+    let image = image-of-output p h in
+    let fewer : length q ≤ length p = omega (arith, length-compact (writeBack (optimized p .program)), length-writeBack (optimized p .program), end-length p) in
+    record {
+      frames = frames;
+      statements = fewer;
+      as-text = omega (arith, text-length q, read-whole (h .text) p (h .reads));
+      listing = omega (arith, text-length q, limits .0, limits .1);
+      image = rw (image .handed-out) (image-room q (image .image) (image .of-output));
+    }
+
+-- never-room: 12 never comes from the program
+pub never-room : (text : List ℕ) → NeverRoom text
+unfolding fits
+never-room text n e = on (refused-once text listingRoomOfProgram imageRoomOfProgram (Room n) .0 e)
+  where
+    on : Cause text listingRoomOfProgram imageRoomOfProgram (Room n) → ⊥
+    on (reading d x) = false-true x
+    on (naming p d a x) = false-true (x .number)
+    on (laying p d a b x) = false-true (x .number)
+    on (defining p d a b c x) = false-true (x .number)
+    on (encoding p names d a b c f x) = false-true (x .number)
+    on (room p image d j f x) =
+        let o = output-room p (record { text = text; reads = d; image = image; assembles = j }) in
+        both-ways (fits listingRoomOfProgram imageRoomOfProgram (outputOf p))
+        (and-both (leb (length (outputOf p .listing)) listingRoomOfProgram) (leb (length (outputOf p .image)) imageRoomOfProgram) (le-leb _ _ (o .listing)) (le-leb _ _ (o .image))) f

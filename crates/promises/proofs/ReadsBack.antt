@@ -1,0 +1,153 @@
+-- The listing that is handed out keeps the listing rules, reads as the output's statements, and assembles to the image that is handed out: the output
+-- is an accepted input again.
+use mathlib.Core.Path.{_≡_, refl, sym, _∙_, ap}
+use mathlib.Core.List.{List, [], _∷_}
+use mathlib.Core.Bool.{Bool, true, false}
+use Prim.Native.Nat.{zero, suc, _+_, _*_, _≤_}
+use native.Mathlib.Omega.{arith}
+use lib.Dec.{leb}
+use lib.ListN.{length, length-append, length-map}
+use borrow.Author.Tests.{leb-true}
+use Rattle.laws.specs.Lists.{every, each}
+use Rattle.laws.specs.Counts.{allTo}
+use Rattle.laws.proofs.Lists.{every-any}
+use Rattle.laws.proofs.Counts.{all-at}
+use Rattle.rules.specs.Answers.{ok}
+use Rattle.rules.specs.Forms.{formAt, operandsAt}
+use Rattle.rules.specs.Programs.{Placeℕ, Operand, register, value, inner, Stmt, gone, instr, label, variable, comment, org, bytes, words, Program, at, asName}
+use Rattle.rules.specs.Listing.{readListing}
+use Rattle.rules.specs.Judging.{judge, encode}
+use Rattle.rules.specs.Rewriting.{optimized}
+use Rattle.rules.specs.Output.{operandBytes, frameOf, writeBack, compact}
+use Rattle.rules.specs.Run.{outputOf}
+use Rattle.promises.specs.Demand2.{Input, outputProgram, own, ownFrom, ReadsBack}
+use Rattle.promises.specs.Room.{frameBytes}
+use Rattle.promises.proofs.Sounds.{shapes, Sound, Sounds}
+use Rattle.promises.proofs.Listings.{read-made, read-limits}
+use Rattle.promises.proofs.Compacts.{plainStmt, View, is-gone, is-live, view, compact-live}
+use Rattle.promises.proofs.Alike.{Alike, judge-alike}
+use Rattle.promises.proofs.Positions.{SameRoom, AllSameRoom, room-same, position-same}
+use Rattle.promises.proofs.Retargets.{Kept, positions-kept, same-alike}
+use Rattle.promises.proofs.Acceptable.{end-acceptable}
+use Rattle.promises.proofs.WritesBack.{inner-end, writeBack-plain}
+use Rattle.promises.proofs.ImageOfOutput.{image-of-output}
+use Rattle.promises.proofs.OutputRoom.{output-room}
+use Rattle.promises.proofs.SoundEnd.{Kept-sound, written-sound}
+use Rattle.promises.proofs.TextBack.{AllWritable, text-back}
+
+-- ---- a frame has 120 bytes at most: an instruction has three operands at most, of 32 bytes
+few-operands : allTo (λ f. leb (length (operandsAt f)) 3) 70 ≡ true
+unfolding allTo formAt
+few-operands = refl
+
+operand-short : (b : Bool) (x : Operand) → Sound b x → length (operandBytes x) ≤ 32
+operand-short true (register r) s = omega arith
+operand-short true (value e) s = absurd s
+operand-short true (inner i o) s = absurd s
+operand-short false (register r) s = absurd s
+operand-short false (value e) s = s .1
+operand-short false (inner i o) s = omega arith
+
+operands-short : (bs : List Bool) (xs : List Operand) → Sounds bs xs → length (each (λ x. operandBytes x) xs) ≤ 32 * length bs
+unfolding each
+operands-short [] [] s = omega arith
+operands-short [] (x ∷ xs) s = absurd s
+operands-short (b ∷ bs) [] s = absurd s
+operands-short (b ∷ bs) (x ∷ xs) s =
+    omega (arith, operand-short b x (s .0), operands-short bs xs (s .1), length-append (operandBytes x) (each (λ x. operandBytes x) xs))
+
+frame-short : (s : Stmt) → Kept-sound s → frameBytes s ≤ 120
+unfolding frameOf
+frame-short gone k = omega arith
+frame-short (instr f xs c) k =
+    let few = leb-true (length (operandsAt f)) 3 (all-at (λ f. leb (length (operandsAt f)) 3) f 70 (k .sound .0) few-operands) in
+    let wide = operands-short (shapes f) xs (k .sound .1) in
+    let n : length (shapes f) ≡ length (operandsAt f) = length-map (operandsAt f) _ in
+    omega arith
+frame-short (label n) k = leb-true (frameBytes (label n)) 120 (k .short)
+frame-short (variable n e) k = leb-true (frameBytes (variable n e)) 120 (k .short)
+frame-short (comment x) k = leb-true (frameBytes (comment x)) 120 (k .short)
+frame-short (org l) k = leb-true (frameBytes (org l)) 120 (k .short)
+frame-short (bytes es) k = leb-true (frameBytes (bytes es)) 120 (k .short)
+frame-short (words es) k = leb-true (frameBytes (words es)) 120 (k .short)
+
+-- ---- what is left can be written
+compact-writable : (p : Program) → ((i : Placeℕ) → Kept-sound (at p i)) → ((i : Placeℕ) → plainStmt (at p i) ≡ true) → AllWritable (compact p)
+unfolding compact
+compact-writable [] k h = tt
+compact-writable (s ∷ p) k h = on (view s) (k 0) (h 0) (compact-writable p (λ i. k (suc i)) (λ i. h (suc i)))
+  where
+    on : {s : Stmt} → View s → Kept-sound s → plainStmt s ≡ true → AllWritable (compact p) → AllWritable (compact (s ∷ p))
+    on is-gone k h below = below
+    on {s} (is-live l) k h below = rw (compact-live s p l) (record { sound = k .sound; plain = h; live = l; short = frame-short s k }, below)
+
+-- ---- an instruction's own place is not seen by judging
+own-alike : (p p′ : Program) → Kept p p′ → (i : Placeℕ) (s : Stmt) → Alike p p′ s (own i s)
+unfolding asName encode
+own-alike p p′ k i gone = same-alike p p′ k gone
+own-alike p p′ k i (instr f xs c) =
+    let a = same-alike p p′ k (instr f xs c) in
+    record {
+      goes-on = a .goes-on;
+      enters = a .enters;
+      called = a .called;
+      settled = a .settled;
+      defined = a .defined;
+      encoded = a .encoded;
+      laid = a .laid;
+    }
+own-alike p p′ k i (label n) = same-alike p p′ k (label n)
+own-alike p p′ k i (variable n e) = same-alike p p′ k (variable n e)
+own-alike p p′ k i (comment x) = same-alike p p′ k (comment x)
+own-alike p p′ k i (org l) = same-alike p p′ k (org l)
+own-alike p p′ k i (bytes es) = same-alike p p′ k (bytes es)
+own-alike p p′ k i (words es) = same-alike p p′ k (words es)
+
+own-room : (i : Placeℕ) (s : Stmt) → SameRoom s (own i s)
+own-room i gone = room-same gone
+own-room i (instr f xs c) = record { goes-on = λ q. refl; as-big = refl }
+own-room i (label n) = room-same (label n)
+own-room i (variable n e) = room-same (variable n e)
+own-room i (comment x) = room-same (comment x)
+own-room i (org l) = room-same (org l)
+own-room i (bytes es) = room-same (bytes es)
+own-room i (words es) = room-same (words es)
+
+length-own : (i : Placeℕ) (p : Program) → length (ownFrom i p) ≡ length p
+unfolding ownFrom
+length-own i [] = refl
+length-own i (s ∷ p) = ap suc (length-own (suc i) p)
+
+at-own : (i : Placeℕ) (p : Program) (j : Placeℕ) → at (ownFrom i p) j ≡ own (i + j) (at p j)
+unfolding ownFrom
+at-own i [] j = refl
+at-own i (s ∷ p) zero = let z : i + 0 ≡ i = omega arith in rw z
+at-own i (s ∷ p) (suc j) = let z : i + suc j ≡ suc i + j = omega arith in rw z (at-own (suc i) p j)
+
+judge-own : (p : Program) → judge (ownFrom 0 p) ≡ judge p
+judge-own p =
+    let room : AllSameRoom p (ownFrom 0 p) = (length-own 0 p, λ i. rw (at-own 0 p i) (own-room (0 + i) (at p i))) in
+    let kept : Kept p (ownFrom 0 p) = positions-kept p (ownFrom 0 p) (position-same p (ownFrom 0 p) room) in
+    judge-alike p (ownFrom 0 p) (length-own 0 p, λ i h. rw (at-own 0 p i) (own-alike p (ownFrom 0 p) kept (0 + i) (at p i)))
+
+-- reads-back: the output's listing reads as the output's statements, and assembles to the image that is handed out
+pub reads-back : (p : Program) → Input p → ReadsBack p
+unfolding outputProgram outputOf readListing
+reads-back p h =
+    let w = read-made (h .text) p (h .reads) in
+    let e : Program = optimized p .program in
+    let q : Program = compact (writeBack e) in
+    let plain = writeBack-plain e (inner-end p w) in
+    let writable : AllWritable q =
+    compact-writable (writeBack e) (written-sound p w (end-acceptable p w (h .image) (h .assembles))) (λ i. every-any plainStmt (writeBack e) i gone (unfold every in refl) plain) in
+    let room = output-room p h in
+    let limits = read-limits (h .text) p (h .reads) in
+    let image = image-of-output p h in
+    record {
+      reads = text-back 0 0 q writable (omega (arith, room .statements, limits .0)) (omega (arith, room .frames, limits .1));
+      assembles = judge-own q ∙ image .of-output ∙ ap ok (sym (image .handed-out));
+    }
+
+-- the output is an accepted input again
+pub output-again : (p : Program) → Input p → Input (ownFrom 0 (outputProgram p))
+output-again p h = let b = reads-back p h in record { text = outputOf p .listing; reads = b .reads; image = outputOf p .image; assembles = b .assembles }

@@ -1,0 +1,65 @@
+-- Document 01, "Refusal numbers": which statement a refusal names. It is the first, in the order of the listing, that its check refuses.
+use mathlib.Core.Path.{_≡_}
+use mathlib.Core.List.{List, [], _∷_, _++_}
+use mathlib.Core.Bool.{false}
+use Prim.Native.Nat.{ℕ, _<_}
+use lib.ListN.{length, getD, take}
+use Rattle.laws.specs.Lists.{total}
+use Rattle.rules.specs.declared.Refusal.{Refusal}
+use Rattle.rules.specs.declared.Refusal.the-variants.{Broken, Limit, Again, Room}
+use Rattle.rules.specs.Answers.{atPlace, Judged, ok, no, Check, require, orD}
+use Rattle.rules.specs.Programs.{Placeℕ, Stmt, Program, at, asName}
+use Rattle.rules.specs.Layout.{position}
+use Rattle.rules.specs.Listing.{Line, linesOf, unhex, readFrame, withinLimits, wellFormed, readListing}
+use Rattle.rules.specs.Names.{Key, Entry, Placed, placed, contextAt}
+use Rattle.rules.specs.Judging.{keysIn, areNew, settles, define, defineAll, encode}
+
+-- of n places the first that a check refuses, with r; those before it pass
+pub record FirstRefused {A : Type 0} (n : ℕ) (check : Placeℕ → Judged A) (r : Refusal) : Type 0 where
+  pub place : Placeℕ
+  pub within : place < n
+  pub refused : check place ≡ no r
+  pub earlier : (j : Placeℕ) → j < place → (a : A) × (check j ≡ ok a)
+
+-- ---- the checks
+
+-- "1 and 2 line by line": line i, the characters of the lines before it counted
+abbrev pub lineIn : List Line → (i : Placeℕ) → Line
+lineIn ls i = getD ls i (record { chars = []; ended = false })
+
+abbrev pub charactersIn : List Line → ℕ
+charactersIn ls = total (λ l. length (l .chars)) ls
+
+abbrev pub lineAt : List Line → (i : Placeℕ) → Judged Stmt
+lineAt ls i =
+    require (withinLimits i (charactersIn (take i ls)) (lineIn ls i .chars)) (Limit (atPlace i))
+    (require (wellFormed (lineIn ls i)) (Broken (atPlace i)) (readFrame i (unhex (lineIn ls i .chars))))
+
+-- "then 3": the name that statement i defines is none of those defined above it
+unfoldable pub keysOf : (seen : List Key) → List Placed → List Key
+keysOf seen [] = seen
+keysOf seen (x ∷ xs) = keysOf (keysIn (x .context) (asName (x .stmt)) ++ seen) xs
+
+abbrev pub nameAt : Program → (i : Placeℕ) → Check
+nameAt p i = require (areNew (keysOf [] (take i (placed p))) (keysIn (contextAt p i) (asName (at p i)))) (Again (atPlace i)) (ok tt)
+
+-- "then 5 and 6": statement i settles at its position
+abbrev pub settleAt : Program → (i : Placeℕ) → Check
+settleAt p i = settles i (position p i) (at p i)
+
+-- "then variables (4, 7)": statement i is defined by the names above it
+abbrev pub defineAt : Program → (i : Placeℕ) → Judged (List Entry)
+defineAt p i = define (orD (defineAll [] (take i (placed p))) []) i (contextAt p i) (position p i) (at p i)
+
+-- "then encoding by statement and argument"
+abbrev pub encodeAt : (names : List Entry) → Program → (i : Placeℕ) → Judged (List ℕ)
+encodeAt names p i = encode names p i (contextAt p i) (position p i) (at p i)
+
+-- ---- the statement at fault, by the check that refuses it; 12 is about no statement
+pub data FirstFault (text : List ℕ) (r : Refusal) : Type 0 where
+  line : FirstRefused (length (linesOf text)) (lineAt (linesOf text)) r → FirstFault text r
+  named : (p : Program) → readListing text ≡ ok p → FirstRefused (length p) (nameAt p) r → FirstFault text r
+  laid : (p : Program) → readListing text ≡ ok p → FirstRefused (length p) (settleAt p) r → FirstFault text r
+  defined : (p : Program) → readListing text ≡ ok p → FirstRefused (length p) (defineAt p) r → FirstFault text r
+  encoded : (p : Program) (names : List Entry) → readListing text ≡ ok p → defineAll [] (placed p) ≡ ok names → FirstRefused (length p) (encodeAt names p) r → FirstFault text r
+  room : (p : Program) → readListing text ≡ ok p → r ≡ Room (length p) → FirstFault text r

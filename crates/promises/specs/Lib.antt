@@ -1,0 +1,6 @@
+-- What is promised, each statement under the customer's own sentence. Definitions only: proofs/ has a file for each promise.
+pub mod Demand1
+pub mod Faults
+pub mod Demand2
+pub mod Demand3
+pub mod Room
