@@ -1,0 +1,42 @@
+// Names by context, positions and variables, as src/env.rs and `compute_names` have them: the maps become tables by place, and each pass over
+// the statements ends at its first refusal.
+mod contexts; // the context of each place
+mod layout; // positions: 5 and 6
+mod names; // the name that each place defines: 3
+mod variables; // what names stand for: 4 and 7
+
+pub use contexts::fill_contexts;
+pub use layout::lay_out;
+pub use names::fill_names;
+pub use names::no_name_twice;
+use rules::Address;
+use rules::Refusal;
+pub use variables::define_all;
+
+// The kinds of statement that are looked into here, by the first byte of their frames.
+const LABEL: u8 = 2;
+
+const VARIABLE: u8 = 3;
+
+const ORG: u8 = 5;
+
+// Names from here on are local.
+const LOCAL: u16 = 0x8000;
+
+// What a pass over the statements comes to.
+pub enum Checked {
+    Passes,
+    Refused(Refusal),
+}
+
+// The position after a statement.
+enum Moved {
+    To(Address),
+    Refused(Refusal),
+}
+
+// What a name stands for.
+enum Valued {
+    Is(i32),
+    Refused(Refusal),
+}
