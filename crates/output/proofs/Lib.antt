@@ -1,0 +1,6 @@
+pub mod Rooms
+pub mod Frames
+pub mod Targets
+pub mod Slots
+pub mod Listings
+pub mod Sizes

@@ -1,0 +1,141 @@
+-- The text of a program is one line a slot, and nothing for one that is gone; so are the places that statements stem from. Assumes nothing.
+use mathlib.Core.Path.{_≡_, refl, sym, ap, _∙_}
+use mathlib.Core.List.{List, [], _∷_, _++_, append-nil, map}
+use mathlib.Core.Logic.{⊎-elim}
+use mathlib.Core.Bool.{Bool, true, false, cond}
+use Prim.Native.Nat.{ℕ, zero, suc, _+_, _-_, _≤_, _<_}
+use native.Mathlib.Numerals.{add-one}
+use native.Mathlib.Omega.{arith}
+use lib.Dec.{eqb}
+use lib.ListN.{length, getD, length-append}
+use borrow.Author.Tests.{eq-eqb, ne-eqb}
+use Rattle.laws.specs.Counts.{tab}
+use Rattle.laws.specs.Lists.{each}
+use Rattle.laws.proofs.Tests.{eq-or-not}
+use Rattle.laws.proofs.Counts.{rises, length-tab, tab-suc, each-tab}
+use Rattle.rules.specs.Programs.{Operand, Stmt, gone, instr, label, variable, comment, org, bytes, words, Program, retarget}
+use Rattle.rules.specs.Output.{plainTarget, writeBack, isGone, compact, stemsFrom, stems, frameOf, lineOf, textOf}
+use Rattle.listing.specs.Tables.{Held}
+use Rattle.slots.specs.Slots.{Slots, goneForm, written, slotAt, programOf, kindOf}
+use Rattle.slots.proofs.Frames.{Frame, ofInstr, ofLabel, ofVariable, ofComment, ofOrg, ofBytes, ofWords}
+use Rattle.slots.proofs.Slots.{slot-gone, kind-kept}
+use Rattle.slots.proofs.Tables.{frame-is}
+use Rattle.output.specs.Lines.{lineIn, listingOf, linesTo}
+use Rattle.output.specs.Stems.{keptTo}
+use Rattle.output.proofs.Slots.{kept-kind}
+
+-- ---- text
+
+gone-same : (f : Operand → Operand) (s : Stmt) → isGone (retarget f s) ≡ isGone s
+gone-same f gone = refl
+gone-same f (instr g xs c) = refl
+gone-same f (label m) = refl
+gone-same f (variable m d) = refl
+gone-same f (comment x) = refl
+gone-same f (org l) = refl
+gone-same f (bytes es) = refl
+gone-same f (words es) = refl
+
+text-lines : (p q : Program) → textOf (compact (map (λ s. retarget (plainTarget p) s) q)) ≡ each (lineIn p) q
+unfolding textOf compact each lineIn
+text-lines p [] = refl
+text-lines p (s ∷ q) = rw (gone-same (plainTarget p) s) (on (isGone s) (text-lines p q))
+  where
+    on : (b : Bool) → textOf (compact (map (λ z. retarget (plainTarget p) z) q)) ≡ each (lineIn p) q
+        → textOf (cond b (compact (map (λ z. retarget (plainTarget p) z) q)) (retarget (plainTarget p) s ∷ compact (map (λ z. retarget (plainTarget p) z) q)))
+        ≡ cond b [] (lineOf (frameOf (retarget (plainTarget p) s))) ++ each (lineIn p) q
+    on true e = e
+    on false e = ap (λ z. lineOf (frameOf (retarget (plainTarget p) s)) ++ z) e
+
+-- a statement that was read is not gone
+kind-least : (i : ℕ) (s : List ℕ) (x : Stmt) → Frame i s x → 1 ≤ kindOf x
+kind-least i s x (ofInstr f) = rw (f .is) (omega arith)
+kind-least i s x (ofLabel f) = rw (f .is) (omega arith)
+kind-least i s x (ofVariable f) = rw (f .is) (omega arith)
+kind-least i s x (ofComment f) = rw (f .is) (omega arith)
+kind-least i s x (ofOrg f) = rw (f .is) (omega arith)
+kind-least i s x (ofBytes f) = rw (f .is) (omega arith)
+kind-least i s x (ofWords f) = rw (f .is) (omega arith)
+
+-- ---- places, of two programs one behind the other
+
+stems-append : (i : ℕ) (p q : Program) → stemsFrom i (p ++ q) ≡ stemsFrom i p ++ stemsFrom (i + length p) q
+unfolding stemsFrom
+stems-append i [] q = let z : i + 0 ≡ i = omega arith in rw z
+stems-append i (s ∷ p) q = let z : suc i + length p ≡ i + suc (length p) = omega arith in rw (stems-append (suc i) p q, z) (on (isGone s))
+  where
+    on : (b : Bool) → cond b (stemsFrom (suc i) p ++ stemsFrom (i + suc (length p)) q) (i ∷ (stemsFrom (suc i) p ++ stemsFrom (i + suc (length p)) q))
+        ≡ cond b (stemsFrom (suc i) p) (i ∷ stemsFrom (suc i) p) ++ stemsFrom (i + suc (length p)) q
+    on true = refl
+    on false = refl
+
+pub kept-more : (forms : List ℕ) (n : ℕ) → keptTo forms (n + 1) ≡ keptTo forms n ++ cond (eqb (getD forms n 0) goneForm) [] (n ∷ [])
+unfolding keptTo
+kept-more forms n = each-tab (λ i. cond (eqb (getD forms i 0) goneForm) [] (i ∷ [])) (λ i. i) n
+
+pub kept-few : (forms : List ℕ) (n : ℕ) → length (keptTo forms n) ≤ n
+unfolding keptTo each tab
+kept-few forms zero = omega arith
+kept-few forms (suc n) =
+    let e = ap length (ap (keptTo forms) (sym (add-one n)) ∙ kept-more forms n) ∙ length-append (keptTo forms n) (cond (eqb (getD forms n 0) goneForm) [] (n ∷ [])) in
+    omega (arith, e, kept-few forms n, one (eqb (getD forms n 0) goneForm))
+  where
+    one : (b : Bool) → length (cond b [] (n ∷ [])) ≤ 1
+    one true = omega arith
+    one false = omega arith
+
+-- ---- the program that the tables hold
+
+module _ (t : Slots) where
+  program-is : programOf t ≡ tab (slotAt t) (t .count)
+  unfolding programOf
+  program-is = refl
+
+  pub lines-all : linesTo t (t .count) ≡ listingOf t
+  unfolding linesTo listingOf writeBack
+  lines-all = ap (each (lineIn (programOf t))) (sym program-is) ∙ sym (text-lines (programOf t) (programOf t))
+
+  pub lines-none : linesTo t 0 ≡ []
+  unfolding linesTo each tab
+  lines-none = refl
+
+  pub lines-more : (n : ℕ) → linesTo t (n + 1) ≡ linesTo t n ++ lineIn (programOf t) (slotAt t n)
+  unfolding linesTo
+  lines-more n = each-tab (lineIn (programOf t)) (slotAt t) n
+
+  pub length-more : (n : ℕ) → length (linesTo t (n + 1)) ≡ length (linesTo t n) + length (lineIn (programOf t) (slotAt t n))
+  length-more n = ap length (lines-more n) ∙ length-append (linesTo t n) (lineIn (programOf t) (slotAt t n))
+
+  pub lines-within : (i : ℕ) → i ≤ t .count → length (linesTo t i) ≤ length (listingOf t)
+  lines-within i l =
+      rw (← lines-all)
+      (rises (λ n. length (linesTo t n)) (λ n. let e : length (linesTo t (suc n)) ≡ length (linesTo t (n + 1)) = ap (λ m. length (linesTo t m)) (sym (add-one n)) in omega (arith, length-more n)) i (t .count) l)
+
+  -- ---- and its places
+
+  stems-more : (n : ℕ) → stems (tab (slotAt t) (n + 1)) ≡ stems (tab (slotAt t) n) ++ cond (isGone (slotAt t n)) [] (n ∷ [])
+  unfolding stems stemsFrom
+  stems-more n =
+      let z : 0 + length (tab (slotAt t) n) ≡ n = omega (arith, length-tab (slotAt t) n) in
+      ap (stemsFrom 0) (tab-suc (slotAt t) n) ∙ stems-append 0 (tab (slotAt t) n) (slotAt t n ∷ []) ∙ rw z
+
+  -- a slot is gone by its form alone
+  gone-form : Held (t .frames) (t .starts) (t .count) → (i : ℕ) → i < t .count → isGone (slotAt t i) ≡ eqb (getD (t .forms) i 0) goneForm
+  gone-form h i l = ⊎-elim is-gone is-kept (eq-or-not (getD (t .forms) i 0) goneForm)
+    where
+      is-gone : getD (t .forms) i 0 ≡ goneForm → isGone (slotAt t i) ≡ eqb (getD (t .forms) i 0) goneForm
+      is-gone e = ap isGone (slot-gone t i e) ∙ sym (eq-eqb (getD (t .forms) i 0) goneForm e)
+
+      is-kept : (getD (t .forms) i 0 ≡ goneForm → ⊥) → isGone (slotAt t i) ≡ eqb (getD (t .forms) i 0) goneForm
+      is-kept n =
+          let k : 1 ≤ kindOf (slotAt t i) = rw (kind-kept t i n) (kind-least i _ (written t i) (frame-is (t .frames) (t .starts) (t .count) h i l)) in
+          kept-kind (slotAt t i) (kindOf (slotAt t i) - 1) (omega arith) ∙ sym (ne-eqb (getD (t .forms) i 0) goneForm n)
+
+  stems-to : Held (t .frames) (t .starts) (t .count) → (n : ℕ) → n ≤ t .count → stems (tab (slotAt t) n) ≡ keptTo (t .forms) n
+  unfolding stems stemsFrom keptTo each tab
+  stems-to h zero l = refl
+  stems-to h (suc n) l =
+      ap (λ m. stems (tab (slotAt t) m)) (sym (add-one n)) ∙ stems-more n ∙ rw (stems-to h n (omega arith), gone-form h n (omega arith)) (sym (kept-more (t .forms) n)) ∙ ap (keptTo (t .forms)) (add-one n)
+
+  pub stems-kept : Held (t .frames) (t .starts) (t .count) → stems (programOf t) ≡ keptTo (t .forms) (t .count)
+  stems-kept h = ap stems program-is ∙ stems-to h (t .count) (omega arith)

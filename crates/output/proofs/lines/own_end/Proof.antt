@@ -1,0 +1,54 @@
+-- `output::lines::own_end` meets its contract: a transfer's target is its last argument.
+use mathlib.Core.Path.{_≡_, refl, sym, ap, _∙_}
+use Prim.Native.Nat.{_-_, _≤_, _<_}
+use native.Mathlib.Omega.{arith}
+use lib.ListN.{length, getD}
+use borrow.Author.Needs.{needs}
+use Rattle.rules.specs.Forms.{operandsAt}
+use Rattle.rules.specs.Statements.{argumentAt}
+use Rattle.slots.proofs.Operands.{instr-in}
+use Rattle.output.proofs.Targets.{transfer-some, own-transfer, own-other}
+use Rattle.output.proofs.lines.own_end.Statement.{statement}
+use Rattle.output.proofs.lines.own_end.Tie as tie
+
+shared-slice-read-form : tie.Need-shared-slice-read-form
+shared-slice-read-form c = let s = c .before .before in omega (arith, instr-in (s .args .at .0) (s .args .frame .now) (s .pre) .long)
+
+is-transfer-requires : tie.Need-is-transfer-requires
+is-transfer-requires c κs = search needs
+
+operand-count-requires : tie.Need-operand-count-requires
+operand-count-requires c κs = search needs
+
+-- a transfer has an operand at least
+some : (c : tie.After-operand-count) → 1 ≤ c .operand-count .result
+some c = rw (c .operand-count .ensures) (transfer-some _ (sym (c .before .before .is-transfer .ensures) ∙ c .before .if1 .taken))
+
+sub-argument-in : tie.Need-sub-argument-in
+sub-argument-in c = some c
+
+argument-in-requires : tie.Need-argument-in-requires
+argument-in-requires c κs = (c .before .before .before .before .before .pre, omega (arith, some c, c .operand-count .ensures))
+
+returns : tie.Need-returns
+returns c =
+    let s = c .before .before .before .before .before .before in
+    let t = sym (c .before .before .before .is-transfer .ensures) ∙ c .before .before .if1 .taken in
+    c .argument-in .ensures ∙ ap (λ n. argumentAt (s .args .frame .now) (operandsAt (getD (s .args .frame .now) 1 0)) 2 (n - 1)) (c .before .operand-count .ensures) ∙ sym (own-transfer (s .args .frame .now) t)
+
+returns-2 : tie.Need-returns-2
+returns-2 c =
+    let s = c .before .before .before .before in
+    sym (own-other (s .args .frame .now) (sym (c .before .is-transfer .ensures) ∙ c .if1 .left))
+
+pub own-end-spec : {M : Type 1} → statement M
+own-end-spec =
+    tie.close
+    (tie.spec
+    shared-slice-read-form
+    is-transfer-requires
+    operand-count-requires
+    sub-argument-in
+    argument-in-requires
+    returns
+    returns-2)

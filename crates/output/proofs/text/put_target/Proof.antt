@@ -1,0 +1,192 @@
+-- `output::text::put_target` meets its contract: the number of an inner label, or the rest of the frame that wrote the target.
+use mathlib.Core.Path.{_≡_, refl, sym, ap, _∙_}
+use mathlib.Core.List.{List, [], _∷_}
+use Prim.Native.Nat.{ℕ, _+_, _-_, _*_, _≤_, _<_}
+use native.Mathlib.Omega.{arith}
+use lib.ListN.{length, getD, take, drop, length-drop}
+use borrow.Author.Needs.{needs}
+use Rattle.laws.proofs.Stores.{rest-is}
+use Rattle.rules.specs.Expressions.{four}
+use Rattle.listing.specs.Tables.{frameAt}
+use Rattle.slots.specs.Slots.{noOwner}
+use Rattle.output.specs.Digits.{hexOf, laid}
+use Rattle.output.specs.Lines.{ownEnd, targetBytes}
+use Rattle.output.proofs.Sizes.{target-inner, target-own}
+use Rattle.output.proofs.Targets.{end-within}
+use Rattle.output.proofs.text.put_target.Statement.{statement}
+use Rattle.output.proofs.text.put_target.Tie as tie
+
+-- the target's bytes, and the frame of its place
+module _ (s : tie.Start) where
+  abbrev place : ℕ
+  place = s .args .from .0
+
+  abbrev target : List ℕ
+  target = targetBytes (s .args .frames .now) (s .args .starts .now) (s .args .owners .now) (s .args .offsets .now) (s .args .positions .now) place
+
+  abbrev frame : List ℕ
+  frame = frameAt (s .args .frames .now) (s .args .starts .now) place
+
+  abbrev number : ℕ
+  number = getD (s .args .positions .now) (getD (s .args .owners .now) place 0) 0 + getD (s .args .offsets .now) place 0
+
+  as-number : getD (s .args .owners .now) place 0 < noOwner → target ≡ 0 ∷ four number
+  as-number h = target-inner (s .args .frames .now) (s .args .starts .now) (s .args .owners .now) (s .args .offsets .now) (s .args .positions .now) place h
+
+  as-written : noOwner ≤ getD (s .args .owners .now) place 0 → target ≡ drop (ownEnd frame) frame
+  as-written h = target-own (s .args .frames .now) (s .args .starts .now) (s .args .owners .now) (s .args .offsets .now) (s .args .positions .now) place h
+
+  within : ownEnd frame ≤ length frame
+  within = end-within place frame (s .pre .1 .reads) .1
+
+  inside : place < 1024
+  inside = omega (arith, s .pre .1 .inside, s .pre .0 .few)
+
+mul-owner : tie.Need-mul-owner
+mul-owner c = search needs
+
+element-copy-out-owner : tie.Need-element-copy-out-owner
+element-copy-out-owner c = inside (c .before .before)
+
+wide-requires : tie.Need-wide-requires
+wide-requires c κs = search needs
+
+mul-put-number : tie.Need-mul-put-number
+mul-put-number c = search needs
+
+element-copy-out-put-number : tie.Need-element-copy-out-put-number
+element-copy-out-put-number c = omega (arith, c .before .wide .ensures, c .before .before .if1 .taken)
+
+mul-widen : tie.Need-mul-widen
+mul-widen c = search needs
+
+element-copy-out-widen : tie.Need-element-copy-out-widen
+element-copy-out-widen c = inside (c .before .before .before .before .before .before .before)
+
+widen-requires : tie.Need-widen-requires
+widen-requires c κs = search needs
+
+low : (c : tie.After-widen) → getD (c .before .before .before .before .before .before .before .before .before .args .positions .now) (c .before .before .before .before .wide .result) 0 ≤ 65536
+low c = rw (c .before .before .before .before .wide .ensures) (c .before .before .before .before .before .before .before .before .before .pre .2 (c .before .before .before .before .before .if1 .taken))
+
+add-put-number : tie.Need-add-put-number
+add-put-number c =
+    let s = c .before .before .before .before .before .before .before .before .before in
+    record { fits = omega (arith, low c, c .widen .ensures .1) }
+
+put-number-requires : tie.Need-put-number-requires
+put-number-requires c κs =
+    let s = c .before .before .before .before .before .before .before .before .before in
+    omega (arith, s .pre .3, ap length (as-number s (c .before .before .before .before .before .if1 .taken)))
+
+add-result : tie.Need-add-result
+add-result c = search needs
+
+same-length : tie.Need-same-length
+same-length c = search needs
+
+returns : tie.Need-returns
+returns c =
+    let s = c .before .before .before .before .before .before .before .before .before .before .before .before in
+    let a = s .args in
+    let w = c .before .before .before .before .before .before .before in
+    let inner = as-number s (c .before .before .before .before .before .before .before .before .if1 .taken) in
+    let sum =
+    ap (λ k. getD (a .positions .now) k 0 + c .before .before .before .widen .result) (w .wide .ensures)
+    ∙ ap (λ n. getD (a .positions .now) (getD (a .owners .now) (place s) 0) 0 + n) (c .before .before .before .widen .ensures .0) in
+    record {
+      is = c .before .before .put-number .ensures ∙ ap (λ n. laid (a .out .now) (a .at) (hexOf (0 ∷ four n))) sum ∙ ap (λ l. laid (a .out .now) (a .at) (hexOf l)) (sym inner);
+      ends = omega (arith, ap length inner);
+    }
+
+frame-at-requires : tie.Need-frame-at-requires
+frame-at-requires c κs = let s = c .before .before .before .before in (s .pre .0, s .pre .1 .inside)
+
+size : (c : tie.After-frame-at) → length (c .frame-at .result .now) ≡ length (frame (c .before .before .before .before .before))
+size c = ap length (c .frame-at .ensures)
+
+own-end-requires : tie.Need-own-end-requires
+own-end-requires c κs = rw (c .frame-at .ensures) (c .before .before .before .before .before .pre .1 .reads)
+
+ends-at : (c : tie.After-own-end) → c .own-end .result ≡ ownEnd (frame (c .before .before .before .before .before .before))
+ends-at c = c .own-end .ensures ∙ ap ownEnd (c .before .frame-at .ensures)
+
+-- what is left of the frame is the target
+part-is : (c : tie.After-own-end) → let r = c .before .frame-at .result .now in take (length r - c .own-end .result) (drop (c .own-end .result) r) ≡ target (c .before .before .before .before .before .before)
+part-is c =
+    let s = c .before .before .before .before .before .before in
+    rest-is (c .own-end .result) (c .before .frame-at .result .now) ∙ ap (λ k. drop k (c .before .frame-at .result .now)) (ends-at c) ∙ ap (drop (ownEnd (frame s))) (c .before .frame-at .ensures)
+    ∙ sym (as-written s (c .before .before .if1 .left))
+
+rest-length : (c : tie.After-own-end) → length (c .before .frame-at .result .now) - c .own-end .result ≡ length (target (c .before .before .before .before .before .before))
+rest-length c =
+    let s = c .before .before .before .before .before .before in
+    omega (arith, ends-at c, size (c .before), ap length (as-written s (c .before .before .if1 .left)), length-drop (ownEnd (frame s)) (frame s))
+
+sub-put-bytes : tie.Need-sub-put-bytes
+sub-put-bytes c = let o = c .before in omega (arith, ends-at o, size (o .before), within (o .before .before .before .before .before .before))
+
+part-put-bytes-start : tie.Need-part-put-bytes-start
+part-put-bytes-start c = let o = c .before in omega (arith, ends-at o, size (o .before), within (o .before .before .before .before .before .before))
+
+part-put-bytes-end : tie.Need-part-put-bytes-end
+part-put-bytes-end c = search needs
+
+put-bytes-requires : tie.Need-put-bytes-requires
+put-bytes-requires c κs =
+    let o = c .before .before in
+    let s = o .before .before .before .before .before .before in
+    omega (arith, s .pre .3, ap length (part-is o))
+
+sub-result : tie.Need-sub-result
+sub-result c = let o = c .before .before .before .before .before in omega (arith, ends-at o, size (o .before), within (o .before .before .before .before .before .before))
+
+mul-result : tie.Need-mul-result
+mul-result c = search needs
+
+add-result-2 : tie.Need-add-result-2
+add-result-2 c =
+    let o = c .before .before .before .before .before in
+    let s = o .before .before .before .before .before .before in
+    record { fits = omega (arith, s .pre .3, rest-length o, s .good) }
+
+same-length-2 : tie.Need-same-length-2
+same-length-2 c = search needs
+
+returns-2 : tie.Need-returns-2
+returns-2 c =
+    let o = c .before .before .before .before .before in
+    let s = o .before .before .before .before .before .before in
+    record {
+      is = c .before .before .put-bytes .ensures ∙ ap (λ l. laid (s .args .out .now) (s .args .at) (hexOf l)) (part-is o);
+      ends = omega (arith, rest-length o);
+    }
+
+pub put-target-spec : {M : Type 1} → statement M
+put-target-spec =
+    tie.close
+    (tie.spec
+    mul-owner
+    element-copy-out-owner
+    wide-requires
+    mul-put-number
+    element-copy-out-put-number
+    mul-widen
+    element-copy-out-widen
+    widen-requires
+    add-put-number
+    put-number-requires
+    add-result
+    same-length
+    returns
+    frame-at-requires
+    own-end-requires
+    sub-put-bytes
+    part-put-bytes-start
+    part-put-bytes-end
+    put-bytes-requires
+    sub-result
+    mul-result
+    add-result-2
+    same-length-2
+    returns-2)

@@ -1,0 +1,13 @@
+// Slots to text: each statement that is left as a line of upper-case digit pairs, and the last line.
+mod digits; // bytes to digit pairs
+mod last; // the last line
+mod lines; // how long each slot's line is, and the text
+mod stems; // which slots the lines stem from
+mod text; // the lines themselves
+
+pub use last::done_line;
+pub use last::refused_line;
+pub use lines::line_length_at;
+pub use lines::text_length;
+pub use stems::write_stems;
+pub use text::write_text;

@@ -1,0 +1,213 @@
+// The lines of the slots, one behind the other: each piece is stored where the one before ended, and its function returns where it ends.
+use crate::digits::low_byte;
+use crate::digits::put_byte;
+use crate::digits::put_bytes;
+use crate::lines::NO_OWNER;
+use crate::lines::own_end;
+use crate::lines::wide;
+use instruction::tables::is_transfer;
+use rules::Place;
+use slots::frame_at;
+use slots::kind_at;
+ghost use mathlib.Core.Path.{_≡_};
+ghost use mathlib.Core.Bool.{true};
+ghost use mathlib.Core.List.{_∷_, []};
+ghost use Prim.Native.Nat.{ℕ, _+_, _*_, _<_, _≤_};
+ghost use lib.ListN.{length, getD};
+ghost use Rattle.rules.specs.Expressions.{four};
+ghost use Rattle.rules.specs.Forms.{isTransfer};
+ghost use Rattle.rules.specs.Run.{front};
+ghost use Rattle.listing.specs.Tables.{Held};
+ghost use Rattle.slots.specs.Slots.{slots, InstrIn, Sound};
+ghost use Rattle.output.specs.Digits.{hexOf, laid, Put};
+ghost use Rattle.output.specs.Lines.{lineAt, listingOf, ownEnd, ownBytes, targetBytes, instrBytes, InstrAt, Drawn, NumberLow, Positioned};
+
+// A plain number: 00 and its four bytes, high byte first.
+fn put_number(out: &mut [u8], at: usize, n: u32)
+    requires { ⌜ at + 10 ≤ length (now out) ⌝ }
+    ensures { λ _. ⌜ now (out .exit) ≡ laid (now (out .entry)) at (hexOf (0 ∷ four n)) ⌝ }
+{
+    let bytes = [
+        0,
+        low_byte(n / 16777216),
+        low_byte(n / 65536),
+        low_byte(n / 256),
+        low_byte(n),
+    ];
+    put_bytes(out, at, &bytes);
+}
+
+fn widen(x: u16) -> u32
+    ensures { λ r. ⌜ (r ≡ x) × (r < 65536) ⌝ }
+{
+    x as u32
+}
+
+// The target that a place wrote: the number that its inner label stands for, or as it stands there.
+fn put_target(
+    frames: &[u8],
+    starts: &[u16; 1025],
+    count: usize,
+    owners: &[u16; 1024],
+    offsets: &[u16; 1024],
+    positions: &[u32; 1025],
+    from: Place,
+    out: &mut [u8],
+    at: usize,
+) -> usize
+    requires { ⌜ Held (now frames) (now starts) count × InstrAt (now frames) (now starts) count (from .0) × NumberLow (now owners) (now positions) (from .0)
+        × (at + 2 * length (targetBytes (now frames) (now starts) (now owners) (now offsets) (now positions) (from .0)) ≤ length (now out)) ⌝ }
+    ensures { λ r. ⌜ Put (now (out .entry)) at (targetBytes (now (frames .entry)) (now (starts .entry)) (now (owners .entry)) (now (offsets .entry)) (now (positions .entry)) (from .0)) (now (out .exit)) r ⌝ }
+{
+    let c = from.0;
+    let owner = owners[c];
+    if owner < NO_OWNER {
+        let w = wide(owner);
+        put_number(out, at, positions[w] + widen(offsets[c]));
+        return at + 10;
+    }
+    let frame = frame_at(frames, starts, count, from);
+    let e = own_end(frame, from);
+    put_bytes(out, at, &frame[e..]);
+    at + 2 * (frame.len() - e)
+}
+
+// What is an instruction's own: the kind, its form, and the operands before the target. `place` is the frame's place.
+fn put_own(frame: &[u8], place: Place, form: u8, out: &mut [u8], at: usize) -> usize
+    requires { ⌜ InstrIn (place .0) (now frame) × (at + 2 * ownEnd (now frame) ≤ length (now out)) ⌝ }
+    ensures { λ r. ⌜ Put (now (out .entry)) at (ownBytes form (now (frame .entry))) (now (out .exit)) r ⌝ }
+{
+    let e = own_end(frame, place);
+    put_byte(out, at, 1);
+    put_byte(out, at + 2, form);
+    put_bytes(out, at + 4, &frame[2..e]);
+    at + 2 * e
+}
+
+// An instruction: its own bytes, and a transfer's target.
+fn put_instruction(
+    frames: &[u8],
+    starts: &[u16; 1025],
+    count: usize,
+    forms: &[u8; 1024],
+    carry: &[u16; 1024],
+    owners: &[u16; 1024],
+    offsets: &[u16; 1024],
+    positions: &[u32; 1025],
+    place: Place,
+    out: &mut [u8],
+    at: usize,
+) -> usize
+    requires { ⌜ Drawn (now frames) (now starts) count (now forms) (now carry) (place .0) × (isTransfer (getD (now forms) (place .0) 0) ≡ true → NumberLow (now owners) (now positions) (getD (now carry) (place .0) 0))
+        × (at + 2 * length (instrBytes (slots (now frames) (now starts) count (now forms) (now carry) (now owners) (now offsets)) (now positions) (place .0)) ≤ length (now out)) ⌝ }
+    ensures { λ r. ⌜ Put (now (out .entry)) at (instrBytes (slots (now (frames .entry)) (now (starts .entry)) count (now (forms .entry)) (now (carry .entry)) (now (owners .entry)) (now (offsets .entry))) (now (positions .entry)) (place .0)) (now (out .exit)) r ⌝ }
+{
+    let i = place.0;
+    let form = forms[i];
+    let frame = frame_at(frames, starts, count, place);
+    let end = put_own(frame, place, form, out, at);
+    if is_transfer(form) {
+        let c = wide(carry[i]);
+        return put_target(
+            frames,
+            starts,
+            count,
+            owners,
+            offsets,
+            positions,
+            Place(c),
+            out,
+            end,
+        );
+    }
+    end
+}
+
+fn end_line(out: &mut [u8], at: usize) -> usize
+    requires { ⌜ at < length (now out) ⌝ }
+    ensures { λ r. ⌜ (now (out .exit) ≡ laid (now (out .entry)) at (10 ∷ [])) × (r ≡ at + 1) ⌝ }
+{
+    out[at] = 10;
+    at + 1
+}
+
+// The line of a slot; nothing where it is gone.
+fn put_line(
+    frames: &[u8],
+    starts: &[u16; 1025],
+    count: usize,
+    forms: &[u8; 1024],
+    carry: &[u16; 1024],
+    owners: &[u16; 1024],
+    offsets: &[u16; 1024],
+    positions: &[u32; 1025],
+    place: Place,
+    out: &mut [u8],
+    at: usize,
+) -> usize
+    requires { ⌜ Sound (slots (now frames) (now starts) count (now forms) (now carry) (now owners) (now offsets)) × Positioned (slots (now frames) (now starts) count (now forms) (now carry) (now owners) (now offsets)) (now positions) × (place .0 < count)
+        × (at + length (lineAt (slots (now frames) (now starts) count (now forms) (now carry) (now owners) (now offsets)) (place .0)) ≤ length (now out)) ⌝ }
+    ensures { λ r. ⌜ (now (out .exit) ≡ laid (now (out .entry)) at (lineAt (slots (now (frames .entry)) (now (starts .entry)) count (now (forms .entry)) (now (carry .entry)) (now (owners .entry)) (now (offsets .entry))) (place .0)))
+        × (r ≡ at + length (lineAt (slots (now (frames .entry)) (now (starts .entry)) count (now (forms .entry)) (now (carry .entry)) (now (owners .entry)) (now (offsets .entry))) (place .0))) ⌝ }
+{
+    let kind = kind_at(frames, starts, count, forms, place);
+    if kind == 0 {
+        return at;
+    }
+    if kind == 1 {
+        let end = put_instruction(
+            frames,
+            starts,
+            count,
+            forms,
+            carry,
+            owners,
+            offsets,
+            positions,
+            place,
+            out,
+            at,
+        );
+        return end_line(out, end);
+    }
+    let frame = frame_at(frames, starts, count, place);
+    put_bytes(out, at, frame);
+    end_line(out, at + 2 * frame.len())
+}
+
+// The text of the program that the tables hold, at the front of the room.
+pub fn write_text(
+    frames: &[u8],
+    starts: &[u16; 1025],
+    count: usize,
+    forms: &[u8; 1024],
+    carry: &[u16; 1024],
+    owners: &[u16; 1024],
+    offsets: &[u16; 1024],
+    positions: &[u32; 1025],
+    out: &mut [u8],
+)
+    requires { ⌜ Sound (slots (now frames) (now starts) count (now forms) (now carry) (now owners) (now offsets)) × Positioned (slots (now frames) (now starts) count (now forms) (now carry) (now owners) (now offsets)) (now positions)
+        × (length (listingOf (slots (now frames) (now starts) count (now forms) (now carry) (now owners) (now offsets))) ≤ length (now out)) ⌝ }
+    ensures { λ _. ⌜ now (out .exit) ≡ front (listingOf (slots (now (frames .entry)) (now (starts .entry)) count (now (forms .entry)) (now (carry .entry)) (now (owners .entry)) (now (offsets .entry)))) (now (out .entry)) ⌝ }
+{
+    let mut at = 0;
+    let mut i = 0;
+    while i < count {
+        let end = put_line(
+            frames,
+            starts,
+            count,
+            forms,
+            carry,
+            owners,
+            offsets,
+            positions,
+            Place(i),
+            out,
+            at,
+        );
+        at = end;
+        i += 1;
+    }
+}
