@@ -21,7 +21,7 @@ unfolding rowsOf
 no-rows f a b c l = rw (no-form f l)
 
 -- a pattern has as many bytes as its form's size, whatever the arguments
-length-rows : (f a b c : ℕ) → length (rowsOf f a b c) ≡ sizeAt f
+pub length-rows : (f a b c : ℕ) → length (rowsOf f a b c) ≡ sizeAt f
 unfolding allTo rowsOf formAt
 length-rows f a b c =
     ⊎-elim (λ l. agree-at (λ k. length (rowsOf k a b c)) sizeAt 70 tt f l)

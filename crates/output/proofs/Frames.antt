@@ -1,7 +1,6 @@
 -- A frame that was read is what is written for its statement: `frame-back`. Assumes nothing.
 use mathlib.Core.Path.{_≡_, refl, sym, ap, _∙_}
 use mathlib.Core.List.{List, [], _∷_, _++_, append-assoc, append-nil}
-use mathlib.Core.Bool.{Bool, true, false, cond}
 use mathlib.Core.Logic.{⊎-elim}
 use Prim.Native.Nat.{ℕ, zero, suc, _+_, _*_, _/_, _%_, _≤_, _<_}
 use native.Mathlib.Omega.{arith}
@@ -14,16 +13,16 @@ use Rattle.laws.proofs.Tests.{lt-or-le}
 use Rattle.rules.specs.declared.Kind.{Kind}
 use Rattle.rules.specs.declared.Kind.the-variants.{Reg, I8, D9, Bit, Rel8, A12, A16, Rel16}
 use Rattle.rules.specs.declared.Refusal.the-variants.{Broken}
-use Rattle.rules.specs.Answers.{atPlace, Judged, ok, no, _>>=_, require}
+use Rattle.rules.specs.Answers.{atPlace, ok, _>>=_, require}
 use Rattle.rules.specs.Expressions.{Expr, bytesOf, pair}
 use Rattle.rules.specs.Forms.{operandsAt}
 use Rattle.rules.specs.Listing.{Taken, taken, takeByte, takePair, takeExpr, takeRegister, takeValue, takeOperand, takeOperands, takeExprs, alone, readLabel, readVariable, readOrg, readFrame}
 use Rattle.rules.specs.Output.{operandBytes, frameOf}
-use Rattle.rules.specs.Programs.{Operand, register, value, Stmt, gone, instr, label, variable, comment, org, bytes, words}
+use Rattle.rules.specs.Programs.{Operand, register, value, Stmt, label, variable, org, bytes, words}
 use Rattle.rules.proofs.Laws.{no-ok, then-ok, require-ok}
 use Rattle.expression.specs.Sound.{AreBytes}
 use Rattle.expression.proofs.RoundTrip.{bytes-drop, written-expr}
-use Rattle.slots.proofs.Frames.{Left, Reads, expr-taken, Frame, ofInstr, ofLabel, ofVariable, ofComment, ofOrg, ofBytes, ofWords, InstrFrame, DataFrame, frame-read}
+use Rattle.slots.proofs.Frames.{Left, expr-taken, Frame, ofInstr, ofLabel, ofVariable, ofComment, ofOrg, ofBytes, ofWords, InstrFrame, DataFrame, frame-read}
 use Rattle.slots.proofs.Items.{items-read}
 
 -- ---- lists of bytes

@@ -4,3 +4,7 @@ pub mod Targets
 pub mod Slots
 pub mod Listings
 pub mod Sizes
+pub mod Hexes
+pub mod Readers
+pub mod Fits
+pub mod ReadsBack

@@ -1,9 +1,9 @@
 -- The text of a program is one line a slot, and nothing for one that is gone; so are the places that statements stem from. Assumes nothing.
 use mathlib.Core.Path.{_≡_, refl, sym, ap, _∙_}
-use mathlib.Core.List.{List, [], _∷_, _++_, append-nil, map}
+use mathlib.Core.List.{List, [], _∷_, _++_, map}
 use mathlib.Core.Logic.{⊎-elim}
 use mathlib.Core.Bool.{Bool, true, false, cond}
-use Prim.Native.Nat.{ℕ, zero, suc, _+_, _-_, _≤_, _<_}
+use Prim.Native.Nat.{ℕ, zero, suc, _+_, _≤_, _<_}
 use native.Mathlib.Numerals.{add-one}
 use native.Mathlib.Omega.{arith}
 use lib.Dec.{eqb}
@@ -16,13 +16,11 @@ use Rattle.laws.proofs.Counts.{rises, length-tab, tab-suc, each-tab}
 use Rattle.rules.specs.Programs.{Operand, Stmt, gone, instr, label, variable, comment, org, bytes, words, Program, retarget}
 use Rattle.rules.specs.Output.{plainTarget, writeBack, isGone, compact, stemsFrom, stems, frameOf, lineOf, textOf}
 use Rattle.listing.specs.Tables.{Held}
-use Rattle.slots.specs.Slots.{Slots, goneForm, written, slotAt, programOf, kindOf}
-use Rattle.slots.proofs.Frames.{Frame, ofInstr, ofLabel, ofVariable, ofComment, ofOrg, ofBytes, ofWords}
-use Rattle.slots.proofs.Slots.{slot-gone, kind-kept}
-use Rattle.slots.proofs.Tables.{frame-is}
+use Rattle.slots.specs.Slots.{Slots, goneForm, slotAt, programOf}
+use Rattle.slots.proofs.Slots.{slot-gone}
 use Rattle.output.specs.Lines.{lineIn, listingOf, linesTo}
 use Rattle.output.specs.Stems.{keptTo}
-use Rattle.output.proofs.Slots.{kept-kind}
+use Rattle.output.proofs.Slots.{kept-kind, kept-form}
 
 -- ---- text
 
@@ -46,16 +44,6 @@ text-lines p (s ∷ q) = rw (gone-same (plainTarget p) s) (on (isGone s) (text-l
         ≡ cond b [] (lineOf (frameOf (retarget (plainTarget p) s))) ++ each (lineIn p) q
     on true e = e
     on false e = ap (λ z. lineOf (frameOf (retarget (plainTarget p) s)) ++ z) e
-
--- a statement that was read is not gone
-kind-least : (i : ℕ) (s : List ℕ) (x : Stmt) → Frame i s x → 1 ≤ kindOf x
-kind-least i s x (ofInstr f) = rw (f .is) (omega arith)
-kind-least i s x (ofLabel f) = rw (f .is) (omega arith)
-kind-least i s x (ofVariable f) = rw (f .is) (omega arith)
-kind-least i s x (ofComment f) = rw (f .is) (omega arith)
-kind-least i s x (ofOrg f) = rw (f .is) (omega arith)
-kind-least i s x (ofBytes f) = rw (f .is) (omega arith)
-kind-least i s x (ofWords f) = rw (f .is) (omega arith)
 
 -- ---- places, of two programs one behind the other
 
@@ -127,9 +115,7 @@ module _ (t : Slots) where
       is-gone e = ap isGone (slot-gone t i e) ∙ sym (eq-eqb (getD (t .forms) i 0) goneForm e)
 
       is-kept : (getD (t .forms) i 0 ≡ goneForm → ⊥) → isGone (slotAt t i) ≡ eqb (getD (t .forms) i 0) goneForm
-      is-kept n =
-          let k : 1 ≤ kindOf (slotAt t i) = rw (kind-kept t i n) (kind-least i _ (written t i) (frame-is (t .frames) (t .starts) (t .count) h i l)) in
-          kept-kind (slotAt t i) (kindOf (slotAt t i) - 1) (omega arith) ∙ sym (ne-eqb (getD (t .forms) i 0) goneForm n)
+      is-kept n = kept-kind (slotAt t i) (kept-form t h i l n) ∙ sym (ne-eqb (getD (t .forms) i 0) goneForm n)
 
   stems-to : Held (t .frames) (t .starts) (t .count) → (n : ℕ) → n ≤ t .count → stems (tab (slotAt t) n) ≡ keptTo (t .forms) n
   unfolding stems stemsFrom keptTo each tab

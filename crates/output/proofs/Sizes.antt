@@ -1,10 +1,10 @@
 -- How many bytes the parts of a slot have, and that those of an instruction stand in frames of instructions: `drawn`. Assumes nothing.
-use mathlib.Core.Path.{_≡_, refl, sym, ap, _∙_}
-use mathlib.Core.List.{List, [], _∷_, _++_}
+use mathlib.Core.Path.{_≡_, sym, ap, _∙_}
+use mathlib.Core.List.{List, [], _∷_}
 use mathlib.Core.Bool.{true, false}
-use Prim.Native.Nat.{ℕ, zero, suc, _+_, _-_, _*_, _≤_, _<_}
+use Prim.Native.Nat.{ℕ, _+_, _-_, _*_, _≤_, _<_}
 use native.Mathlib.Omega.{arith}
-use lib.ListN.{length, getD, drop, length-append, length-drop}
+use lib.ListN.{length, getD, drop, length-drop}
 use lib.Seq.{length-take-le}
 use borrow.Author.Tests.{lt-ltb, le-ltb}
 use Rattle.laws.specs.Counts.{tab}
@@ -58,11 +58,11 @@ pub frame-most : (frames starts : List ℕ) (n : ℕ) (h : Held frames starts n)
 frame-most frames starts n h i l = omega (arith, length-frame frames starts n h i l, bounds frames starts n h i l .within)
 
 -- a line by its bytes, at any table that holds the positions
-pub line-size : (t : Slots) → Sound t → AreBytes (t .frames) → (i : ℕ) → i < t .count → (k : ℕ) → kindOf (slotAt t i) ≡ suc k
+pub line-size : (t : Slots) → Sound t → AreBytes (t .frames) → (i : ℕ) → i < t .count → 1 ≤ kindOf (slotAt t i)
     → length (lineIn (programOf t) (slotAt t i)) ≡ 2 * length (bytesAt t (tab (position (programOf t)) (t .count)) i) + 1
-line-size t h v i l k e =
+line-size t h v i l e =
     let positions = tab (position (programOf t)) (t .count) in
-    ap length (line-kept t h v positions (λ w m. getD-tab (position (programOf t)) (t .count) w 0 m) i l k e) ∙ length-line (bytesAt t positions i)
+    ap length (line-kept t h v positions (λ w m. getD-tab (position (programOf t)) (t .count) w 0 m) i l e) ∙ length-line (bytesAt t positions i)
 
 -- ---- where an instruction's bytes stand
 

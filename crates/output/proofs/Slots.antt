@@ -2,33 +2,32 @@
 -- Assumes nothing.
 use mathlib.Core.Path.{_≡_, refl, sym, ap, _∙_}
 use mathlib.Core.List.{List, [], _∷_, _++_, append-nil}
+use mathlib.Core.Logic.{⊎-elim}
 use mathlib.Core.Bool.{Bool, true, false, cond}
-use Prim.Native.Nat.{ℕ, zero, suc, _+_, _-_, _≤_, _<_}
+use Prim.Native.Nat.{ℕ, suc, _-_, _≤_, _<_}
 use native.Mathlib.Omega.{arith}
-use lib.Dec.{ltb}
-use lib.ListN.{length, getD, take, drop, length-drop}
+use lib.Dec.{ltb, eqb}
+use lib.ListN.{getD, take, drop, length-drop}
 use lib.Seq.{take-all}
 use borrow.Author.Tests.{eq-eqb, ne-eqb, ltb-true}
 use Rattle.laws.specs.Lists.{each}
-use Rattle.laws.proofs.Tests.{false-true}
-use Rattle.rules.specs.Answers.{isOk}
+use Rattle.laws.proofs.Tests.{eq-or-not}
 use Rattle.rules.specs.Expressions.{bytesOf}
 use Rattle.rules.specs.Forms.{isTransfer, operandsAt}
 use Rattle.rules.specs.Layout.{position}
-use Rattle.rules.specs.Listing.{readFrame}
 use Rattle.rules.specs.Programs.{Operand, Stmt, gone, instr, label, variable, comment, org, bytes, words, Program, argsOf, lastOf, onLast, retarget}
 use Rattle.rules.specs.Output.{plainTarget, operandBytes, frameOf, lineOf, isGone}
 use Rattle.expression.specs.Sound.{AreBytes}
 use Rattle.expression.proofs.RoundTrip.{bytes-drop}
-use Rattle.listing.specs.Tables.{frameAt}
-use Rattle.slots.specs.Slots.{Slots, Sound, WroteTarget, goneForm, noOwner, written, targetOf, aimedAt, slotAt, programOf, kindOf, InstrIn}
-use Rattle.slots.proofs.Frames.{Left, InstrFrame, frame-of}
+use Rattle.listing.specs.Tables.{frameAt, Held}
+use Rattle.slots.specs.Slots.{Slots, Sound, WroteTarget, goneForm, noOwner, written, targetOf, aimedAt, slotAt, programOf, kindOf}
+use Rattle.slots.proofs.Frames.{Left, InstrFrame, Frame, ofInstr, ofLabel, ofVariable, ofComment, ofOrg, ofBytes, ofWords, frame-of}
 use Rattle.slots.proofs.Operands.{operands-read}
-use Rattle.slots.proofs.Slots.{slot-instr, slot-data, not-gone, kind-read, written-frame}
-use Rattle.slots.proofs.Tables.{reads-as, frame-is, length-frame, bounds}
-use Rattle.output.specs.Lines.{lineIn, ownEnd, targetBytes, carriedBytes, ownBytes, bytesAt, InstrAt}
+use Rattle.slots.proofs.Slots.{slot-instr, slot-data, not-gone, kind-read, kind-kept, written-frame}
+use Rattle.slots.proofs.Tables.{reads-as, frame-is}
+use Rattle.output.specs.Lines.{lineIn, ownEnd, targetBytes, carriedBytes, ownBytes, bytesAt}
 use Rattle.output.proofs.Frames.{bytes-take, operands-end, frame-back}
-use Rattle.output.proofs.Targets.{last-same, last-twice, plain-last, own-other, TargetIn, target-in}
+use Rattle.output.proofs.Targets.{last-same, last-twice, plain-last, own-other, target-in}
 
 -- ---- statements that are no instruction stay as they are
 
@@ -42,29 +41,35 @@ other-same f (org l) n = refl
 other-same f (bytes es) n = refl
 other-same f (words es) n = refl
 
-gone-kind : (s : Stmt) → kindOf s ≡ 0 → isGone s ≡ true
-gone-kind gone e = refl
-gone-kind (instr g xs c) e = absurd (omega arith)
-gone-kind (label m) e = absurd (omega arith)
-gone-kind (variable m d) e = absurd (omega arith)
-gone-kind (comment x) e = absurd (omega arith)
-gone-kind (org l) e = absurd (omega arith)
-gone-kind (bytes es) e = absurd (omega arith)
-gone-kind (words es) e = absurd (omega arith)
+gone-kind : (s : Stmt) → isGone s ≡ eqb (kindOf s) 0
+gone-kind gone = refl
+gone-kind (instr g xs c) = refl
+gone-kind (label m) = refl
+gone-kind (variable m d) = refl
+gone-kind (comment x) = refl
+gone-kind (org l) = refl
+gone-kind (bytes es) = refl
+gone-kind (words es) = refl
 
-pub kept-kind : (s : Stmt) (k : ℕ) → kindOf s ≡ suc k → isGone s ≡ false
-kept-kind gone k e = absurd (omega arith)
-kept-kind (instr g xs c) k e = refl
-kept-kind (label m) k e = refl
-kept-kind (variable m d) k e = refl
-kept-kind (comment x) k e = refl
-kept-kind (org l) k e = refl
-kept-kind (bytes es) k e = refl
-kept-kind (words es) k e = refl
+pub kept-kind : (s : Stmt) → 1 ≤ kindOf s → isGone s ≡ false
+kept-kind s h = gone-kind s ∙ ne-eqb (kindOf s) 0 (λ e. omega arith)
 
 pub line-gone : (p : Program) (s : Stmt) → kindOf s ≡ 0 → lineIn p s ≡ []
 unfolding lineIn
-line-gone p s e = rw (gone-kind s e)
+line-gone p s e = rw (gone-kind s, eq-eqb (kindOf s) 0 e)
+
+-- a slot whose form is not that of one that is gone is not gone
+kind-least : (i : ℕ) (s : List ℕ) (x : Stmt) → Frame i s x → 1 ≤ kindOf x
+kind-least i s x (ofInstr f) = rw (f .is) (omega arith)
+kind-least i s x (ofLabel f) = rw (f .is) (omega arith)
+kind-least i s x (ofVariable f) = rw (f .is) (omega arith)
+kind-least i s x (ofComment f) = rw (f .is) (omega arith)
+kind-least i s x (ofOrg f) = rw (f .is) (omega arith)
+kind-least i s x (ofBytes f) = rw (f .is) (omega arith)
+kind-least i s x (ofWords f) = rw (f .is) (omega arith)
+
+pub kept-form : (t : Slots) → Held (t .frames) (t .starts) (t .count) → (i : ℕ) → i < t .count → (getD (t .forms) i 0 ≡ goneForm → ⊥) → 1 ≤ kindOf (slotAt t i)
+kept-form t h i l n = rw (kind-kept t i n) (kind-least i (frameAt (t .frames) (t .starts) i) (written t i) (frame-is (t .frames) (t .starts) (t .count) h i l))
 
 -- ---- the bytes by kind
 
@@ -154,7 +159,9 @@ module _ (t : Slots) (h : Sound t) (v : AreBytes (t .frames)) where
           ap frameOf (other-same (plainTarget p) (slotAt t i) no ∙ slot-data t i k e)
           ∙ frame-back i (frame i) (written t i) (reads-as (t .frames) (t .starts) (t .count) (h .held) i l) (frame-bytes i) ∙ sym (bytes-other t positions i no)
 
-      pub line-kept : (k : ℕ) → kindOf (slotAt t i) ≡ suc k → lineIn p (slotAt t i) ≡ lineOf (bytesAt t positions i)
+      pub frame-kept : 1 ≤ kindOf (slotAt t i) → frameOf (retarget (plainTarget p) (slotAt t i)) ≡ bytesAt t positions i
+      frame-kept h = ⊎-elim instr-bytes (λ n. other-bytes (kindOf (slotAt t i) - 2) (omega arith)) (eq-or-not (kindOf (slotAt t i)) 1)
+
+      pub line-kept : 1 ≤ kindOf (slotAt t i) → lineIn p (slotAt t i) ≡ lineOf (bytesAt t positions i)
       unfolding lineIn
-      line-kept zero e = rw (kept-kind (slotAt t i) 0 e) (ap lineOf (instr-bytes e))
-      line-kept (suc k) e = rw (kept-kind (slotAt t i) (suc k) e) (ap lineOf (other-bytes k e))
+      line-kept h = rw (kept-kind (slotAt t i) h) (ap lineOf (frame-kept h))

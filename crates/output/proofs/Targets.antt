@@ -11,10 +11,10 @@ use Rattle.laws.specs.Lists.{each}
 use Rattle.laws.proofs.Tests.{false-true}
 use Rattle.rules.specs.declared.Kind.{Kind}
 use Rattle.rules.specs.declared.Kind.the-variants.{Reg, I8, D9, Bit, Rel8, A12, A16, Rel16}
-use Rattle.rules.specs.Expressions.{readExpr, bytesOf}
+use Rattle.rules.specs.Expressions.{readExpr}
 use Rattle.rules.specs.Forms.{isTransfer, endsInAddress, operandsAt}
 use Rattle.rules.specs.Output.{operandBytes, plainTarget}
-use Rattle.rules.specs.Programs.{Operand, register, value, Stmt, Program, lastOf, onLast}
+use Rattle.rules.specs.Programs.{Operand, value, Stmt, Program, lastOf, onLast}
 use Rattle.rules.specs.Statements.{tookOf, argAt, widthAt, argumentAt, exprAt, operandAt}
 use Rattle.expression.specs.Sound.{AreBytes}
 use Rattle.expression.proofs.RoundTrip.{bytes-drop, written-expr}

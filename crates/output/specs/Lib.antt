@@ -2,3 +2,4 @@
 pub mod Digits
 pub mod Lines
 pub mod Stems
+pub mod Writable

@@ -1,6 +1,6 @@
 // Bytes to upper-case digit pairs, stored in a lent room.
 ghost use mathlib.Core.Path.{_≡_};
-ghost use Prim.Native.Nat.{ℕ, _+_, _*_, _<_, _≤_, _/_, _%_};
+ghost use Prim.Native.Nat.{_+_, _*_, _<_, _≤_, _/_, _%_};
 ghost use lib.ListN.{length};
 ghost use Rattle.rules.specs.Output.{hexDigit, hexByte};
 ghost use Rattle.output.specs.Digits.{hexOf, laid};

@@ -7,12 +7,13 @@ use crate::lines::own_end;
 use crate::lines::wide;
 use instruction::tables::is_transfer;
 use rules::Place;
+use slots::GONE;
 use slots::frame_at;
 use slots::kind_at;
 ghost use mathlib.Core.Path.{_≡_};
 ghost use mathlib.Core.Bool.{true};
 ghost use mathlib.Core.List.{_∷_, []};
-ghost use Prim.Native.Nat.{ℕ, _+_, _*_, _<_, _≤_};
+ghost use Prim.Native.Nat.{_+_, _*_, _<_, _≤_};
 ghost use lib.ListN.{length, getD};
 ghost use Rattle.rules.specs.Expressions.{four};
 ghost use Rattle.rules.specs.Forms.{isTransfer};
@@ -20,7 +21,7 @@ ghost use Rattle.rules.specs.Run.{front};
 ghost use Rattle.listing.specs.Tables.{Held};
 ghost use Rattle.slots.specs.Slots.{slots, InstrIn, Sound};
 ghost use Rattle.output.specs.Digits.{hexOf, laid, Put};
-ghost use Rattle.output.specs.Lines.{lineAt, listingOf, ownEnd, ownBytes, targetBytes, instrBytes, InstrAt, Drawn, NumberLow, Positioned};
+ghost use Rattle.output.specs.Lines.{lineAt, listingOf, ownEnd, ownBytes, targetBytes, instrBytes, bytesAt, InstrAt, Drawn, NumberLow, Positioned};
 
 // A plain number: 00 and its four bytes, high byte first.
 fn put_number(out: &mut [u8], at: usize, n: u32)
@@ -123,6 +124,45 @@ fn put_instruction(
     end
 }
 
+// A statement that is not gone: an instruction, or the frame as it stands.
+fn put_statement(
+    frames: &[u8],
+    starts: &[u16; 1025],
+    count: usize,
+    forms: &[u8; 1024],
+    carry: &[u16; 1024],
+    owners: &[u16; 1024],
+    offsets: &[u16; 1024],
+    positions: &[u32; 1025],
+    place: Place,
+    out: &mut [u8],
+    at: usize,
+) -> usize
+    requires { ⌜ Sound (slots (now frames) (now starts) count (now forms) (now carry) (now owners) (now offsets)) × Positioned (slots (now frames) (now starts) count (now forms) (now carry) (now owners) (now offsets)) (now positions) × (place .0 < count)
+        × (at + 2 * length (bytesAt (slots (now frames) (now starts) count (now forms) (now carry) (now owners) (now offsets)) (now positions) (place .0)) ≤ length (now out)) ⌝ }
+    ensures { λ r. ⌜ Put (now (out .entry)) at (bytesAt (slots (now (frames .entry)) (now (starts .entry)) count (now (forms .entry)) (now (carry .entry)) (now (owners .entry)) (now (offsets .entry))) (now (positions .entry)) (place .0)) (now (out .exit)) r ⌝ }
+{
+    let kind = kind_at(frames, starts, count, forms, place);
+    if kind == 1 {
+        return put_instruction(
+            frames,
+            starts,
+            count,
+            forms,
+            carry,
+            owners,
+            offsets,
+            positions,
+            place,
+            out,
+            at,
+        );
+    }
+    let frame = frame_at(frames, starts, count, place);
+    put_bytes(out, at, frame);
+    at + 2 * frame.len()
+}
+
 fn end_line(out: &mut [u8], at: usize) -> usize
     requires { ⌜ at < length (now out) ⌝ }
     ensures { λ r. ⌜ (now (out .exit) ≡ laid (now (out .entry)) at (10 ∷ [])) × (r ≡ at + 1) ⌝ }
@@ -150,29 +190,24 @@ fn put_line(
     ensures { λ r. ⌜ (now (out .exit) ≡ laid (now (out .entry)) at (lineAt (slots (now (frames .entry)) (now (starts .entry)) count (now (forms .entry)) (now (carry .entry)) (now (owners .entry)) (now (offsets .entry))) (place .0)))
         × (r ≡ at + length (lineAt (slots (now (frames .entry)) (now (starts .entry)) count (now (forms .entry)) (now (carry .entry)) (now (owners .entry)) (now (offsets .entry))) (place .0))) ⌝ }
 {
-    let kind = kind_at(frames, starts, count, forms, place);
-    if kind == 0 {
+    let i = place.0;
+    if forms[i] == GONE {
         return at;
     }
-    if kind == 1 {
-        let end = put_instruction(
-            frames,
-            starts,
-            count,
-            forms,
-            carry,
-            owners,
-            offsets,
-            positions,
-            place,
-            out,
-            at,
-        );
-        return end_line(out, end);
-    }
-    let frame = frame_at(frames, starts, count, place);
-    put_bytes(out, at, frame);
-    end_line(out, at + 2 * frame.len())
+    let end = put_statement(
+        frames,
+        starts,
+        count,
+        forms,
+        carry,
+        owners,
+        offsets,
+        positions,
+        place,
+        out,
+        at,
+    );
+    end_line(out, end)
 }
 
 // The text of the program that the tables hold, at the front of the room.

@@ -1,5 +1,4 @@
 -- `output::digits::put_byte` meets its contract: two stores in a row.
-use mathlib.Core.Path.{_≡_}
 use native.Mathlib.Omega.{arith}
 use lib.ListN.{length-set}
 use borrow.Author.Needs.{needs}

@@ -1,8 +1,8 @@
 -- `output::digits::put_bytes` meets its contract: after k turns the digits of the first k bytes stand there.
 use mathlib.Core.Path.{_≡_, refl, sym, ap, _∙_}
-use Prim.Native.Nat.{ℕ, _+_, _-_, _*_, _≤_, _<_}
+use Prim.Native.Nat.{_+_, _-_, _*_, _≤_}
 use native.Mathlib.Omega.{arith}
-use lib.ListN.{length, getD, take}
+use lib.ListN.{length, take}
 use lib.Seq.{take-length, length-take-le}
 use borrow.Author.Needs.{needs}
 use Rattle.laws.specs.Lists.{each}

@@ -1,12 +1,10 @@
 -- `output::lines::instruction_length` meets its contract: its own bytes, and a transfer's target.
-use mathlib.Core.Path.{_≡_, refl, sym, ap, _∙_}
-use mathlib.Core.Bool.{true, false}
+use mathlib.Core.Path.{_≡_, sym, ap, _∙_}
 use mathlib.Core.List.{List, _++_}
-use Prim.Native.Nat.{ℕ, _+_, _-_, _≤_, _<_}
+use Prim.Native.Nat.{ℕ, _+_, _≤_}
 use native.Mathlib.Omega.{arith}
 use lib.ListN.{length, getD, length-append}
 use borrow.Author.Needs.{needs}
-use Rattle.rules.specs.Forms.{isTransfer}
 use Rattle.listing.specs.Tables.{frameAt}
 use Rattle.slots.specs.Slots.{Slots, slots}
 use Rattle.output.specs.Lines.{ownEnd, ownBytes, targetBytes, carriedBytes}

@@ -1,16 +1,14 @@
 -- `output::lines::line_length_at` meets its contract, kind by kind.
-use mathlib.Core.Path.{_≡_, refl, sym, ap, _∙_}
+use mathlib.Core.Path.{_≡_, sym, ap, _∙_}
 use mathlib.Core.List.{List}
-use Prim.Native.Nat.{ℕ, zero, suc, _+_, _-_, _*_, _≤_, _<_}
+use Prim.Native.Nat.{ℕ, _≤_}
 use native.Mathlib.Omega.{arith}
-use lib.ListN.{length, getD}
-use borrow.Author.Needs.{needs}
+use lib.ListN.{length}
 use Rattle.laws.specs.Counts.{tab}
 use Rattle.rules.specs.Layout.{position}
 use Rattle.expression.specs.Sound.{AreBytes}
 use Rattle.listing.specs.Tables.{frameAt}
 use Rattle.slots.specs.Slots.{Slots, slots, slotAt, programOf, kindOf}
-use Rattle.output.specs.Lines.{lineIn}
 use Rattle.output.proofs.Slots.{line-gone, bytes-instr, bytes-other}
 use Rattle.output.proofs.Sizes.{frame-most, line-size, drawn}
 use Rattle.output.proofs.lines.line_length_at.Statement.{statement}
@@ -58,7 +56,7 @@ returns-2 c = (
       let t = over k offsets in
       let positions = tab (position (programOf t)) (t .count) in
       let one = sym (kind-is k offsets) ∙ c .before .if2 .taken in
-      let n = line-size t sound (all-bytes (k .before)) (s .args .at .0) (s .pre .1) 0 one in
+      let n = line-size t sound (all-bytes (k .before)) (s .args .at .0) (s .pre .1) (omega arith) in
       let m = ap length (bytes-instr t positions (s .args .at .0) one) in
       omega (arith, n, m, c .instruction-length .ensures .1 offsets positions),
 )
@@ -68,9 +66,6 @@ frame-at-requires c κs = let s = c .before .before .before .before in (s .pre .
 
 most : (c : tie.After-frame-at) → let s = c .before .before .before .before .before in length (frameAt (s .args .frames .now) (s .args .starts .now) (s .args .at .0)) ≤ 24576
 most c = let s = c .before .before .before .before .before in frame-most (s .args .frames .now) (s .args .starts .now) (s .args .count) (s .pre .0 .1 .held) (s .args .at .0) (s .pre .1)
-
-more-than-one : (k : ℕ) → (k ≡ 0 → ⊥) → (k ≡ 1 → ⊥) → (n : ℕ) × (k ≡ suc (suc n))
-more-than-one k z o = (k - 2, omega arith)
 
 mul-result-2 : tie.Need-mul-result-2
 mul-result-2 c = omega (arith, most c, ap length (c .frame-at .ensures))
@@ -87,8 +82,7 @@ returns-3 c = (
       let t = over k offsets in
       let positions = tab (position (programOf t)) (t .count) in
       let kind = kind-is k offsets in
-      let more = more-than-one (kindOf (slotAt t (s .args .at .0))) (λ e. c .before .before .if1 .left (kind ∙ e)) (λ e. c .before .if2 .left (kind ∙ e)) in
-      let n = line-size t sound (all-bytes (k .before)) (s .args .at .0) (s .pre .1) (suc (more .0)) (more .1) in
+      let n = line-size t sound (all-bytes (k .before)) (s .args .at .0) (s .pre .1) (omega (arith, kind, c .before .before .if1 .left)) in
       let m = ap length (bytes-other t positions (s .args .at .0) (λ e. c .before .if2 .left (kind ∙ e))) in
       omega (arith, n, m, ap length (c .frame-at .ensures)),
 )

@@ -1,10 +1,9 @@
 -- `output::lines::text_length` meets its contract: after i turns n is the length of the first i lines.
-use mathlib.Core.Path.{_≡_, refl, sym, ap, _∙_}
+use mathlib.Core.Path.{_≡_, sym, ap, _∙_}
 use mathlib.Core.List.{List}
-use Prim.Native.Nat.{ℕ, _+_, _-_, _*_, _≤_, _<_}
+use Prim.Native.Nat.{ℕ, _-_, _*_, _≤_}
 use native.Mathlib.Omega.{arith}
 use lib.ListN.{length}
-use borrow.Author.Needs.{needs}
 use Rattle.slots.specs.Slots.{Slots, slots, Sound}
 use Rattle.output.specs.Lines.{linesTo}
 use Rattle.output.proofs.Listings.{lines-none, lines-all, length-more}

@@ -1,8 +1,8 @@
 -- `output::text::put_instruction` meets its contract: its own bytes, and a transfer's target behind them.
-use mathlib.Core.Path.{_≡_, refl, sym, ap, _∙_, subst}
-use mathlib.Core.Bool.{true, false}
-use mathlib.Core.List.{List, [], _∷_, _++_, append-nil}
-use Prim.Native.Nat.{ℕ, _+_, _-_, _*_, _≤_, _<_}
+use mathlib.Core.Path.{_≡_, sym, ap, _∙_, subst}
+use mathlib.Core.Bool.{true}
+use mathlib.Core.List.{List, [], append-nil}
+use Prim.Native.Nat.{ℕ, _+_, _*_, _≤_, _<_}
 use native.Mathlib.Omega.{arith}
 use lib.ListN.{length, getD, length-append}
 use borrow.Author.Needs.{needs}
@@ -10,7 +10,7 @@ use Rattle.rules.specs.Forms.{isTransfer}
 use Rattle.listing.specs.Tables.{frameAt}
 use Rattle.slots.specs.Slots.{Slots, slots}
 use Rattle.output.specs.Digits.{Put}
-use Rattle.output.specs.Lines.{ownEnd, ownBytes, targetBytes, carriedBytes, InstrAt, NumberLow}
+use Rattle.output.specs.Lines.{ownEnd, ownBytes, targetBytes, carriedBytes, NumberLow}
 use Rattle.output.proofs.Rooms.{put-more}
 use Rattle.output.proofs.Sizes.{length-own, carried-transfer, carried-other}
 use Rattle.output.proofs.text.put_instruction.Statement.{statement}

@@ -1,0 +1,94 @@
+-- The verdict: the names' refusal, or the encoding's where the names stand, and what the tables then hold.
+use mathlib.Core.Path.{_≡_, refl, sym, ap, _∙_}
+use mathlib.Core.List.{List, []}
+use Prim.Native.Nat.{ℕ, suc, _≤_, _<_}
+use native.Mathlib.Omega.{arith}
+use lib.ListN.{getD}
+use lib.IntN.{ℤ}
+use Rattle.rules.specs.declared.Refusal.{Refusal}
+use Rattle.rules.specs.Answers.{Judged, ok, no, Check, _>>=_, _>>_}
+use Rattle.rules.specs.Programs.{Program}
+use Rattle.rules.specs.Layout.{position}
+use Rattle.rules.specs.Names.{Entry, placed}
+use Rattle.rules.specs.Judging.{noNameTwice, positionsFit, defineAll, encodeAll, judge}
+use Rattle.expression.specs.Environment.{entriesOf}
+use Rattle.slots.specs.Slots.{Slots, programOf, Sound}
+use Rattle.env.specs.declared.Checked.{Checked}
+use Rattle.env.specs.declared.Checked.the-variants.{Passes, Refused}
+use Rattle.image.specs.declared.Checked.{Checked as Encoded}
+use Rattle.image.specs.declared.Checked.the-variants.{Passes as Encodes, Refused as Encoded·Refused}
+use Rattle.image.specs.Tables.{Tables, program, Ready}
+use Rattle.image.specs.Encoding.{checkedAs, encodeSlots}
+use Rattle.asm.specs.declared.Verdict.{Verdict}
+use Rattle.asm.specs.declared.Verdict.the-variants.{Good, Refused as Bad}
+use Rattle.asm.specs.Assembling.{namesJudged, Placed, Filled, Prepared}
+use Rattle.asm.specs.Verdicts.{verdictAs, JudgedAs}
+use Rattle.asm.proofs.Passing.{refused-is}
+
+-- an answer of the encoding pass, as a verdict
+verdictOf : Encoded → Verdict
+verdictOf Encodes = Good
+verdictOf (Encoded·Refused r) = Bad r
+
+same-verdict : {A : Type 0} (x : Judged A) → verdictOf (checkedAs x) ≡ verdictAs x
+unfolding verdictOf
+same-verdict (ok a) = refl
+same-verdict (no r) = refl
+
+pub passes-verdict : {A : Type 0} (x : Judged A) {r : Encoded} → r ≡ checkedAs x → r ≡ Encodes → Good ≡ verdictAs x
+unfolding verdictOf
+passes-verdict x e f = ap verdictOf (sym f ∙ e) ∙ same-verdict x
+
+pub refused-verdict : {A : Type 0} (x : Judged A) {r : Encoded} {q : Refusal} → r ≡ checkedAs x → r ≡ Encoded·Refused q → Bad q ≡ verdictAs x
+unfolding verdictOf
+refused-verdict x e f = ap verdictOf (sym f ∙ e) ∙ same-verdict x
+
+-- ---- judging is naming, then encoding
+
+judge-names : (p : Program) → judge p ≡ namesJudged p >>= (λ names. encodeAll names p (placed p))
+unfolding judge namesJudged _>>=_ _>>_
+judge-names p = on (noNameTwice [] (placed p)) (positionsFit (placed p)) refl refl
+  where
+    on : (a b : Check) → noNameTwice [] (placed p) ≡ a → positionsFit (placed p) ≡ b → judge p ≡ namesJudged p >>= (λ names. encodeAll names p (placed p))
+    on (ok u) (ok v) e f = rw (e, f)
+    on (ok u) (no r) e f = rw (e, f)
+    on (no q) b e f = rw e
+
+judge-refused : (p : Program) (q : Refusal) → namesJudged p ≡ no q → judge p ≡ no q
+unfolding _>>=_
+judge-refused p q e = judge-names p ∙ rw e
+
+judge-encodes : (p : Program) (names : List Entry) → namesJudged p ≡ ok names → judge p ≡ encodeAll names p (placed p)
+unfolding _>>=_
+judge-encodes p names e = judge-names p ∙ rw e
+
+-- ---- the tables
+
+module _ (t : Slots) (contexts names : List ℕ) (values : List ℤ) (positions : List ℕ) where
+  abbrev pub held : Tables
+  held = record { slots = t; entries = entriesOf names contexts values (t .count); contexts = contexts; positions = positions }
+
+  pub ready-of : Sound t → Placed t contexts → Filled t contexts names values positions → Ready held
+  ready-of s c f =
+      record {
+        sound = s;
+        context = c .context;
+        place = f .place;
+        rises = λ i l. rw (f .place i (omega arith), f .place (suc i) l) (f .rises i l);
+        low = λ i l. rw (f .place i l) (f .low i l);
+      }
+
+  pub judged-refused : (r : Checked) (q : Refusal) → Prepared t contexts names values positions r → r ≡ Refused q → JudgedAs held (Bad q)
+  judged-refused r q h e =
+      let n = judge-refused (programOf t) q (refused-is (namesJudged (programOf t)) q (sym e ∙ h .answer)) in
+      record {
+        answer = sym (ap verdictAs n);
+        ready = λ z. absurd (let w : _≡_ {A = ℕ} 0 1 = cc in omega arith);
+        encodes = λ z. absurd (let w : _≡_ {A = ℕ} 0 1 = cc in omega arith);
+      }
+
+  pub judged-last : (v : Verdict) → Sound t → Placed t contexts → Filled t contexts names values positions → v ≡ verdictAs (encodeSlots held) → JudgedAs held v
+  unfolding encodeSlots
+  judged-last v s c f e =
+      let n = judge-encodes (programOf t) (entriesOf names contexts values (t .count)) (f .entries) in
+      record { answer = e ∙ ap verdictAs (sym n); ready = λ z. ready-of s c f; encodes = λ z. n }

@@ -1,0 +1,119 @@
+-- The passes up to the variables, one behind the other: which refusal is given, and what stands where none is.
+use mathlib.Core.Path.{_≡_, refl, sym, ap, _∙_}
+use mathlib.Core.List.{List, [], _∷_, _++_}
+use Prim.Native.Nat.{ℕ, zero, suc, _+_, _*_, _≤_, _<_}
+use native.Mathlib.Omega.{arith}
+use lib.Dec.{leb}
+use lib.ListN.{getD, length, drop}
+use lib.IntN.{ℤ}
+use borrow.Author.Tests.{leb-true}
+use Rattle.rules.specs.declared.Refusal.{Refusal}
+use Rattle.rules.specs.declared.Refusal.the-variants.{Back}
+use Rattle.rules.specs.Answers.{atPlace, Judged, ok, no, Check, _>>_, checkEach, require}
+use Rattle.rules.specs.Programs.{Stmt, gone, instr, label, variable, comment, org, bytes, words, Program, asName}
+use Rattle.rules.specs.Layout.{after, position, positionFrom}
+use Rattle.rules.specs.Names.{Entry, contextAt, placed, placedFrom, enter}
+use Rattle.rules.specs.Judging.{settles, noNameTwice, positionsFit, defineAll}
+use Rattle.rules.proofs.Laws.{no-ok, next-ok, require-ok}
+use Rattle.expression.specs.Environment.{entriesOf}
+use Rattle.slots.specs.Slots.{Slots, programOf, slotAt}
+use Rattle.env.specs.declared.Checked.{Checked}
+use Rattle.env.specs.declared.Checked.the-variants.{Passes, Refused}
+use Rattle.env.specs.Answers.{checkedAs}
+use Rattle.env.specs.Tables.{nameIn, nameSaid, NamesIn, Named, LaidOut, Laid, Defined}
+use Rattle.env.proofs.Programs.{length-program, at-program}
+use Rattle.env.proofs.Filled.{get-filled, filled-laid}
+use Rattle.asm.specs.Assembling.{namesJudged, Placed, Filled, Prepared}
+
+-- ---- what an answer says of its check
+
+pub refused-is : {A : Type 0} (x : Judged A) (q : Refusal) → Refused q ≡ checkedAs x → x ≡ no q
+refused-is (ok a) q e = absurd (let z : _≡_ {A = ℕ} 0 1 = cc in omega arith)
+refused-is (no r) q e = cc
+
+pub passed-is : {A : Type 0} (x : Judged A) → Passes ≡ checkedAs x → (a : A) × (x ≡ ok a)
+passed-is (ok a) e = (a, refl)
+passed-is (no r) e = absurd (let z : _≡_ {A = ℕ} 0 1 = cc in omega arith)
+
+-- ---- positions rise where they fit
+
+position-start : (q : ℕ) (p : Program) → positionFrom q p 0 ≡ q
+unfolding positionFrom
+position-start q [] = refl
+position-start q (s ∷ p) = refl
+
+after-rises : (i q : ℕ) (s : Stmt) (u : Unit {0}) → settles i q s ≡ ok u → q ≤ after q s
+after-rises i q gone u e = omega arith
+after-rises i q (instr f xs c) u e = omega arith
+after-rises i q (label n) u e = omega arith
+after-rises i q (variable n d) u e = omega arith
+after-rises i q (comment x) u e = omega arith
+after-rises i q (org l) u e = leb-true q l (require-ok (leb q l) (Back (atPlace i)) (ok tt) u e .0)
+after-rises i q (bytes es) u e = omega arith
+after-rises i q (words es) u e = omega arith
+
+rises-from : (i k q : ℕ) (p : Program) (u : Unit {0}) → checkEach (λ x. settles (x .place) (x .position) (x .stmt)) (placedFrom i k q p) ≡ ok u
+    → (j : ℕ) → j < length p → positionFrom q p j ≤ positionFrom q p (suc j)
+unfolding checkEach placedFrom positionFrom
+rises-from i k q [] u e j l = absurd (omega arith)
+rises-from i k q (s ∷ p) u e zero l =
+    let h = next-ok (settles i q s) _ u e in
+    rw (position-start (after q s) p) (after-rises i q s (h .0) (h .1))
+rises-from i k q (s ∷ p) u e (suc j) l =
+    let h = next-ok (settles i q s) (checkEach (λ x. settles (x .place) (x .position) (x .stmt)) (placedFrom (suc i) (enter k s) (after q s) p)) u e in
+    rises-from (suc i) (enter k s) (after q s) p u (h .2) j (omega arith)
+
+pub positions-rise : (p : Program) (u : Unit {0}) → positionsFit (placed p) ≡ ok u → (j : ℕ) → j < length p → position p j ≤ position p (suc j)
+unfolding positionsFit placed position
+positions-rise p u e j l = rises-from 0 0 0 p u e j l
+
+-- ---- the passes in their order
+
+module _ (p : Program) where
+  pub twice-refused : (q : Refusal) → Refused q ≡ checkedAs (noNameTwice [] (placed p)) → namesJudged p ≡ no q
+  unfolding namesJudged _>>_
+  twice-refused q e = rw (refused-is (noNameTwice [] (placed p)) q e)
+
+  module _ (once : Passes ≡ checkedAs (noNameTwice [] (placed p))) where
+    pub fit-refused : (q : Refusal) → Refused q ≡ checkedAs (positionsFit (placed p)) → namesJudged p ≡ no q
+    unfolding namesJudged _>>_
+    fit-refused q e = rw (passed-is (noNameTwice [] (placed p)) once .1, refused-is (positionsFit (placed p)) q e)
+
+    pub defined-last : Passes ≡ checkedAs (positionsFit (placed p)) → namesJudged p ≡ defineAll [] (placed p)
+    unfolding namesJudged _>>_
+    defined-last e = rw (passed-is (noNameTwice [] (placed p)) once .1, passed-is (positionsFit (placed p)) e .1)
+
+-- ---- what is left in the tables
+
+module _ (t : Slots) (contexts names : List ℕ) where
+  pub named-of : (old : List ℕ) → NamesIn t old names → Placed t contexts → Named (programOf t) (t .count) names contexts
+  named-of old h c =
+      record {
+        count = length-program t;
+        name = λ i l.
+            ap asName (at-program t i l) ∙ h .two-byte i l
+            ∙ sym (ap nameSaid (get-filled (λ j. nameIn (slotAt t j)) (t .count) names (drop (t .count) old) i 0 (h .names) l));
+        context = c .context;
+      }
+
+  module _ (values : List ℤ) (positions : List ℕ) where
+    pub prepared-refused : (q : Refusal) → namesJudged (programOf t) ≡ no q → Prepared t contexts names values positions (Refused q)
+    prepared-refused q e = record { answer = sym (ap checkedAs e); filled = λ z. absurd (let w : _≡_ {A = ℕ} 0 1 = cc in omega arith) }
+
+    pub prepared-last : (r s : Checked) (old : List ℕ) (before : List ℤ)
+        → Passes ≡ checkedAs (noNameTwice [] (placed (programOf t))) → s ≡ Passes → LaidOut t s old positions
+        → Defined t names contexts r before values → Prepared t contexts names values positions r
+    prepared-last r s old before once fits laid defined =
+        let p = programOf t in
+        let good : LaidOut t Passes old positions = rw fits at laid in
+        let last = defined-last p once (good .answer) in
+        record {
+          answer = defined .answer ∙ ap checkedAs (sym last);
+          filled = λ z.
+              record {
+                entries = last ∙ defined .entries z;
+                place = λ i l. get-filled (position p) (t .count + 1) positions (drop (t .count + 1) old) i 0 (good .positions) (omega arith);
+                low = λ i l. good .small i l;
+                rises = λ i l. positions-rise p (passed-is (positionsFit (placed p)) (good .answer) .0) (passed-is (positionsFit (placed p)) (good .answer) .1) i (rw (length-program t) l);
+              };
+        }

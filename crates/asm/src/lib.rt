@@ -1,0 +1,16 @@
+// What is refused of a program in slots, 3 to 11 in document 01's order, as src/asm.rs has `assemble`.
+mod judging; // the verdict
+mod names; // 3, then 5 and 6, then the variables
+mod start; // the slots of a listing as read
+
+pub use judging::judge;
+pub use names::name_and_lay;
+use rules::Refusal;
+pub use start::start_carry;
+pub use start::start_forms;
+
+// The program assembles, or the first refusal.
+pub enum Verdict {
+    Good,
+    Refused(Refusal),
+}

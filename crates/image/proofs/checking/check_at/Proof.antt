@@ -1,0 +1,111 @@
+-- `checking::check_at` meets its contract, kind by kind.
+use mathlib.Core.Path.{_≡_, refl, sym, ap, _∙_}
+use mathlib.Core.List.{List, []}
+use Prim.Native.Nat.{ℕ, suc, _-_, _<_, _≤_}
+use native.Mathlib.Omega.{arith}
+use lib.ListN.{getD}
+use borrow.Author.Needs.{needs}
+use Rattle.rules.specs.Layout.{position}
+use Rattle.rules.specs.Names.{contextAt}
+use Rattle.rules.specs.Judging.{items}
+use Rattle.listing.specs.Tables.{frameAt}
+use Rattle.slots.specs.Slots.{slotAt, kindOf}
+use Rattle.image.specs.Tables.{Tables, tables, program}
+use Rattle.image.specs.Encoding.{encodeAt, checkedAs, checkOf, itemsIn, boundOf, writeOf}
+use Rattle.image.proofs.Passes.{checked-code, encode-none}
+use Rattle.image.proofs.DataSlots.{DataSlot, data-slot}
+use Rattle.image.proofs.checking.check_at.Statement.{statement}
+use Rattle.image.proofs.checking.check_at.Tie as tie
+
+module _ (s : tie.Start) where
+  abbrev here : Tables
+  here =
+      tables (s .args .frames .now) (s .args .starts .now) (s .args .count) (s .args .forms .now) (s .args .carry .now) (s .args .owners .now) (s .args .offsets .now)
+      (s .args .names .now) (s .args .contexts .now) (s .args .values .now) (s .args .positions .now)
+
+  abbrev place : ℕ
+  place = s .args .at .0
+
+  abbrev frame : List ℕ
+  frame = frameAt (s .args .frames .now) (s .args .starts .now) place
+
+-- the kind that was found
+found : (c : tie.After-kind-at) → let s = c .before .before in c .kind-at .result ≡ kindOf (slotAt (here s .slots) (place s))
+found c = let s = c .before .before in c .kind-at .ensures (s .args .carry .now) (s .args .owners .now) (s .args .offsets .now)
+
+kind-at-requires : tie.Need-kind-at-requires
+kind-at-requires c κs = let s = c .before in (s .pre .0 .sound .held, s .pre .1)
+
+encode-at-requires : tie.Need-encode-at-requires
+encode-at-requires c κs =
+    let k = c .before in
+    let s = k .before .before in
+    (s .pre .0, s .pre .1, sym (found k) ∙ c .if1 .taken)
+
+returns : tie.Need-returns
+returns c =
+    let e = c .before in
+    let s = e .before .before .before .before in
+    c .check-code .ensures ∙ ap checkOf (e .encode-at .ensures) ∙ checked-code (encodeAt (here s) (place s))
+
+returns-2 : tie.Need-returns-2
+unfolding encodeAt
+returns-2 c =
+    let k = c .before .before in
+    let s = k .before .before in
+    let p = program (here s) in
+    sym
+    (ap checkedAs
+    (encode-none (here s .entries) p (place s) (contextAt p (place s)) (position p (place s)) (slotAt (here s .slots) (place s))
+    (λ o. c .before .if1 .left (found k ∙ o)) (omega (arith, found k, c .if2 .taken))))
+
+frame-at-requires : tie.Need-frame-at-requires
+frame-at-requires c κs = let s = c .before .before .before .before in (s .pre .0 .sound .held, s .pre .1)
+
+-- behind the frame there are data
+data-here : (c : tie.After-frame-at) → let s = c .before .before .before .before .before in DataSlot (here s) (place s) (frame s)
+data-here c =
+    let k = c .before .before .before in
+    let s = k .before .before in
+    let n = kindOf (slotAt (here s .slots) (place s)) in
+    let six : 6 ≤ n = omega (arith, found k, c .before .if2 .left) in
+    data-slot (here s) (s .pre .0) (place s) (s .pre .1) (n - 2) (omega arith) (omega arith)
+
+low : (s : tie.Start) → place s < 1024
+low s = omega (arith, s .pre .1, s .pre .0 .sound .held .few)
+
+mul-check-items : tie.Need-mul-check-items
+mul-check-items c = record { fits = omega (arith, low (c .before .before .before .before .before)) }
+
+element-copy-out-check-items : tie.Need-element-copy-out-check-items
+element-copy-out-check-items c = low (c .before .before .before .before .before)
+
+check-items-requires : tie.Need-check-items-requires
+check-items-requires c κs =
+    let f = c .before in
+    let s = f .before .before .before .before .before in
+    rw (f .frame-at .ensures) (data-here f .read, s .pre .0 .sound .held .few)
+
+returns-3 : tie.Need-returns-3
+returns-3 c =
+    let f = c .before .before in
+    let s = f .before .before .before .before .before in
+    let d = here s in
+    c .check-items .ensures (writeOf (getD (frame s) 0 0))
+    ∙ ap (λ l. checkedAs (items (d .entries) (boundOf (getD l 0 0)) (writeOf (getD (frame s) 0 0)) (place s) (getD (d .contexts) (place s) 0) 0 (itemsIn (place s) l))) (f .frame-at .ensures)
+    ∙ sym (ap checkedAs (data-here f .encodes))
+
+pub check-at-spec : {M : Type 1} → statement M
+check-at-spec =
+    tie.close
+    (tie.spec
+    kind-at-requires
+    encode-at-requires
+    (λ c κs. search needs)
+    returns
+    returns-2
+    frame-at-requires
+    mul-check-items
+    element-copy-out-check-items
+    check-items-requires
+    returns-3)

@@ -1,0 +1,109 @@
+-- `data::item_field` meets its contract: the item reads where it begins; its value is judged, then its range.
+use mathlib.Core.Path.{_≡_, sym, ap, _∙_}
+use mathlib.Core.List.{List}
+use Prim.Native.Nat.{ℕ, _<_, _≤_}
+use native.Mathlib.Omega.{arith}
+use lib.IntN.{pos}
+use lib.ListN.{length, getD, drop}
+use borrow.Author.Needs.{needs}
+use Rattle.laws.proofs.Stores.{rest-is}
+use Rattle.rules.specs.declared.Outcome.{Outcome}
+use Rattle.rules.specs.declared.Outcome.the-variants.{Is, Unknown, Nothing}
+use Rattle.rules.specs.Expressions.{Expr, num, got, readExpr}
+use Rattle.rules.specs.Names.{Entry}
+use Rattle.rules.specs.Judging.{worth}
+use Rattle.expression.specs.Environment.{entriesOf}
+use Rattle.expression.proofs.Signed.{at32}
+use Rattle.encoding.specs.Operands.{fieldAs, ranged}
+use Rattle.slots.specs.Slots.{itemAt}
+use Rattle.slots.proofs.Operands.{reads-inside}
+use Rattle.image.specs.Encoding.{itemsIn, boundOf}
+use Rattle.image.proofs.Items.{data-in, item-value, item-unknown, item-nothing}
+use Rattle.image.proofs.data.item_field.Statement.{statement}
+use Rattle.image.proofs.data.item_field.Tie as tie
+
+module _ (s : tie.Start) where
+  abbrev frame : List ℕ
+  frame = s .args .frame .now
+
+  abbrev seen : List Entry
+  seen = entriesOf (s .args .names .now) (s .args .contexts .now) (s .args .values .now) (s .args .count)
+
+  abbrev item : Expr
+  item = getD (itemsIn (s .args .at .0) frame) (s .args .j) (num (pos 0))
+
+  abbrev bound : ℕ
+  bound = boundOf (getD frame 0 0)
+
+-- the item begins within the frame
+inside : (c : tie.After-item-in) → c .item-in .result < length (frame (c .before .before))
+inside c =
+    let s = c .before .before in
+    omega (arith, c .item-in .ensures, reads-inside (frame s) (itemAt (frame s) 2 (s .args .j)) (item s) (data-in (s .args .at .0) (frame s) (s .pre .0) .items .each (s .args .j) (s .pre .1)))
+
+sub-worth-of : tie.Need-sub-worth-of
+sub-worth-of c = omega (arith, inside c)
+
+part-worth-of-start : tie.Need-part-worth-of-start
+part-worth-of-start c = omega (arith, inside c)
+
+shared-slice-read-item-range : tie.Need-shared-slice-read-item-range
+shared-slice-read-item-range c =
+    let s = c .before .before .before .before .before .before .before .before in
+    omega (arith, data-in (s .args .at .0) (frame s) (s .pre .0) .long)
+
+-- the worth that the evaluation gives
+worth-is : (c : tie.After-worth-of) (o : Outcome) → c .worth-of .result ≡ o →
+    let s = c .before .before .before .before in
+    worth (seen s) (s .args .context) (item s) ≡ o
+worth-is c o q =
+    let b = c .before .before in
+    let s = b .before .before in
+    let r = data-in (s .args .at .0) (frame s) (s .pre .0) .items .each (s .args .j) (s .pre .1) in
+    let reads : readExpr _ ≡ got (item s) (r .width) =
+    ap readExpr (rest-is (b .item-in .result) (frame s)) ∙ ap (λ m. readExpr (drop m (frame s))) (b .item-in .ensures) ∙ r .reads in
+    sym (c .worth-of .ensures (item s) (r .width) reads) ∙ q
+
+-- a value that was passed on is read back from its bits
+as-passed : (c : tie.After-known-told) → at32 (c .before .v .given .0 .0) ≡ c .before .v .given .0 .0
+as-passed c = search needs
+
+returns : tie.Need-returns
+returns c =
+    let t = c .before .before in
+    let v = t .before .v .given in
+    let w = t .before .before .before in
+    let s = w .before .before .before .before in
+    c .item-range .ensures
+    ∙ ap (λ z. fieldAs (ranged (s .args .at .0) (s .args .j) (bound s) z)) (as-passed t)
+    ∙ sym (ap fieldAs (item-value (seen s) (bound s) (s .args .at .0) (s .args .context) (s .args .j) (item s) (v .0 .0) (worth-is w (Is (v .0 .0)) (v .1))))
+
+returns-2 : tie.Need-returns-2
+returns-2 c =
+    let w = c .before .before in
+    let s = w .before .before .before .before in
+    sym (ap fieldAs (item-unknown (seen s) (bound s) (s .args .at .0) (s .args .context) (s .args .j) (item s) (worth-is w Unknown (c .enum-told .given .1))))
+
+returns-3 : tie.Need-returns-3
+returns-3 c =
+    let w = c .before .before in
+    let s = w .before .before .before .before in
+    sym (ap fieldAs (item-nothing (seen s) (bound s) (s .args .at .0) (s .args .context) (s .args .j) (item s) (worth-is w Nothing (c .enum-told2 .given .1))))
+
+pub item-field-spec : {M : Type 1} → statement M
+item-field-spec =
+    tie.close
+    (tie.spec
+    (λ c κs. search needs)
+    sub-worth-of
+    part-worth-of-start
+    (λ c. search needs)
+    (λ c κs. search needs)
+    (λ c. search needs)
+    shared-slice-read-item-range
+    (λ c κs. search needs)
+    (λ c. search needs)
+    (λ c. search needs)
+    returns
+    returns-2
+    returns-3)

@@ -1,0 +1,223 @@
+-- `writing::write_items` meets its contract. The invariant: the items before j are in place, and the encoding is theirs and that of the rest.
+use mathlib.Core.Path.{_≡_, refl, sym, ap, _∙_}
+use mathlib.Core.List.{List, [], _++_, append-assoc, append-nil}
+use mathlib.Core.Bool.{Bool, true, false, cond}
+use Prim.Native.Nat.{ℕ, suc, _+_, _-_, _*_, _<_, _≤_}
+use native.Mathlib.Numerals.{add-one}
+use native.Mathlib.Omega.{arith}
+use lib.Dec.{eqb}
+use lib.IntN.{pos}
+use lib.ListN.{length, getD, drop, length-append}
+use borrow.Author.Needs.{needs}
+use Rattle.laws.proofs.Tests.{cond-both}
+use Rattle.rules.specs.Answers.{Judged, ok, _>>=_}
+use Rattle.rules.specs.Encoding.{byte, word}
+use Rattle.rules.specs.Expressions.{Expr, num}
+use Rattle.rules.specs.Names.{Entry}
+use Rattle.rules.specs.Judging.{items}
+use Rattle.rules.proofs.Laws.{no-ok}
+use Rattle.expression.specs.Environment.{entriesOf}
+use Rattle.image.specs.Encoding.{itemsIn, boundOf, writeOf, itemOf}
+use Rattle.image.specs.Image.{put, widthOf}
+use Rattle.image.proofs.Answers.{bind-ok, bind-no, bind-ext, bind-id, bind-bind, field-ok, field-no}
+use Rattle.image.proofs.Items.{data-in, item-small, items-more, items-end}
+use Rattle.image.proofs.Passes.{ok-same}
+use Rattle.image.proofs.Rooms.{put-none, length-put, put-more}
+use Rattle.image.proofs.writing.write_items.Statement.{statement}
+use Rattle.image.proofs.writing.write_items.Tie as tie
+
+abbrev Inv-loop : tie.InvT-loop
+Inv-loop frame at names contexts values count context q image₀ kind width n j₀ image j =
+    let left : ℕ → Judged (List ℕ) = λ m. items (entriesOf names contexts values count) (boundOf (getD frame 0 0)) (writeOf (getD frame 0 0)) (at .0) context m (drop m (itemsIn (at .0) frame)) in
+    (j ≤ n) × (length image ≡ length image₀)
+    × ((front : List ℕ) × (length front ≡ widthOf (getD frame 0 0) * j) × (image ≡ put image₀ q front) × (left 0 ≡ left j >>= (λ bs. ok (front ++ bs))))
+
+abbrev μ-loop : tie.MeasureT-loop
+μ-loop frame at names contexts values count context q image₀ kind width n j₀ image j = n - j
+
+-- ---- widths
+
+write-width : (kind v : ℕ) → length (writeOf kind v) ≡ widthOf kind
+write-width kind v = on (eqb kind 6)
+  where
+    on : (b : Bool) → length (cond b byte word v) ≡ cond b 1 2
+    on true = refl
+    on false = refl
+
+width-more : (kind j : ℕ) → widthOf kind * j + widthOf kind ≡ widthOf kind * (j + 1)
+width-more kind j = cond-both (λ w. w * j + w ≡ w * (j + 1)) (eqb kind 6) 1 2 (omega arith) (omega arith)
+
+width-fits : (kind j n : ℕ) → j < n → widthOf kind * j + widthOf kind ≤ widthOf kind * n
+width-fits kind j n l = cond-both (λ w. w * j + w ≤ w * n) (eqb kind 6) 1 2 (omega arith) (omega arith)
+
+module _ (s : tie.Start Inv-loop μ-loop) where
+  abbrev frame : List ℕ
+  frame = s .args .frame .now
+
+  abbrev place : ℕ
+  place = s .args .at .0
+
+  abbrev kind : ℕ
+  kind = getD frame 0 0
+
+  abbrev seen : List Entry
+  seen = entriesOf (s .args .names .now) (s .args .contexts .now) (s .args .values .now) (s .args .count)
+
+  abbrev all : List Expr
+  all = itemsIn place frame
+
+  abbrev one : ℕ → Judged ℕ
+  one j = itemOf seen (boundOf kind) place (s .args .context) j (getD all j (num (pos 0)))
+
+  abbrev left : ℕ → Judged (List ℕ)
+  left j = items seen (boundOf kind) (writeOf kind) place (s .args .context) j (drop j all)
+
+  count-is : length all ≡ getD frame 1 0
+  count-is = data-in place frame (s .pre .0) .items .count
+
+shared-slice-read-kind : tie.Need-shared-slice-read-kind Inv-loop μ-loop
+shared-slice-read-kind c = let s = c .before .before .before in omega (arith, data-in (place s) (frame s) (s .pre .0) .long)
+
+items-in-requires : tie.Need-items-in-requires Inv-loop μ-loop
+items-in-requires c κs = let s = c .before .before .before .before in data-in (place s) (frame s) (s .pre .0) .long
+
+loop-holds : tie.Need-loop-holds Inv-loop μ-loop
+loop-holds c =
+    let s = c .before .before .before .before .before in
+    let zero : 0 ≡ widthOf (kind s) * 0 = omega arith in
+    (omega arith, refl, ([], zero, sym (put-none (s .args .image .now) (s .args .q)), sym (bind-id (left s 0))))
+
+-- there is an item j
+some : (c : tie.In-loop Inv-loop μ-loop) → c .before .loop .j < length (all (c .before .before .before .before .before .before .before))
+some c = let s = c .before .before .before .before .before .before .before in omega (arith, count-is s, c .before .before .items-in .ensures)
+
+item-field-requires : tie.Need-item-field-requires Inv-loop μ-loop
+item-field-requires c κs =
+    let s = c .before .before .before .before .before .before .before in
+    (s .pre .0, omega (arith, c .before .before .items-in .ensures), s .pre .1)
+
+returns : tie.Need-returns Inv-loop μ-loop
+returns c b e =
+    let f = c .before .before in
+    let l = f .before .before .loop in
+    let s = f .before .before .before .before .before .before .before .before in
+    let r = c .enum-told .given in
+    let here = items-more (seen s) (boundOf (kind s)) (place s) (s .args .context) (writeOf (kind s)) (all s) (l .j) (some (f .before)) in
+    let refused = here ∙ bind-no (one s (l .j)) _ (r .0 .0) (field-no (one s (l .j)) (f .item-field .ensures) (r .1)) in
+    no-ok (r .0 .0) b (sym (l .inv .2 .3 ∙ bind-no (left s (l .j)) _ (r .0 .0) refused) ∙ e)
+
+-- the item's place in the room
+module _ (c : tie.After-write-item-arg Inv-loop μ-loop) where
+  abbrev start : tie.Start Inv-loop μ-loop
+  start = c .before .before .before .before .before .before .before .before .before .before .before .before
+
+  abbrev at-loop : tie.In-loop Inv-loop μ-loop
+  at-loop = c .before .before .before .before .before
+
+  abbrev index : ℕ
+  index = at-loop .before .loop .j
+
+  width-is : at-loop .before .before .before .item-width .result ≡ widthOf (kind start)
+  width-is = at-loop .before .before .before .item-width .ensures
+
+  begins : at-loop .before .before .before .item-width .result * index ≡ widthOf (kind start) * index
+  begins = ap (λ w. w * index) width-is
+
+  fits : start .args .q + widthOf (kind start) * index + widthOf (kind start) ≤ length (start .args .image .now)
+  fits = omega (arith, width-fits (kind start) index (getD (frame start) 1 0) (omega (arith, some at-loop, count-is start)), start .pre .2)
+
+mul-write-item : tie.Need-mul-write-item Inv-loop μ-loop
+mul-write-item c = record { fits = omega (arith, begins c, fits c) }
+
+add-write-item : tie.Need-add-write-item Inv-loop μ-loop
+add-write-item c = record { fits = omega (arith, begins c, fits c) }
+
+-- the item's value
+value-is : (c : tie.After-known-told Inv-loop μ-loop) →
+    let s = c .before .before .before .before .before .before .before .before .before .before .before in
+    one s (c .before .before .before .before .before .loop .j) ≡ ok (c .before .v .given .0 .0)
+value-is c =
+    let f = c .before .before .before in
+    let s = f .before .before .before .before .before .before .before .before in
+    field-ok (one s (f .before .before .loop .j)) (f .item-field .ensures) (c .before .v .given .1)
+
+write-item-requires : tie.Need-write-item-requires Inv-loop μ-loop
+write-item-requires c κs =
+    let s = start c in
+    let l = at-loop c .before .loop in (
+      omega (arith, begins c, fits c, l .inv .1),
+      item-small (seen s) (boundOf (kind s)) (place s) (s .args .context) (l .j) (getD (all s) (l .j) (num (pos 0))) (c .before .before .v .given .0 .0) (value-is (c .before)),
+    )
+
+add-j : tie.Need-add-j Inv-loop μ-loop
+add-j c = let a = c .before .before .before in record { fits = omega (arith, at-loop a .loop-test .taken) }
+
+loop-less : tie.Need-loop-less Inv-loop μ-loop
+loop-less c = let a = c .before .before .before in omega (arith, at-loop a .loop-test .taken)
+
+loop-again : tie.Need-loop-again Inv-loop μ-loop
+loop-again c =
+    let w = c .before .before in
+    let a = w .before in
+    let s = start a in
+    let l = at-loop a .before .loop in
+    let v = a .before .before .v .given .0 .0 in
+    let old = s .args .image .now in
+    let q = s .args .q in
+    let front = l .inv .2 .0 in
+    let more = writeOf (kind s) v in
+    let size : length front ≡ widthOf (kind s) * l .j = l .inv .2 .1 in
+    let room : q + length front ≤ length old = omega (arith, fits a) in
+    let next : q + at-loop a .before .before .before .item-width .result * l .j ≡ q + length front = omega (arith, begins a) in
+    let put-is : w .write-item .last .0 ≡ put old q (front ++ more) =
+    w .write-item .ensures
+    ∙ ap (λ r. put r (q + at-loop a .before .before .before .item-width .result * l .j) more) (l .inv .2 .2)
+    ∙ ap (λ m. put (put old q front) m more) next
+    ∙ put-more old q front room more in
+    let size-more : length (front ++ more) ≡ widthOf (kind s) * (l .j + 1) =
+    length-append front more ∙ ap (λ m. m + length more) size ∙ ap (λ m. widthOf (kind s) * l .j + m) (write-width (kind s) v) ∙ width-more (kind s) (l .j) in
+    let room-more : q + length (front ++ more) ≤ length old = omega (arith, fits a, size-more, width-more (kind s) (l .j)) in
+    let here : left s (l .j) ≡ left s (suc (l .j)) >>= (λ bs. ok (more ++ bs)) =
+    items-more (seen s) (boundOf (kind s)) (place s) (s .args .context) (writeOf (kind s)) (all s) (l .j) (some (at-loop a)) ∙ bind-ok (one s (l .j)) _ v (value-is (a .before)) in
+    let rest : left s 0 ≡ left s (l .j + 1) >>= (λ bs. ok ((front ++ more) ++ bs)) =
+    l .inv .2 .3
+    ∙ ap (λ x. x >>= (λ bs. ok (front ++ bs))) here
+    ∙ bind-bind (left s (suc (l .j))) (λ bs. more ++ bs) (λ bs. front ++ bs)
+    ∙ bind-ext (left s (suc (l .j))) _ _ (λ bs. ap ok (sym (append-assoc front more bs)))
+    ∙ ap (λ m. left s m >>= (λ bs. ok ((front ++ more) ++ bs))) (sym (add-one (l .j))) in
+    (omega (arith, at-loop a .loop-test .taken), ap length put-is ∙ length-put old q (front ++ more) room-more, (front ++ more, size-more, put-is, rest))
+
+returns-2 : tie.Need-returns-2 Inv-loop μ-loop
+unfolding _>>=_
+returns-2 c b e =
+    let l = c .before .loop in
+    let s = c .before .before .before .before .before .before .before in
+    let front = l .inv .2 .0 in
+    let end : left s (l .j) ≡ ok [] =
+    items-end (seen s) (boundOf (kind s)) (place s) (s .args .context) (writeOf (kind s)) (all s) (l .j) (omega (arith, count-is s, c .before .before .items-in .ensures)) in
+    let whole : front ++ [] ≡ b = ok-same (sym (ap (λ x. x >>= (λ bs. ok (front ++ bs))) end) ∙ sym (l .inv .2 .3) ∙ e) in
+    l .inv .2 .2 ∙ ap (put (s .args .image .now) (s .args .q)) (sym (append-nil front) ∙ whole)
+
+pub write-items-spec : {M : Type 1} → statement M
+write-items-spec =
+    tie.close
+    (tie.spec
+    Inv-loop
+    μ-loop
+    shared-slice-read-kind
+    (λ c κs. search needs)
+    items-in-requires
+    loop-holds
+    item-field-requires
+    (λ c. search needs)
+    (λ c. search needs)
+    (λ c. c .before .before .before .before .loop .inv .1)
+    returns
+    mul-write-item
+    add-write-item
+    write-item-requires
+    add-j
+    loop-less
+    loop-again
+    (λ c. c .before .loop .inv .1)
+    returns-2)

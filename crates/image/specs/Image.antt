@@ -1,0 +1,22 @@
+-- The image of a program's slots, and what stands in a room once bytes were written there.
+use mathlib.Core.Bool.{cond}
+use mathlib.Core.List.{List, [], _++_}
+use Prim.Native.Nat.{ℕ, _+_}
+use lib.Dec.{eqb}
+use lib.ListN.{length, take, drop}
+use Rattle.rules.specs.Answers.{orD}
+use Rattle.rules.specs.Programs.{Addressℕ}
+use Rattle.image.specs.Tables.{Tables}
+use Rattle.image.specs.Encoding.{encodeSlots}
+
+-- asked only of slots that encode
+unfoldable pub imageOf : Tables → List ℕ
+imageOf d = orD (encodeSlots d) []
+
+-- the room, with bytes b from address q on
+abbrev pub put : (room : List ℕ) (q : Addressℕ) (b : List ℕ) → List ℕ
+put room q b = take q room ++ b ++ drop (q + length b) room
+
+-- how many bytes an item of data of a kind has
+abbrev pub widthOf : (kind : ℕ) → ℕ
+widthOf kind = cond (eqb kind 6) 1 2

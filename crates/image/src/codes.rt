@@ -1,0 +1,130 @@
+// The bytes of a slot's instruction: its operands one after the other, each its value and then its range before the next.
+use crate::Encoded;
+use crate::worth::argument_worth;
+use encoding::encode::encode_form;
+use encoding::operands::Field;
+use encoding::operands::field_of;
+use instruction::tables::Operand;
+use instruction::tables::operand_count;
+use instruction::tables::operand_kind;
+use instruction::tables::size;
+use rules::Address;
+use rules::Outcome;
+use rules::Place;
+use rules::Refusal;
+ghost use mathlib.Core.Path.{_≡_};
+ghost use Prim.Native.Nat.{_+_, _<_, _≤_};
+ghost use lib.ListN.{length, getD};
+ghost use Rattle.rules.specs.declared.Kind.the-variants.{Reg};
+ghost use Rattle.rules.specs.Forms.{operandsAt};
+ghost use Rattle.rules.specs.Names.{contextAt};
+ghost use Rattle.encoding.specs.Operands.{fieldAs};
+ghost use Rattle.slots.specs.Slots.{slotAt, kindOf};
+ghost use Rattle.image.specs.Tables.{tables, program, operandAt, Ready};
+ghost use Rattle.image.specs.Encoding.{fieldOf, encodeAt, encodedAs};
+
+// The address after an instruction.
+fn after(position: u32, size: usize) -> Address
+    requires { ⌜ (position ≤ 65536) × (size ≤ 65536) ⌝ }
+    ensures { λ r. ⌜ r .0 ≡ position + size ⌝ }
+{
+    Address(position as usize + size)
+}
+
+// What the instruction in a slot, with n the address after it, writes for its argument j.
+fn field_at(
+    frames: &[u8],
+    starts: &[u16; 1025],
+    count: usize,
+    forms: &[u8; 1024],
+    carry: &[u16; 1024],
+    owners: &[u16; 1024],
+    offsets: &[u16; 1024],
+    names: &[u32; 1024],
+    contexts: &[u16; 1024],
+    values: &[i32; 1024],
+    positions: &[u32; 1025],
+    at: Place,
+    j: usize,
+    n: Address,
+) -> Field
+    requires { ⌜ Ready (tables (now frames) (now starts) count (now forms) (now carry) (now owners) (now offsets) (now names) (now contexts) (now values) (now positions)) × (at .0 < count) × (kindOf (slotAt ((tables (now frames) (now starts) count (now forms) (now carry) (now owners) (now offsets) (now names) (now contexts) (now values) (now positions)) .slots) (at .0)) ≡ 1) ⌝ }
+    requires { ⌜ (j < length (operandsAt (getD (now forms) (at .0) 0))) × (n .0 ≤ 65536) ⌝ }
+    ensures { λ r. ⌜ (let d = tables (now (frames .entry)) (now (starts .entry)) count (now (forms .entry)) (now (carry .entry)) (now (owners .entry)) (now (offsets .entry)) (now (names .entry)) (now (contexts .entry)) (now (values .entry)) (now (positions .entry)) in r ≡ fieldAs (fieldOf (d .entries) (program d) (at .0) (contextAt (program d) (at .0)) (n .0) j (getD (operandsAt (getD (now (forms .entry)) (at .0) 0)) j Reg) (operandAt (d .slots) (at .0) j))) ⌝ }
+{
+    let i = at.0;
+    match operand_kind(forms[i], j) {
+        Operand::Is(kind) => match argument_worth(
+            frames,
+            starts,
+            count,
+            forms,
+            carry,
+            owners,
+            offsets,
+            names,
+            contexts,
+            values,
+            positions,
+            at,
+            j,
+        ) {
+            Outcome::Is(v) => field_of(at, j, n, kind, v),
+            Outcome::Unknown => Field::Refused(Refusal::NoName(at)),
+            Outcome::Nothing => Field::Refused(Refusal::NoValue(at)),
+        },
+        Operand::Nothing => Field::Is(0), // no argument j: never met
+    }
+}
+
+// The bytes of the instruction in a slot, or its first refusal.
+pub fn encode_at(
+    frames: &[u8],
+    starts: &[u16; 1025],
+    count: usize,
+    forms: &[u8; 1024],
+    carry: &[u16; 1024],
+    owners: &[u16; 1024],
+    offsets: &[u16; 1024],
+    names: &[u32; 1024],
+    contexts: &[u16; 1024],
+    values: &[i32; 1024],
+    positions: &[u32; 1025],
+    at: Place,
+) -> Encoded
+    requires { ⌜ Ready (tables (now frames) (now starts) count (now forms) (now carry) (now owners) (now offsets) (now names) (now contexts) (now values) (now positions)) × (at .0 < count) × (kindOf (slotAt ((tables (now frames) (now starts) count (now forms) (now carry) (now owners) (now offsets) (now names) (now contexts) (now values) (now positions)) .slots) (at .0)) ≡ 1) ⌝ }
+    ensures { λ r. ⌜ r ≡ encodedAs (encodeAt (tables (now (frames .entry)) (now (starts .entry)) count (now (forms .entry)) (now (carry .entry)) (now (owners .entry)) (now (offsets .entry)) (now (names .entry)) (now (contexts .entry)) (now (values .entry)) (now (positions .entry))) (at .0)) ⌝ }
+{
+    let i = at.0;
+    let form = forms[i];
+    let n = after(positions[i], size(form));
+    let mut fields: [u16; 3] = [0; 3];
+    let mut j = 0;
+    while j < operand_count(form) {
+        match field_at(
+            frames,
+            starts,
+            count,
+            forms,
+            carry,
+            owners,
+            offsets,
+            names,
+            contexts,
+            values,
+            positions,
+            at,
+            j,
+            n,
+        ) {
+            Field::Is(v) => {
+                fields[j] = v;
+            }
+            Field::Refused(r) => {
+                return Encoded::Refused(r);
+            }
+        }
+        j += 1;
+    }
+    Encoded::Is(encode_form(form, fields[0], fields[1], fields[2]))
+}

@@ -1,0 +1,85 @@
+// The items of data, one after the other: each its value, and then its range before the next.
+use crate::Checked;
+use encoding::operands::Field;
+use encoding::operands::byte_item;
+use encoding::operands::word_item;
+use expression::worth_of;
+use rules::Outcome;
+use rules::Place;
+use rules::Refusal;
+use slots::item_in;
+use slots::items_in;
+ghost use mathlib.Core.Path.{_≡_};
+ghost use mathlib.Core.List.{List};
+ghost use Prim.Native.Nat.{ℕ, _<_, _≤_};
+ghost use lib.IntN.{pos};
+ghost use lib.ListN.{getD};
+ghost use Rattle.rules.specs.Expressions.{num};
+ghost use Rattle.rules.specs.Judging.{items};
+ghost use Rattle.expression.specs.Environment.{entriesOf};
+ghost use Rattle.encoding.specs.Operands.{fieldAs, ranged};
+ghost use Rattle.slots.specs.Slots.{DataIn};
+ghost use Rattle.image.specs.Encoding.{itemsIn, boundOf, itemOf, checkedAs};
+
+// The first byte of a frame of bytes; that of words is one more.
+pub const BYTES: u8 = 6;
+
+// The range of an item of data of a kind.
+fn item_range(kind: u8, at: Place, j: usize, v: i32) -> Field
+    ensures { λ r. ⌜ r ≡ fieldAs (ranged (at .0) j (boundOf kind) v) ⌝ }
+{
+    if kind == BYTES {
+        byte_item(at, j, v)
+    } else {
+        word_item(at, j, v)
+    }
+}
+
+// What is written for item j of the data in a frame. `at` is the frame's place.
+pub fn item_field(
+    frame: &[u8],
+    at: Place,
+    j: usize,
+    names: &[u32; 1024],
+    contexts: &[u16; 1024],
+    values: &[i32; 1024],
+    count: usize,
+    context: u16,
+) -> Field
+    requires { ⌜ DataIn (at .0) (now frame) × (j < getD (now frame) 1 0) × (count ≤ 1024) ⌝ }
+    ensures { λ r. ⌜ r ≡ fieldAs (itemOf (entriesOf (now (names .entry)) (now (contexts .entry)) (now (values .entry)) count) (boundOf (getD (now (frame .entry)) 0 0)) (at .0) context j (getD (itemsIn (at .0) (now (frame .entry))) j (num (pos 0)))) ⌝ }
+{
+    let a = item_in(frame, at, j);
+    match worth_of(&frame[a..], names, contexts, values, count, context) {
+        Outcome::Is(v) => item_range(frame[0], at, j, v),
+        Outcome::Unknown => Field::Refused(Refusal::NoName(at)),
+        Outcome::Nothing => Field::Refused(Refusal::NoValue(at)),
+    }
+}
+
+// The items of the data in a frame, or their first refusal. How they are written does not matter.
+pub fn check_items(
+    frame: &[u8],
+    at: Place,
+    names: &[u32; 1024],
+    contexts: &[u16; 1024],
+    values: &[i32; 1024],
+    count: usize,
+    context: u16,
+) -> Checked
+    requires { ⌜ DataIn (at .0) (now frame) × (count ≤ 1024) ⌝ }
+    ensures { λ r. ⌜ ((write : ℕ → List ℕ) → r ≡ checkedAs (items (entriesOf (now (names .entry)) (now (contexts .entry)) (now (values .entry)) count) (boundOf (getD (now (frame .entry)) 0 0)) write (at .0) context 0 (itemsIn (at .0) (now (frame .entry))))) ⌝ }
+{
+    let n = items_in(frame);
+    let mut j = 0;
+    while j < n {
+        match item_field(frame, at, j, names, contexts, values, count, context) {
+            Field::Is(_) => {}
+            Field::Refused(r) => {
+                return Checked::Refused(r);
+            }
+        }
+        j += 1;
+    }
+    Checked::Passes
+}

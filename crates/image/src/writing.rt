@@ -1,0 +1,240 @@
+// The image: how long it is, and its bytes in a lent room. Gaps are zero, and room beyond it is left as it was.
+use crate::Encoded;
+use crate::codes::encode_at;
+use crate::data::BYTES;
+use crate::data::item_field;
+use encoding::operands::Field;
+use rules::Code;
+use rules::Place;
+use slots::frame_at;
+use slots::items_in;
+use slots::kind_at;
+use slots::size_at;
+ghost use mathlib.Core.Path.{_≡_};
+ghost use mathlib.Core.Bool.{true};
+ghost use mathlib.Core.List.{List, _++_};
+ghost use Prim.Native.Nat.{ℕ, _+_, _*_, _<_, _≤_, _%_, _/_};
+ghost use lib.IntN.{ℤ};
+ghost use lib.ListN.{length, getD, drop, replicate};
+ghost use Rattle.rules.specs.Answers.{ok, isOk};
+ghost use Rattle.rules.specs.Programs.{byteCount};
+ghost use Rattle.rules.specs.Judging.{items};
+ghost use Rattle.expression.specs.Environment.{entriesOf};
+ghost use Rattle.encoding.specs.Encode.{bytesOfCode};
+ghost use Rattle.listing.specs.Tables.{Held};
+ghost use Rattle.slots.specs.Slots.{slotAt, DataIn};
+ghost use Rattle.image.specs.Tables.{tables, Ready};
+ghost use Rattle.image.specs.Encoding.{encodeAt, encodeSlots, itemsIn, boundOf, writeOf};
+ghost use Rattle.image.specs.Image.{imageOf, put, widthOf};
+
+// A position, as an index of the room.
+fn address(position: u32) -> usize
+    ensures { λ r. ⌜ r ≡ position ⌝ }
+{
+    position as usize
+}
+
+// The end of the last statement that has bytes; 0 where none has.
+pub fn image_length(
+    frames: &[u8],
+    starts: &[u16; 1025],
+    count: usize,
+    forms: &[u8; 1024],
+    positions: &[u32; 1025],
+) -> usize
+    requires { ⌜ Held (now frames) (now starts) count ⌝ }
+    ensures { λ r. ⌜ ((carry owners offsets names contexts : List ℕ) (values : List ℤ) → (let d = tables (now (frames .entry)) (now (starts .entry)) count (now (forms .entry)) carry owners offsets names contexts values (now (positions .entry)) in Ready d → isOk (encodeSlots d) ≡ true → r ≡ length (imageOf d))) ⌝ }
+{
+    let mut i = count;
+    while 0 < i {
+        i -= 1;
+        if 0 < size_at(frames, starts, count, forms, Place(i)) {
+            return address(positions[i + 1]);
+        }
+    }
+    0
+}
+
+// Zeros in the first n bytes.
+fn clear(image: &mut [u8], n: usize)
+    requires { ⌜ n ≤ length (now image) ⌝ }
+    ensures { λ r. ⌜ now (image .exit) ≡ replicate n 0 ++ drop n (now (image .entry)) ⌝ }
+{
+    let mut i = 0;
+    while i < n {
+        image[i] = 0;
+        i += 1;
+    }
+}
+
+// The bytes of an instruction, from q on.
+fn write_code(image: &mut [u8], q: usize, code: Code)
+    requires { ⌜ (code .len ≤ 3) × (0 < code .len → q + code .len ≤ length (now image)) ⌝ }
+    ensures { λ r. ⌜ now (image .exit) ≡ put (now (image .entry)) q (bytesOfCode code) ⌝ }
+{
+    let bytes = [code.b0, code.b1, code.b2];
+    let n = code.len;
+    let mut k = 0;
+    while k < n {
+        image[q + k] = bytes[k];
+        k += 1;
+    }
+}
+
+fn low(v: u16) -> u8
+    ensures { λ r. ⌜ r ≡ v % 256 ⌝ }
+{
+    (v % 256) as u8
+}
+
+fn high(v: u16) -> u8
+    ensures { λ r. ⌜ r ≡ v / 256 ⌝ }
+{
+    (v / 256) as u8
+}
+
+// How many bytes an item of data of a kind has.
+fn item_width(kind: u8) -> usize
+    ensures { λ r. ⌜ r ≡ widthOf kind ⌝ }
+{
+    if kind == BYTES { 1 } else { 2 }
+}
+
+// An item of data at q. Words have the low byte first.
+fn write_item(image: &mut [u8], q: usize, kind: u8, v: u16)
+    requires { ⌜ (q + widthOf kind ≤ length (now image)) × (v < boundOf kind) ⌝ }
+    ensures { λ r. ⌜ now (image .exit) ≡ put (now (image .entry)) q (writeOf kind v) ⌝ }
+{
+    image[q] = low(v);
+    if kind == BYTES {
+        return;
+    }
+    image[q + 1] = high(v);
+}
+
+// The items of the data in a frame, from q on.
+fn write_items(
+    frame: &[u8],
+    at: Place,
+    names: &[u32; 1024],
+    contexts: &[u16; 1024],
+    values: &[i32; 1024],
+    count: usize,
+    context: u16,
+    q: usize,
+    image: &mut [u8],
+)
+    requires { ⌜ DataIn (at .0) (now frame) × (count ≤ 1024) × (q + widthOf (getD (now frame) 0 0) * getD (now frame) 1 0 ≤ length (now image)) ⌝ }
+    ensures { λ r. ⌜ ((b : List ℕ) → items (entriesOf (now (names .entry)) (now (contexts .entry)) (now (values .entry)) count) (boundOf (getD (now (frame .entry)) 0 0)) (writeOf (getD (now (frame .entry)) 0 0)) (at .0) context 0 (itemsIn (at .0) (now (frame .entry))) ≡ ok b → now (image .exit) ≡ put (now (image .entry)) q b) ⌝ }
+{
+    let kind = frame[0];
+    let width = item_width(kind);
+    let n = items_in(frame);
+    let mut j = 0;
+    while j < n {
+        let Field::Is(v) = item_field(frame, at, j, names, contexts, values, count, context) else {
+            return;
+        };
+        write_item(image, q + width * j, kind, v);
+        j += 1;
+    }
+}
+
+// The bytes of the statement in a slot, at its position.
+fn write_at(
+    frames: &[u8],
+    starts: &[u16; 1025],
+    count: usize,
+    forms: &[u8; 1024],
+    carry: &[u16; 1024],
+    owners: &[u16; 1024],
+    offsets: &[u16; 1024],
+    names: &[u32; 1024],
+    contexts: &[u16; 1024],
+    values: &[i32; 1024],
+    positions: &[u32; 1025],
+    at: Place,
+    image: &mut [u8],
+)
+    requires { ⌜ Ready (tables (now frames) (now starts) count (now forms) (now carry) (now owners) (now offsets) (now names) (now contexts) (now values) (now positions)) × (at .0 < count) × (0 < byteCount (slotAt ((tables (now frames) (now starts) count (now forms) (now carry) (now owners) (now offsets) (now names) (now contexts) (now values) (now positions)) .slots) (at .0)) → getD (now positions) (at .0) 0 + byteCount (slotAt ((tables (now frames) (now starts) count (now forms) (now carry) (now owners) (now offsets) (now names) (now contexts) (now values) (now positions)) .slots) (at .0)) ≤ length (now image)) ⌝ }
+    ensures { λ r. ⌜ ((b : List ℕ) → encodeAt (tables (now (frames .entry)) (now (starts .entry)) count (now (forms .entry)) (now (carry .entry)) (now (owners .entry)) (now (offsets .entry)) (now (names .entry)) (now (contexts .entry)) (now (values .entry)) (now (positions .entry))) (at .0) ≡ ok b → now (image .exit) ≡ put (now (image .entry)) (getD (now (positions .entry)) (at .0) 0) b) ⌝ }
+{
+    let i = at.0;
+    let q = address(positions[i]);
+    let kind = kind_at(frames, starts, count, forms, at);
+    if kind == 1 {
+        let Encoded::Is(code) = encode_at(
+            frames,
+            starts,
+            count,
+            forms,
+            carry,
+            owners,
+            offsets,
+            names,
+            contexts,
+            values,
+            positions,
+            at,
+        ) else {
+            return;
+        };
+        write_code(image, q, code);
+        return;
+    }
+    if kind < BYTES {
+        return;
+    }
+    let frame = frame_at(frames, starts, count, at);
+    write_items(
+        frame,
+        at,
+        names,
+        contexts,
+        values,
+        count,
+        contexts[i],
+        q,
+        image,
+    );
+}
+
+// The image of slots that encode, in a room that holds it. From the last statement to the first: what follows is always in place.
+pub fn write_image(
+    frames: &[u8],
+    starts: &[u16; 1025],
+    count: usize,
+    forms: &[u8; 1024],
+    carry: &[u16; 1024],
+    owners: &[u16; 1024],
+    offsets: &[u16; 1024],
+    names: &[u32; 1024],
+    contexts: &[u16; 1024],
+    values: &[i32; 1024],
+    positions: &[u32; 1025],
+    image: &mut [u8],
+)
+    requires { ⌜ Ready (tables (now frames) (now starts) count (now forms) (now carry) (now owners) (now offsets) (now names) (now contexts) (now values) (now positions)) × (isOk (encodeSlots (tables (now frames) (now starts) count (now forms) (now carry) (now owners) (now offsets) (now names) (now contexts) (now values) (now positions))) ≡ true) × (length (imageOf (tables (now frames) (now starts) count (now forms) (now carry) (now owners) (now offsets) (now names) (now contexts) (now values) (now positions))) ≤ length (now image)) ⌝ }
+    ensures { λ r. ⌜ (let bytes = imageOf (tables (now (frames .entry)) (now (starts .entry)) count (now (forms .entry)) (now (carry .entry)) (now (owners .entry)) (now (offsets .entry)) (now (names .entry)) (now (contexts .entry)) (now (values .entry)) (now (positions .entry))) in now (image .exit) ≡ bytes ++ drop (length bytes) (now (image .entry))) ⌝ }
+{
+    clear(image, image_length(frames, starts, count, forms, positions));
+    let mut i = count;
+    while 0 < i {
+        i -= 1;
+        write_at(
+            frames,
+            starts,
+            count,
+            forms,
+            carry,
+            owners,
+            offsets,
+            names,
+            contexts,
+            values,
+            positions,
+            Place(i),
+            image,
+        );
+    }
+}

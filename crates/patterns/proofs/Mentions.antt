@@ -1,0 +1,215 @@
+-- How often a name is referred to: no more often than an expression has bytes, by operand, by item, and by statement.
+use mathlib.Core.Path.{_≡_, refl, sym, ap, ap₂, _∙_}
+use mathlib.Core.List.{List, [], _∷_}
+use mathlib.Core.Bool.{Bool, true, false, cond}
+use Prim.Native.Nat.{ℕ, zero, suc, _+_, _-_, _*_, _≤_, _<_}
+use native.Mathlib.Omega.{arith}
+use lib.Dec.{eqb}
+use lib.ListN.{length, getD, drop, take}
+use lib.Seq.{take-length}
+use Rattle.laws.specs.Counts.{sumTo}
+use Rattle.laws.specs.Lists.{total}
+use Rattle.laws.proofs.Tests.{false-true, cond-le}
+use Rattle.laws.proofs.Counts.{total-by, sum-ext}
+use Rattle.rules.specs.declared.Kind.{Kind}
+use Rattle.rules.specs.declared.Kind.the-variants.{Reg, I8, D9, Bit, Rel8, A12, A16, Rel16}
+use Rattle.rules.specs.declared.Op1.{Op1}
+use Rattle.rules.specs.declared.Op2.{Op2}
+use Rattle.rules.specs.declared.Tag.{Tag}
+use Rattle.rules.specs.declared.Tag.the-variants.{Number, Name, Two, One, Bad}
+use Rattle.rules.specs.Expressions.{Expr, readExpr, parse, byTag, tagOf, mentions, nameOf}
+use Rattle.rules.specs.Forms.{isTransfer, operandsAt}
+use Rattle.rules.specs.Listing.{readFrame}
+use Rattle.rules.specs.Names.{Placed, placed, contextAt}
+use Rattle.rules.specs.Programs.{Operand, register, Stmt, Program, gone, instr, label, variable, comment, org, bytes, words, argsOf, onLast, inOperand, overExprs, at}
+use Rattle.rules.specs.Rewriting.{references}
+use Rattle.rules.specs.Statements.{argAt, argumentAt, exprAt, operandAt}
+use Rattle.rules.proofs.Laws.{length-placed, placed-at}
+use Rattle.listing.specs.Tables.{frameAt, inputAt, Held}
+use Rattle.slots.specs.Slots.{Slots, written, slotAt, programOf, targetOf, kindOf, isReg, InstrIn, DataIn, Sound}
+use Rattle.slots.proofs.Frames.{Left, Reads, Frame, ofInstr, ofLabel, ofVariable, ofComment, ofOrg, ofBytes, ofWords, VariableFrame, frame-of, frame-read, was-read}
+use Rattle.slots.proofs.Operands.{OperandRead, instr-in, operands-in}
+use Rattle.slots.proofs.Tables.{frame-is}
+use Rattle.slots.proofs.Slots.{kind-read, kind-kept, not-gone}
+use Rattle.slots.proofs.Items.{ItemsRead, items-read}
+use Rattle.expression.proofs.Trees.{Said, heard, step-said, number-said, name-said, bad-said, one-said, two-said}
+use Rattle.patterns.specs.Mentions.{times, readAs, itemsOf, VariableIn}
+use Rattle.patterns.proofs.Programs.{length-program, at-program}
+use Rattle.patterns.proofs.Instructions.{value-at, read-operands, own, own-some, args-own, args-aimed}
+
+-- ---- an expression holds no more names than it has bytes
+
+module _ (f : ℕ → Bool) where
+  abbrev Few : (room : ℕ) → Expr → ℕ → Type 0
+  Few room e k = (mentions f e ≤ k) × (k ≤ room)
+
+  by-tag : (g room : ℕ) (s : List ℕ) → ((m : ℕ) (r : List ℕ) → Said (Few m) (parse g m r)) → 1 ≤ room → (t : Tag) → Said (Few room) (byTag t (parse g) room s)
+  unfolding mentions
+  by-tag g room s below l Number = number-said (Few room) (parse g) room s (λ h k. (omega arith, h))
+  by-tag g room s below l Name = name-said (Few room) (parse g) room s (λ h k. (cond-le (f (nameOf s)) 1 0 3 (omega arith) (omega arith), h))
+  by-tag g room s below l Bad = bad-said (Few room) (parse g) room s
+  by-tag g room s below l (One o) =
+      one-said (Few room) (parse g) room s o (Few (room - 1)) (below (room - 1) (drop 1 s)) (λ e n a. (omega (arith, a .0), omega (arith, a .1)))
+  by-tag g room s below l (Two o) =
+      two-said (Few room) (parse g) room s o (Few (room - 1)) (λ n. Few (room - (1 + n))) (below (room - 1) (drop 1 s))
+      (λ e n a. below (room - (1 + n)) (drop (1 + n) s)) (λ e d n m a b. (omega (arith, a .0, b .0), omega (arith, a .1, b .1)))
+
+  few-said : (g room : ℕ) (s : List ℕ) → Said (Few room) (parse g room s)
+  unfolding parse
+  few-said zero room s = tt
+  few-said (suc g) room s = step-said (Few room) g room s (λ h k. by-tag g room s (few-said g) h (tagOf (getD s 0 0)))
+
+pub times-few : (n : ℕ) (s : List ℕ) (e : Expr) → Reads s e → times n e ≤ 32
+unfolding readExpr
+times-few n s e r = let h = heard (Few (λ m. eqb m n) 32) (parse 32 32 s) (few-said (λ m. eqb m n) 32 32 s) e (r .width) (r .reads) in omega (arith, h .0, h .1)
+
+-- ---- arguments as they were read
+
+pub args-in : (i : ℕ) (s : List ℕ) (h : InstrIn i s) → argsOf (readAs i s) ≡ instr-in i s h .args
+args-in i s h = ap argsOf (instr-in i s h .is)
+
+pub args-count : (i : ℕ) (s : List ℕ) → InstrIn i s → length (argsOf (readAs i s)) ≡ length (operandsAt (getD s 1 0))
+args-count i s h = ap length (args-in i s h) ∙ operands-in i s h .count
+
+module _ (i : ℕ) (s : List ℕ) (h : InstrIn i s) (n j : ℕ) (l : j < length (operandsAt (getD s 1 0))) where
+  abbrev kind : Kind
+  kind = getD (operandsAt (getD s 1 0)) j Reg
+
+  abbrev place : ℕ
+  place = argumentAt s (operandsAt (getD s 1 0)) 2 j
+
+  argument : OperandRead s kind place (getD (instr-in i s h .args) j (register 0))
+  argument = operands-in i s h .each j l
+
+  is-argument : getD (argsOf (readAs i s)) j (register 0) ≡ operandAt s kind (argAt place)
+  is-argument = ap (λ xs. getD xs j (register 0)) (args-in i s h) ∙ argument .is
+
+  pub in-register : isReg kind ≡ true → inOperand (times n) (getD (argsOf (readAs i s)) j (register 0)) ≡ 0
+  in-register e = ap (inOperand (times n)) is-argument ∙ register-holds kind e
+    where
+      register-holds : (k : Kind) → isReg k ≡ true → inOperand (times n) (operandAt s k (argAt place)) ≡ 0
+      register-holds Reg e = refl
+      register-holds I8 e = false-true e
+      register-holds D9 e = false-true e
+      register-holds Bit e = false-true e
+      register-holds Rel8 e = false-true e
+      register-holds A12 e = false-true e
+      register-holds A16 e = false-true e
+      register-holds Rel16 e = false-true e
+
+  pub in-value : isReg kind ≡ false → Reads (drop place s) (exprAt s (argAt place)) × (inOperand (times n) (getD (argsOf (readAs i s)) j (register 0)) ≡ times n (exprAt s (argAt place)))
+  in-value e = (argument .reads e, ap (inOperand (times n)) (is-argument ∙ value-at s kind place e))
+
+  pub argument-inside : place < length s
+  argument-inside = argument .inside
+
+-- ---- an instruction: its operands as read, but for the target that a transfer carries
+
+total-aimed : (w : Operand → ℕ) (x : Operand) (xs : List Operand) → 1 ≤ length xs → total w (onLast (λ old. x) xs) ≡ total w (take (length xs - 1) xs) + w x
+unfolding total
+total-aimed w x [] l = absurd (omega arith)
+total-aimed w x (y ∷ []) l = omega arith
+total-aimed w x (y ∷ z ∷ xs) l =
+    let i : suc (suc (length xs)) - 1 ≡ suc (suc (length xs) - 1) = omega arith in
+    rw i (omega (arith, total-aimed w x (z ∷ xs) (omega arith)))
+
+over-args : (w : Expr → ℕ) (s : Stmt) → kindOf s ≡ 1 → overExprs w s ≡ total (inOperand w) (argsOf s)
+over-args w gone e = absurd (omega arith)
+over-args w (instr f xs c) e = refl
+over-args w (label m) e = absurd (omega arith)
+over-args w (variable m d) e = absurd (omega arith)
+over-args w (comment x) e = absurd (omega arith)
+over-args w (org l) e = absurd (omega arith)
+over-args w (bytes es) e = absurd (omega arith)
+over-args w (words es) e = absurd (omega arith)
+
+module _ (t : Slots) (s : Sound t) (n i : ℕ) (l : i < t .count) (e : kindOf (slotAt t i) ≡ 1) where
+  abbrev frame : List ℕ
+  frame = frameAt (t .frames) (t .starts) i
+
+  -- the operands as they were read
+  own-args : own t (s .held) i l e .args ≡ argsOf (readAs i frame)
+  unfolding inputAt
+  own-args = sym (ap argsOf (own t (s .held) i l e .is))
+
+  own-length : length (argsOf (readAs i frame)) ≡ length (operandsAt (getD frame 1 0))
+  own-length = ap length (sym own-args) ∙ read-operands i frame _ (own t (s .held) i l e) .count
+
+  pub instr-here : InstrIn i frame
+  instr-here = record { reads = s .held .reads i l; kind = own t (s .held) i l e .kind }
+
+  pub in-own : isTransfer (getD (t .forms) i 0) ≡ false → overExprs (times n) (slotAt t i) ≡ total (inOperand (times n)) (take (length (operandsAt (getD frame 1 0))) (argsOf (readAs i frame)))
+  in-own m =
+      over-args (times n) (slotAt t i) e ∙ ap (total (inOperand (times n))) (args-own t (s .held) i l e m ∙ own-args)
+      ∙ ap (total (inOperand (times n))) (sym (take-length (argsOf (readAs i frame))) ∙ ap (λ k. take k (argsOf (readAs i frame))) own-length)
+
+  pub in-aimed : isTransfer (getD (t .forms) i 0) ≡ true
+      → overExprs (times n) (slotAt t i) ≡ total (inOperand (times n)) (take (length (operandsAt (getD frame 1 0)) - 1) (argsOf (readAs i frame))) + inOperand (times n) (targetOf t (getD (t .carry) i 0))
+  in-aimed m =
+      let x = targetOf t (getD (t .carry) i 0) in
+      let some : 1 ≤ length (argsOf (readAs i frame)) = omega (arith, own-some t s i l e m, ap length own-args) in
+      over-args (times n) (slotAt t i) e ∙ ap (total (inOperand (times n))) (args-aimed t (s .held) i l e m ∙ ap (onLast (λ old. x)) own-args)
+      ∙ total-aimed (inOperand (times n)) x (argsOf (readAs i frame)) some
+      ∙ ap (λ k. total (inOperand (times n)) (take (k - 1) (argsOf (readAs i frame))) + inOperand (times n) x) own-length
+
+-- ---- a variable, and data
+
+-- the kind of what stands in a slot is its frame's first byte
+pub kind-frame : (t : Slots) → Held (t .frames) (t .starts) (t .count) → (i : ℕ) → i < t .count → (k : ℕ) → kindOf (slotAt t i) ≡ suc k → getD (frameAt (t .frames) (t .starts) i) 0 0 ≡ suc k
+kind-frame t h i l k e =
+    sym (kind-read i (frameAt (t .frames) (t .starts) i) (written t i) (frame-is (t .frames) (t .starts) (t .count) h i l)) ∙ sym (kind-kept t i (not-gone t i k e)) ∙ e
+
+pub variable-in : (i : ℕ) (s : List ℕ) → VariableIn i s → VariableFrame s (readAs i s)
+variable-in i s h = frame-of i s (readAs i s) 3 (frame-read i s (readAs i s) (was-read (readFrame i s) (h .reads))) (h .kind)
+
+-- as many items as the count, each reading where it begins
+pub record ItemsIn (i : ℕ) (s : List ℕ) : Type 0 where
+  pub long : 2 ≤ length s
+  pub few : getD s 1 0 ≤ 16
+  pub items : ItemsRead s (getD s 1 0) 2 (itemsOf (readAs i s))
+  pub over : (w : Expr → ℕ) → overExprs w (readAs i s) ≡ total w (itemsOf (readAs i s))
+
+pub data-in : (i : ℕ) (s : List ℕ) → DataIn i s → ItemsIn i s
+data-in i s h = on (frame-read i s (readAs i s) (was-read (readFrame i s) (h .reads)))
+  where
+    on : Frame i s (readAs i s) → ItemsIn i s
+    on (ofInstr f) = absurd (omega (arith, f .kind, h .kind))
+    on (ofLabel f) = absurd (omega (arith, f .kind, h .kind))
+    on (ofVariable f) = absurd (omega (arith, f .kind, h .kind))
+    on (ofComment f) = absurd (omega (arith, f .kind, h .kind))
+    on (ofOrg f) = absurd (omega (arith, f .kind, h .kind))
+    on (ofBytes f) = record { long = f .long; few = f .few; items = rw (f .is) (items-read i s (getD s 1 0) 2 (Left (f .es) []) (f .items)); over = λ w. rw (f .is) }
+    on (ofWords f) = record { long = f .long; few = f .few; items = rw (f .is) (items-read i s (getD s 1 0) 2 (Left (f .es) []) (f .items)); over = λ w. rw (f .is) }
+
+-- ---- what holds no expression
+
+pub in-none : (w : Expr → ℕ) (s : Stmt) → (kindOf s ≡ 1 → ⊥) → (kindOf s ≡ 3 → ⊥) → kindOf s < 6 → overExprs w s ≡ 0
+in-none w gone a b l = refl
+in-none w (instr f xs c) a b l = absurd (a refl)
+in-none w (label m) a b l = refl
+in-none w (variable m d) a b l = absurd (b refl)
+in-none w (comment x) a b l = refl
+in-none w (org m) a b l = refl
+in-none w (bytes es) a b l = absurd (omega arith)
+in-none w (words es) a b l = absurd (omega arith)
+
+-- ---- the whole, by place
+
+weigh : (k n : ℕ) → Placed → ℕ
+weigh k n x = cond (eqb (x .context) k) (overExprs (times n) (x .stmt)) 0
+
+nowhere : Placed
+nowhere = record { place = 0; context = 0; position = 0; stmt = gone }
+
+references-places : (k n : ℕ) (p : Program) → references k n p ≡ sumTo (λ j. cond (eqb (contextAt p j) k) (overExprs (times n) (at p j)) 0) (length p)
+unfolding references placed weigh
+references-places k n p =
+    total-by (weigh k n) (placed p) nowhere
+    ∙ ap (sumTo (λ j. weigh k n (getD (placed p) j nowhere))) (length-placed 0 0 0 p)
+    ∙ sum-ext _ _ (length p) (λ j l. ap (weigh k n) (placed-at p j nowhere l))
+
+pub references-by : (t : Slots) (contexts : List ℕ) (k n : ℕ) → ((i : ℕ) → i < t .count → getD contexts i 0 ≡ contextAt (programOf t) i)
+    → references k n (programOf t) ≡ sumTo (λ j. cond (eqb (getD contexts j 0) k) (overExprs (times n) (slotAt t j)) 0) (t .count)
+references-by t contexts k n c =
+    references-places k n (programOf t) ∙ ap (sumTo _) (length-program t)
+    ∙ sum-ext _ _ (t .count) (λ j l. ap₂ (λ (m : ℕ) (x : Stmt). cond (eqb m k) (overExprs (times n) x) 0) (sym (c j l)) (at-program t j l))

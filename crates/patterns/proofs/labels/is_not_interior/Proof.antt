@@ -1,0 +1,23 @@
+-- `patterns::labels::is_not_interior` meets its contract.
+use borrow.Author.Needs.{needs}
+use Rattle.patterns.proofs.InnerLabels.{interior-here, interior-other}
+use Rattle.patterns.proofs.labels.is_not_interior.Statement.{statement}
+use Rattle.patterns.proofs.labels.is_not_interior.Tie as tie
+
+enum-known-label : tie.Need-enum-known-label
+enum-known-label c = search needs
+
+enum-told : tie.Need-enum-told
+enum-told c = search needs
+
+returns : tie.Need-returns
+returns c = let l = c .before .before .before .before in interior-here _ (l .label .given .1) (c .if1 .taken)
+
+returns-2 : tie.Need-returns-2
+returns-2 c = let l = c .before .before .before .before in interior-other _ (l .label .given .1) (c .if1 .left)
+
+returns-3 : tie.Need-returns-3
+returns-3 c = search needs
+
+pub is-not-interior-spec : {M : Type 1} → statement M
+is-not-interior-spec = tie.close (tie.spec enum-known-label enum-told returns returns-2 returns-3)

@@ -1,0 +1,228 @@
+-- `patterns::shapes::trampoline_at` meets its contract: each way out is a way in which the definition has none, or its candidate.
+use mathlib.Core.Path.{_≡_, sym, _∙_}
+use mathlib.Core.Bool.{Bool, _&&_}
+use mathlib.Core.List.{List, [], _∷_}
+use Prim.Native.Nat.{ℕ}
+use lib.Dec.{eqb}
+use lib.ListN.{set}
+use borrow.Author.Needs.{needs}
+use borrow.Author.Tests.{not-true, not-false}
+use Rattle.laws.specs.Options.{given}
+use Rattle.laws.proofs.Options.{given-true, given-false}
+use Rattle.rules.specs.Names.{contextAt}
+use Rattle.rules.specs.Programs.{Program}
+use Rattle.rules.specs.Rewriting.{namesBare, references, noInnerLabelBetween, noInteriorLabelAt, trampolineAt, aimed, candidate, dropAll}
+use Rattle.slots.specs.Slots.{Slots, slots, programOf}
+use Rattle.patterns.specs.Targets.{instrAt}
+use Rattle.patterns.specs.Matches.{JumpFound, LandingFound, OpeningFound}
+use Rattle.patterns.proofs.Instructions.{sound-any, moves-any}
+use Rattle.patterns.proofs.Folds.{opening-found, opening-none, jump-found, jump-none, landing-found, landing-none, trampoline-no-last, trampoline-no-label, trampoline-is}
+use Rattle.patterns.proofs.shapes.trampoline_at.Statement.{statement}
+use Rattle.patterns.proofs.shapes.trampoline_at.Tie as tie
+
+abbrev over : (c : tie.Start) → Slots
+over c = slots (c .args .frames .now) (c .args .starts .now) (c .args .count) (c .args .forms .now) (c .args .carry .now) (c .args .owners .now) (c .args .offsets .now)
+
+opening-at-requires : tie.Need-opening-at-requires
+opening-at-requires c κs = let s = c .before in (s .pre .0 .held, s .pre .2, s .pre .3)
+
+enum-known-skip : tie.Need-enum-known-skip
+enum-known-skip c = search needs
+
+enum-told : tie.Need-enum-told
+enum-told c = search needs
+
+returns : tie.Need-returns
+returns c =
+    let o = c .before .before in
+    let s = o .before .before in
+    opening-none (over s) (s .args .at .0) (s .args .form) (c .enum-told .given .1) (o .opening-at .ensures (s .args .carry .now) (s .args .owners .now) (s .args .offsets .now)) .1
+
+-- the branch, the unconditional behind it, and T
+module _ (c : tie.After-skip) where
+  abbrev start : tie.Start
+  start = c .before .before .before .before
+
+  abbrev i : ℕ
+  i = start .args .at .0
+
+  abbrev program : Program
+  program = programOf (over start)
+
+  abbrev skip : ℕ
+  skip = c .skip .given .0 .0 .0
+
+  abbrev target : ℕ
+  target = c .skip .given .0 .1 .0 .0
+
+  abbrev t : ℕ
+  t = c .skip .given .0 .1 .1 .0
+
+  opens : OpeningFound (over start) (start .args .form) i skip target t
+  opens =
+      opening-found (over start) i (start .args .form) (c .skip .given .1)
+      (c .before .before .opening-at .ensures (start .args .carry .now) (start .args .owners .now) (start .args .offsets .now))
+
+jump-after-requires : tie.Need-jump-after-requires
+jump-after-requires c κs = let o = c .before in (start o .pre .0 .held, opens o .lands .inside)
+
+enum-known-last : tie.Need-enum-known-last
+enum-known-last c = search needs
+
+enum-told-2 : tie.Need-enum-told-2
+enum-told-2 c = search needs
+
+returns-2 : tie.Need-returns-2
+returns-2 c =
+    let a = c .before .before in
+    let o = a .before .before in
+    let s = start o in
+    trampoline-no-last (s .args .form) (program o) (i o) (skip o) (opens o .jumps .next-is) (target o) (opens o .lands .next-is)
+    (jump-none (over s) (target o) (c .enum-told2 .given .1) (a .jump-after .ensures (s .args .carry .now) (s .args .owners .now) (s .args .offsets .now)))
+
+-- the last unconditional
+module _ (c : tie.After-last) where
+  abbrev opening : tie.After-skip
+  opening = c .before .before .before .before
+
+  abbrev last : ℕ
+  last = c .last .given .0 .0 .0
+
+  jumps : JumpFound (over (start opening)) (target opening) last
+  jumps =
+      let s = start opening in
+      jump-found (over s) (target opening) (c .last .given .1) (c .before .before .jump-after .ensures (s .args .carry .now) (s .args .owners .now) (s .args .offsets .now))
+
+landing-after-requires : tie.Need-landing-after-requires
+landing-after-requires c κs = let a = c .before in (start (opening a) .pre .0 .held, jumps a .moves .inside)
+
+enum-known-label : tie.Need-enum-known-label
+enum-known-label c = search needs
+
+enum-told-3 : tie.Need-enum-told-3
+enum-told-3 c = search needs
+
+returns-3 : tie.Need-returns-3
+returns-3 c =
+    let l = c .before .before in
+    let a = l .before .before in
+    let o = opening a in
+    let s = start o in
+    trampoline-no-label (s .args .form) (program o) (i o) (skip o) (opens o .jumps .next-is) (target o) (opens o .lands .next-is) (last a) (jumps a .next-is)
+    (landing-none (over s) (last a) (c .enum-told3 .given .1) (l .landing-after .ensures (s .args .carry .now) (s .args .owners .now) (s .args .offsets .now)))
+
+-- S: the whole shape
+module _ (c : tie.After-label) where
+  abbrev a : tie.After-last
+  a = c .before .before .before .before
+
+  abbrev o : tie.After-skip
+  o = opening a
+
+  abbrev begin : tie.Start
+  begin = start o
+
+  abbrev label : ℕ
+  label = c .label .given .0 .0 .0
+
+  abbrev s : ℕ
+  s = c .label .given .0 .1 .0
+
+  lands : LandingFound (over begin) (last a) label s
+  lands =
+      landing-found (over begin) (last a) (c .label .given .1)
+      (c .before .before .landing-after .ensures (begin .args .carry .now) (begin .args .owners .now) (begin .args .offsets .now))
+
+  abbrev bounce : Bool
+  bounce =
+      namesBare (t o) (instrAt (over begin) (i o))
+      && (namesBare s (instrAt (over begin) (skip o)) && eqb (references (contextAt (program o) (target o)) (t o) (program o)) 1)
+
+  abbrev free : Bool
+  free = noInnerLabelBetween (program o) (i o) label && noInteriorLabelAt (program o) (i o)
+
+  abbrev folded : Program
+  folded = dropAll (skip o ∷ target o ∷ last a ∷ []) (set (program o) (i o) (aimed (begin .args .form) (instrAt (over begin) (i o)) (instrAt (over begin) (last a))))
+
+  shape : trampolineAt (begin .args .form) (program o) (i o) ≡ given bounce (given free (candidate folded))
+  shape =
+      trampoline-is (begin .args .form) (program o) (i o) (skip o) (opens o .jumps .next-is) (target o) (opens o .lands .next-is) (last a) (jumps a .next-is) label (lands .next-is)
+      (instrAt (over begin) (i o)) (instrAt (over begin) (skip o)) (instrAt (over begin) (last a)) (t o) s
+      (opens o .is) (opens o .jumps .is) (opens o .lands .is) (jumps a .is) (lands .is)
+
+is-bounce-requires : tie.Need-is-bounce-requires
+is-bounce-requires c κs =
+    let l = c .before in
+    let x = begin l .args in
+    let f = opens (o l) in (
+      f .lands .inside,
+      λ others. (
+        sound-any _ _ _ _ _ _ (x .offsets .now) others (begin l .pre .0),
+        moves-any (x .frames .now) (x .starts .now) (x .count) (x .forms .now) (x .carry .now) (x .owners .now) (x .offsets .now) others (i (o l)) (f .branches),
+        moves-any (x .frames .now) (x .starts .now) (x .count) (x .forms .now) (x .carry .now) (x .owners .now) (x .offsets .now) others (skip (o l)) (f .jumps .moves),
+      ),
+    )
+
+-- the test, as the definition has it
+tested : (c : tie.After-is-bounce) → c .is-bounce .result ≡ bounce (c .before .before)
+tested c = let l = c .before .before in c .is-bounce .ensures (begin l .args .offsets .now) (begin l .pre .1)
+
+returns-4 : tie.Need-returns-4
+returns-4 c =
+    let b = c .before in
+    let l = b .before .before in
+    shape l ∙ given-false (bounce l) _ (sym (tested b) ∙ not-true _ (c .if1 .taken))
+
+is-free-requires : tie.Need-is-free-requires
+is-free-requires c κs = begin (c .before .before .before) .pre .0
+
+-- it bounces
+bouncing : (c : tie.After-is-free) → let l : tie.After-label = c .before .before .before .before in
+    trampolineAt (begin l .args .form) (program (o l)) (i (o l)) ≡ given (free l) (candidate (folded l))
+bouncing c = let l = c .before .before .before .before in shape l ∙ given-true (bounce l) _ (sym (tested (c .before .before)) ∙ not-false _ (c .before .if1 .left))
+
+returns-5 : tie.Need-returns-5
+returns-5 c =
+    let f = c .before in
+    let l = f .before .before .before .before in
+    let b = opens (o l) in
+    record {
+      skip-rises = b .jumps .rises;
+      target-rises = b .lands .rises;
+      last-rises = jumps (a l) .rises;
+      label-rises = lands l .rises;
+      inside = lands l .inside;
+      branches = b .branches;
+      form = b .form;
+      skips = b .jumps .moves;
+      jumps = jumps (a l) .moves;
+      fold = bouncing f ∙ given-true (free l) _ (sym (f .is-free .ensures) ∙ c .if2 .taken);
+    }
+
+returns-6 : tie.Need-returns-6
+returns-6 c =
+    let f = c .before in
+    let l = f .before .before .before .before in
+    bouncing f ∙ given-false (free l) _ (sym (f .is-free .ensures) ∙ c .if2 .left)
+
+pub trampoline-at-spec : {M : Type 1} → statement M
+trampoline-at-spec =
+    tie.close
+    (tie.spec
+    opening-at-requires
+    enum-known-skip
+    enum-told
+    returns
+    jump-after-requires
+    enum-known-last
+    enum-told-2
+    returns-2
+    landing-after-requires
+    enum-known-label
+    enum-told-3
+    returns-3
+    is-bounce-requires
+    returns-4
+    is-free-requires
+    returns-5
+    returns-6)

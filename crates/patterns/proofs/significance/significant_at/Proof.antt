@@ -1,0 +1,37 @@
+-- `patterns::significance::significant_at` meets its contract, by the kind.
+use mathlib.Core.Path.{_≡_, sym, ap, _∙_}
+use mathlib.Core.List.{List}
+use mathlib.Core.Bool.{false, not}
+use Prim.Native.Nat.{ℕ}
+use lib.Dec.{eqb}
+use borrow.Author.Needs.{needs}
+use borrow.Author.Tests.{eq-eqb, ne-eqb}
+use Rattle.laws.proofs.Tests.{cond-true, cond-false}
+use Rattle.rules.specs.Programs.{Stmt}
+use Rattle.slots.specs.Slots.{slots, slotAt, kindOf}
+use Rattle.patterns.proofs.Programs.{significant-kind}
+use Rattle.patterns.proofs.significance.significant_at.Statement.{statement}
+use Rattle.patterns.proofs.significance.significant_at.Tie as tie
+
+-- the statement of a start, with the tables on which no kind depends
+abbrev here : (c : tie.Start) (carry owners offsets : List ℕ) → Stmt
+here c carry owners offsets = slotAt (slots (c .args .frames .now) (c .args .starts .now) (c .args .count) (c .args .forms .now) carry owners offsets) (c .args .at .0)
+
+kind-at-requires : tie.Need-kind-at-requires
+kind-at-requires c κs = search needs
+
+returns : tie.Need-returns
+returns c carry owners offsets =
+    let k = c .before in
+    let s = here (k .before .before) carry owners offsets in
+    sym (significant-kind s ∙ cond-true _ _ _ (eq-eqb (kindOf s) 0 (sym (k .kind-at .ensures carry owners offsets) ∙ c .if1 .taken)))
+
+returns-2 : tie.Need-returns-2
+returns-2 c carry owners offsets =
+    let k = c .before in
+    let s = here (k .before .before) carry owners offsets in
+    let e = k .kind-at .ensures carry owners offsets in
+    ap (λ n. not (eqb n 4)) e ∙ sym (significant-kind s ∙ cond-false _ _ _ (ne-eqb (kindOf s) 0 (λ z. c .if1 .left (e ∙ z))))
+
+pub significant-at-spec : {M : Type 1} → statement M
+significant-at-spec = tie.close (tie.spec kind-at-requires returns returns-2)

@@ -1,0 +1,42 @@
+-- `patterns::targets::is_bare_target` meets its contract: the target is an inner label, or reads where the frame says.
+use mathlib.Core.Path.{_≡_, sym, ap, _∙_}
+use mathlib.Core.List.{List}
+use Prim.Native.Nat.{ℕ, _<_, _≤_}
+use native.Mathlib.Omega.{arith}
+use borrow.Author.Needs.{needs}
+use Rattle.rules.specs.Expressions.{readExpr}
+use Rattle.rules.specs.Rewriting.{bareIn}
+use Rattle.slots.specs.Slots.{Slots, slots, noOwner}
+use Rattle.patterns.proofs.Instructions.{target-reads, target-inner, target-written}
+use Rattle.patterns.proofs.targets.is_bare_target.Statement.{statement}
+use Rattle.patterns.proofs.targets.is_bare_target.Tie as tie
+
+abbrev over : (c : tie.Start) (forms carry offsets : List ℕ) → Slots
+over c forms carry offsets = slots (c .args .frames .now) (c .args .starts .now) (c .args .count) forms carry (c .args .owners .now) offsets
+
+number-at-requires : tie.Need-number-at-requires
+number-at-requires c κs = omega (arith, c .before .pre .0 .few, c .before .pre .1 .inside)
+
+returns : tie.Need-returns
+returns c forms carry offsets =
+    let k = c .before in
+    let s = k .before .before in
+    sym (ap (bareIn (s .args .n)) (target-inner (over s forms carry offsets) (s .args .at .0) (omega (arith, k .number-at .ensures, c .if1 .taken))))
+
+target-in-requires : tie.Need-target-in-requires
+target-in-requires c κs = search needs
+
+is-bare-requires : tie.Need-is-bare-requires
+is-bare-requires c κs = search needs
+
+returns-2 : tie.Need-returns-2
+returns-2 c forms carry offsets =
+    let d = c .before in
+    let k = d .before .before in
+    let s = k .before .before in
+    let r = target-reads _ _ _ (s .pre .0) (s .args .at .0) (s .pre .1) in
+    c .is-bare .ensures (r .0) (r .1 .width) (ap readExpr (d .target-in .ensures) ∙ r .1 .reads)
+    ∙ sym (ap (bareIn (s .args .n)) (target-written (over s forms carry offsets) (s .args .at .0) (omega (arith, k .number-at .ensures, d .before .if1 .left)) ∙ r .2))
+
+pub is-bare-target-spec : {M : Type 1} → statement M
+is-bare-target-spec = tie.close (tie.spec number-at-requires returns target-in-requires is-bare-requires returns-2)

@@ -1,0 +1,31 @@
+-- `patterns::targets::names_bare` meets its contract: the last operand of a transfer is the target that it carries.
+use mathlib.Core.Path.{_≡_, sym, ap, _∙_}
+use mathlib.Core.List.{List}
+use Prim.Native.Nat.{ℕ, _<_, _≤_}
+use lib.ListN.{getD}
+use native.Mathlib.Omega.{arith}
+use borrow.Author.Needs.{needs}
+use Rattle.rules.specs.Rewriting.{bareIn, namesBare}
+use Rattle.slots.specs.Slots.{Slots, slots, targetOf}
+use Rattle.patterns.proofs.Instructions.{last-target}
+use Rattle.patterns.proofs.targets.names_bare.Statement.{statement}
+use Rattle.patterns.proofs.targets.names_bare.Tie as tie
+
+number-at-requires : tie.Need-number-at-requires
+number-at-requires c κs = omega (arith, c .before .pre .0 .few, c .before .pre .1)
+
+is-bare-target-requires : tie.Need-is-bare-target-requires
+is-bare-target-requires c κs = let s = c .before .before in rw (c .number-at .ensures) (s .pre .0, s .pre .2)
+
+returns : tie.Need-returns
+unfolding namesBare
+returns c forms offsets sound kind transfer =
+    let k = c .before in
+    let s = k .before .before in
+    let t = slots (s .args .frames .now) (s .args .starts .now) (s .args .count) forms (s .args .carry .now) (s .args .owners .now) offsets in
+    c .is-bare-target .ensures forms (s .args .carry .now) offsets
+    ∙ ap (λ (w : ℕ). bareIn (s .args .n) (targetOf t w)) (k .number-at .ensures)
+    ∙ sym (ap (bareIn (s .args .n)) (last-target t sound (s .args .at .0) (s .pre .1) kind transfer))
+
+pub names-bare-spec : {M : Type 1} → statement M
+names-bare-spec = tie.close (tie.spec number-at-requires is-bare-target-requires returns)

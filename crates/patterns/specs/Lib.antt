@@ -1,0 +1,6 @@
+-- What the patterns' answers say, in the words of document 01's definitions.
+pub mod Targets
+pub mod Labels
+pub mod Mentions
+pub mod Matches
+pub mod Order

@@ -1,0 +1,270 @@
+// The two shapes of a pattern, looked for at a place.
+use crate::Inverted;
+use crate::LocalLabel;
+use crate::Trampoline;
+use crate::counting::references;
+use crate::labels::no_inner_label_between;
+use crate::labels::no_interior_label_at;
+use crate::significance::next;
+use crate::targets::branch_at;
+use crate::targets::local_label_at;
+use crate::targets::names_bare;
+use crate::targets::unconditional_at;
+use rules::Place;
+ghost use mathlib.Core.Path.{_≡_};
+ghost use mathlib.Core.Bool.{true, _&&_};
+ghost use mathlib.Core.List.{List};
+ghost use Prim.Native.Nat.{ℕ, _<_};
+ghost use lib.Dec.{eqb};
+ghost use lib.ListN.{getD};
+ghost use Rattle.rules.specs.Forms.{isTransfer};
+ghost use Rattle.rules.specs.Names.{contextAt};
+ghost use Rattle.rules.specs.Rewriting.{namesBare, noInnerLabelBetween, noInteriorLabelAt};
+ghost use Rattle.rules.specs.Rewriting.{references as referencesOf};
+ghost use Rattle.listing.specs.Tables.{Held};
+ghost use Rattle.slots.specs.Slots.{slots, programOf, Sound};
+ghost use Rattle.patterns.specs.Targets.{instrAt};
+ghost use Rattle.patterns.specs.Matches.{Moves, JumpAfter, LandingAfter, OpeningIs, InvertedIs, TrampolineIs};
+
+// The place of an unconditional.
+enum Jump {
+    At(Place),
+    Nothing,
+}
+
+// The place and the name of a local label.
+enum Landing {
+    At(Place, u16),
+    Nothing,
+}
+
+// The places of an unconditional and of a local label behind it, and the label's name.
+enum Opening {
+    At(Place, Place, u16),
+    Nothing,
+}
+
+// The unconditional that comes next behind a place.
+fn jump_after(
+    frames: &[u8],
+    starts: &[u16; 1025],
+    count: usize,
+    forms: &[u8; 1024],
+    at: Place,
+) -> Jump
+    requires { ⌜ Held (now frames) (now starts) count × (at .0 < count) ⌝ }
+    ensures { λ r. ⌜ ((carry owners offsets : List ℕ) → JumpAfter (slots (now (frames .entry)) (now (starts .entry)) count (now (forms .entry)) carry owners offsets) (at .0) r) ⌝ }
+{
+    let jump = next(frames, starts, count, forms, Place(at.0 + 1));
+    if unconditional_at(frames, starts, count, forms, jump) {
+        return Jump::At(jump);
+    }
+    Jump::Nothing
+}
+
+// The local label that comes next behind a place.
+fn landing_after(
+    frames: &[u8],
+    starts: &[u16; 1025],
+    count: usize,
+    forms: &[u8; 1024],
+    at: Place,
+) -> Landing
+    requires { ⌜ Held (now frames) (now starts) count × (at .0 < count) ⌝ }
+    ensures { λ r. ⌜ ((carry owners offsets : List ℕ) → LandingAfter (slots (now (frames .entry)) (now (starts .entry)) count (now (forms .entry)) carry owners offsets) (at .0) r) ⌝ }
+{
+    let label = next(frames, starts, count, forms, Place(at.0 + 1));
+    match local_label_at(frames, starts, count, forms, label) {
+        LocalLabel::Name(n) => Landing::At(label, n),
+        LocalLabel::Nothing => Landing::Nothing,
+    }
+}
+
+// What both shapes begin with: a branch, an unconditional, a local label. `form` is that of the branch.
+fn opening_at(
+    frames: &[u8],
+    starts: &[u16; 1025],
+    count: usize,
+    forms: &[u8; 1024],
+    form: u8,
+    at: Place,
+) -> Opening
+    requires { ⌜ Held (now frames) (now starts) count × (at .0 < count) × (isTransfer form ≡ true) ⌝ }
+    ensures { λ r. ⌜ ((carry owners offsets : List ℕ) → OpeningIs (slots (now (frames .entry)) (now (starts .entry)) count (now (forms .entry)) carry owners offsets) form (at .0) r) ⌝ }
+{
+    if !branch_at(frames, starts, count, forms, form, at) {
+        return Opening::Nothing;
+    }
+    let Jump::At(jump) = jump_after(frames, starts, count, forms, at) else {
+        return Opening::Nothing;
+    };
+    let Landing::At(label, n) = landing_after(frames, starts, count, forms, jump) else {
+        return Opening::Nothing;
+    };
+    Opening::At(jump, label, n)
+}
+
+// No inner label stands in the way: none between the statements of a pattern, and none inside its branch.
+fn is_free(
+    frames: &[u8],
+    starts: &[u16; 1025],
+    count: usize,
+    forms: &[u8; 1024],
+    carry: &[u16; 1024],
+    owners: &[u16; 1024],
+    offsets: &[u16; 1024],
+    at: Place,
+    last: Place,
+) -> bool
+    requires { ⌜ Sound (slots (now frames) (now starts) count (now forms) (now carry) (now owners) (now offsets)) ⌝ }
+    ensures { λ r. ⌜ r ≡ noInnerLabelBetween (programOf (slots (now (frames .entry)) (now (starts .entry)) count (now (forms .entry)) (now (carry .entry)) (now (owners .entry)) (now (offsets .entry)))) (at .0) (last .0) && noInteriorLabelAt (programOf (slots (now (frames .entry)) (now (starts .entry)) count (now (forms .entry)) (now (carry .entry)) (now (owners .entry)) (now (offsets .entry)))) (at .0) ⌝ }
+{
+    if no_inner_label_between(
+        frames,
+        starts,
+        count,
+        forms,
+        carry,
+        owners,
+        offsets,
+        at,
+        last,
+    ) {
+        return no_interior_label_at(frames, starts, count, forms, carry, owners, offsets, at);
+    }
+    false
+}
+
+// "Inverted: branch, unconditional, local label that the branch names bare." `from` is the form of the branch.
+pub fn inverted_at(
+    frames: &[u8],
+    starts: &[u16; 1025],
+    count: usize,
+    forms: &[u8; 1024],
+    carry: &[u16; 1024],
+    owners: &[u16; 1024],
+    offsets: &[u16; 1024],
+    from: u8,
+    at: Place,
+) -> Inverted
+    requires { ⌜ Sound (slots (now frames) (now starts) count (now forms) (now carry) (now owners) (now offsets)) × (at .0 < count) × (isTransfer from ≡ true) ⌝ }
+    ensures { λ r. ⌜ InvertedIs (slots (now (frames .entry)) (now (starts .entry)) count (now (forms .entry)) (now (carry .entry)) (now (owners .entry)) (now (offsets .entry))) from (at .0) r ⌝ }
+{
+    let Opening::At(jump, label, n) = opening_at(frames, starts, count, forms, from, at) else {
+        return Inverted::Nothing;
+    };
+    if !names_bare(frames, starts, count, carry, owners, at, n) {
+        return Inverted::Nothing;
+    }
+    if is_free(
+        frames,
+        starts,
+        count,
+        forms,
+        carry,
+        owners,
+        offsets,
+        at,
+        label,
+    ) {
+        return Inverted::At(jump, label);
+    }
+    Inverted::Nothing
+}
+
+// The branch names T bare, the unconditional behind it names S bare, and "T has exactly one reference in the whole listing".
+fn is_bounce(
+    frames: &[u8],
+    starts: &[u16; 1025],
+    count: usize,
+    forms: &[u8; 1024],
+    carry: &[u16; 1024],
+    owners: &[u16; 1024],
+    contexts: &[u16; 1024],
+    at: Place,
+    skip: Place,
+    target: Place,
+    t: u16,
+    s: u16,
+) -> bool
+    requires { ⌜ (target .0 < count) × ((offsets : List ℕ) → Sound (slots (now frames) (now starts) count (now forms) (now carry) (now owners) offsets) × Moves (slots (now frames) (now starts) count (now forms) (now carry) (now owners) offsets) (at .0) × Moves (slots (now frames) (now starts) count (now forms) (now carry) (now owners) offsets) (skip .0)) ⌝ }
+    ensures { λ r. ⌜ ((offsets : List ℕ) → ((i : ℕ) → i < count → getD (now (contexts .entry)) i 0 ≡ contextAt (programOf (slots (now (frames .entry)) (now (starts .entry)) count (now (forms .entry)) (now (carry .entry)) (now (owners .entry)) offsets)) i) → r ≡ namesBare t (instrAt (slots (now (frames .entry)) (now (starts .entry)) count (now (forms .entry)) (now (carry .entry)) (now (owners .entry)) offsets) (at .0)) && (namesBare s (instrAt (slots (now (frames .entry)) (now (starts .entry)) count (now (forms .entry)) (now (carry .entry)) (now (owners .entry)) offsets) (skip .0)) && eqb (referencesOf (contextAt (programOf (slots (now (frames .entry)) (now (starts .entry)) count (now (forms .entry)) (now (carry .entry)) (now (owners .entry)) offsets)) (target .0)) t (programOf (slots (now (frames .entry)) (now (starts .entry)) count (now (forms .entry)) (now (carry .entry)) (now (owners .entry)) offsets))) 1)) ⌝ }
+{
+    if !names_bare(frames, starts, count, carry, owners, at, t) {
+        return false;
+    }
+    if !names_bare(frames, starts, count, carry, owners, skip, s) {
+        return false;
+    }
+    let i = target.0;
+    let context = contexts[i];
+    references(
+        frames,
+        starts,
+        count,
+        forms,
+        carry,
+        owners,
+        contexts,
+        context,
+        t,
+    )
+        == 1
+}
+
+// "Trampoline: branch to bare local T, unconditional to bare local S, T, unconditional, S". `form` is that of the branch.
+pub fn trampoline_at(
+    frames: &[u8],
+    starts: &[u16; 1025],
+    count: usize,
+    forms: &[u8; 1024],
+    carry: &[u16; 1024],
+    owners: &[u16; 1024],
+    offsets: &[u16; 1024],
+    contexts: &[u16; 1024],
+    form: u8,
+    at: Place,
+) -> Trampoline
+    requires { ⌜ Sound (slots (now frames) (now starts) count (now forms) (now carry) (now owners) (now offsets)) × ((i : ℕ) → i < count → getD (now contexts) i 0 ≡ contextAt (programOf (slots (now frames) (now starts) count (now forms) (now carry) (now owners) (now offsets))) i) × (at .0 < count) × (isTransfer form ≡ true) ⌝ }
+    ensures { λ r. ⌜ TrampolineIs (slots (now (frames .entry)) (now (starts .entry)) count (now (forms .entry)) (now (carry .entry)) (now (owners .entry)) (now (offsets .entry))) form (at .0) r ⌝ }
+{
+    let Opening::At(skip, target, t) = opening_at(frames, starts, count, forms, form, at) else {
+        return Trampoline::Nothing;
+    };
+    let Jump::At(last) = jump_after(frames, starts, count, forms, target) else {
+        return Trampoline::Nothing;
+    };
+    let Landing::At(label, s) = landing_after(frames, starts, count, forms, last) else {
+        return Trampoline::Nothing;
+    };
+    if !is_bounce(
+        frames,
+        starts,
+        count,
+        forms,
+        carry,
+        owners,
+        contexts,
+        at,
+        skip,
+        target,
+        t,
+        s,
+    ) {
+        return Trampoline::Nothing;
+    }
+    if is_free(
+        frames,
+        starts,
+        count,
+        forms,
+        carry,
+        owners,
+        offsets,
+        at,
+        label,
+    ) {
+        return Trampoline::At(skip, target, last, label);
+    }
+    Trampoline::Nothing
+}

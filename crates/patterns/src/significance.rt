@@ -1,0 +1,50 @@
+// Which statements a pattern consists of.
+use rules::Place;
+use slots::kind_at;
+ghost use mathlib.Core.Path.{_≡_};
+ghost use mathlib.Core.List.{List};
+ghost use mathlib.Core.Bool.{not};
+ghost use Prim.Native.Nat.{ℕ, _<_};
+ghost use Rattle.rules.specs.Rewriting.{insignificant};
+ghost use Rattle.rules.specs.Rewriting.{next as nextPlace};
+ghost use Rattle.listing.specs.Tables.{Held};
+ghost use Rattle.slots.specs.Slots.{slots, slotAt, programOf};
+
+// "All but comments are significant." A slot that is gone holds no statement.
+fn significant_at(
+    frames: &[u8],
+    starts: &[u16; 1025],
+    count: usize,
+    forms: &[u8; 1024],
+    at: Place,
+) -> bool
+    requires { ⌜ Held (now frames) (now starts) count × (at .0 < count) ⌝ }
+    ensures { λ r. ⌜ ((carry owners offsets : List ℕ) → r ≡ not (insignificant (slotAt (slots (now (frames .entry)) (now (starts .entry)) count (now (forms .entry)) carry owners offsets) (at .0)))) ⌝ }
+{
+    let kind = kind_at(frames, starts, count, forms, at);
+    if kind == 0 {
+        return false;
+    }
+    kind != 4
+}
+
+// The first significant place from a place on; where there is none, a place behind the last.
+pub fn next(
+    frames: &[u8],
+    starts: &[u16; 1025],
+    count: usize,
+    forms: &[u8; 1024],
+    from: Place,
+) -> Place
+    requires { ⌜ Held (now frames) (now starts) count ⌝ }
+    ensures { λ r. ⌜ ((carry owners offsets : List ℕ) → r .0 ≡ nextPlace (programOf (slots (now (frames .entry)) (now (starts .entry)) count (now (forms .entry)) carry owners offsets)) (from .0)) ⌝ }
+{
+    let mut j = from.0;
+    while j < count {
+        if significant_at(frames, starts, count, forms, Place(j)) {
+            return Place(j);
+        }
+        j += 1;
+    }
+    Place(j)
+}
