@@ -73,7 +73,7 @@ module _ (t : Slots) (contexts names : List ℕ) (values : List ℤ) (positions 
       record {
         sound = s;
         context = c .context;
-        place = f .place;
+        position = f .place;
         rises = λ i l. rw (f .place i (omega arith), f .place (suc i) l) (f .rises i l);
         low = λ i l. rw (f .place i l) (f .low i l);
       }

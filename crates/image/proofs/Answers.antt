@@ -1,12 +1,7 @@
 -- Answers one after the other: where the first is given, where it is refused, and where what follows is the same.
-use mathlib.Core.Path.{_≡_, refl, sym, ap, _∙_}
-use Prim.Native.Nat.{ℕ}
-use Rattle.laws.proofs.Tests.{clash}
+use mathlib.Core.Path.{_≡_, refl}
 use Rattle.rules.specs.declared.Refusal.{Refusal}
 use Rattle.rules.specs.Answers.{Judged, ok, no, _>>=_}
-use Rattle.encoding.specs.declared.operands.Field.{Field}
-use Rattle.encoding.specs.declared.operands.Field.the-variants.{Is, Refused}
-use Rattle.encoding.specs.Operands.{fieldAs}
 
 module _ {A B : Type 0} where
   pub bind-ok : (x : Judged A) (f : A → Judged B) (a : A) → x ≡ ok a → x >>= f ≡ f a
@@ -21,15 +16,6 @@ module _ {A B : Type 0} where
   unfolding _>>=_
   bind-ext (ok a) f g h = h a
   bind-ext (no r) f g h = refl
-
--- what a field of the code tells
-pub field-ok : (x : Judged ℕ) {o : Field} {v : ℕ} → o ≡ fieldAs x → o ≡ Is v → x ≡ ok v
-field-ok (ok n) e q = cc
-field-ok (no r) e q = clash (cc)
-
-pub field-no : (x : Judged ℕ) {o : Field} {r : Refusal} → o ≡ fieldAs x → o ≡ Refused r → x ≡ no r
-field-no (ok n) e q = clash (cc)
-field-no (no r) e q = cc
 
 pub bind-id : {A : Type 0} (x : Judged A) → x >>= (λ a. ok a) ≡ x
 unfolding _>>=_

@@ -12,7 +12,6 @@ use Rattle.rules.specs.Expressions.{Expr}
 use Rattle.rules.specs.Programs.{Stmt, gone, instr, label, variable, comment, org, bytes, words, byteCount}
 use Rattle.rules.specs.Layout.{position}
 use Rattle.rules.specs.Names.{contextAt}
-use Rattle.rules.specs.Encoding.{byte, word}
 use Rattle.rules.specs.Judging.{items}
 use Rattle.listing.specs.Tables.{frameAt, inputAt}
 use Rattle.slots.specs.Slots.{Slots, slotAt, kindOf, written, DataIn}

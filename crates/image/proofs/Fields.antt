@@ -2,13 +2,13 @@
 use mathlib.Core.Path.{_≡_, refl, sym, ap, _∙_}
 use mathlib.Core.List.{List, [], _∷_, _++_, append-nil, map}
 use mathlib.Core.Logic.{⊎-elim}
-use Prim.Native.Nat.{ℕ, zero, suc, _+_, _≤_, _<_}
+use Prim.Native.Nat.{ℕ, suc, _+_, _≤_, _<_}
 use native.Mathlib.Omega.{arith}
 use lib.ListN.{length, getD, set, take, drop, drop-of-length-le, length-take}
 use lib.Seq.{drop-cons, take-suc-set, append-snoc, getD-take}
 use lib.IntN.{ℤ}
 use Rattle.laws.specs.Bits.{byteOf}
-use Rattle.laws.proofs.Tests.{lt-or-le}
+use Rattle.laws.proofs.Tests.{clash, lt-or-le}
 use Rattle.laws.proofs.Stores.{get-out}
 use Rattle.rules.specs.declared.Kind.{Kind}
 use Rattle.rules.specs.declared.Kind.the-variants.{Reg}
@@ -23,9 +23,21 @@ use Rattle.rules.specs.Programs.{Operand, register, Stmt, instr, argsOf, Progra
 use Rattle.rules.specs.Names.{Entry}
 use Rattle.rules.specs.Encoding.{field}
 use Rattle.rules.specs.Judging.{valueAt, worthOf, fields, encode}
+use Rattle.encoding.specs.declared.operands.Field.{Field}
+use Rattle.encoding.specs.declared.operands.Field.the-variants.{Is as Field·Is, Refused as Field·Refused}
+use Rattle.encoding.specs.Operands.{fieldAs}
 use Rattle.encoding.specs.Encode.{codeAt}
 use Rattle.image.specs.Encoding.{fieldOf, codeFrom}
 use Rattle.image.proofs.Answers.{bind-ok, bind-no, bind-ext}
+
+-- what a field of the code tells
+pub field-ok : (x : Judged ℕ) {o : Field} {v : ℕ} → o ≡ fieldAs x → o ≡ Field·Is v → x ≡ ok v
+field-ok (ok n) e q = cc
+field-ok (no r) e q = clash (cc)
+
+pub field-no : (x : Judged ℕ) {o : Field} {r : Refusal} → o ≡ fieldAs x → o ≡ Field·Refused r → x ≡ no r
+field-no (ok n) e q = clash (cc)
+field-no (no r) e q = cc
 
 module _ (names : List Entry) (p : Program) (i k n : ℕ) where
   -- ---- one field: its value, or 4 or 7

@@ -1,12 +1,12 @@
 -- The image from a slot on: how long it is, where it stands, and what a room holds once the slot's bytes are written in front of the rest.
 use mathlib.Core.Path.{_≡_, refl, sym, ap, _∙_}
 use mathlib.Core.List.{List, [], _∷_, _++_, append-nil}
-use mathlib.Core.Bool.{Bool, true, false}
+use mathlib.Core.Bool.{true}
+use mathlib.Core.Logic.{⊎-elim}
 use Prim.Native.Nat.{ℕ, zero, suc, _+_, _-_, _*_, _≤_, _<_}
 use native.Mathlib.Omega.{arith}
-use lib.ListN.{length, getD, drop, replicate, length-append, length-map, length-replicate}
-use Rattle.laws.specs.Bits.{byteOf}
-use Rattle.laws.proofs.Tests.{clash, false-true}
+use lib.ListN.{length, getD, replicate, length-append, length-map, length-replicate}
+use Rattle.laws.proofs.Tests.{clash, false-true, eq-or-not}
 use Rattle.rules.specs.declared.Code.{Code}
 use Rattle.rules.specs.declared.Refusal.{Refusal}
 use Rattle.rules.specs.Answers.{Judged, ok, no, _>>=_, isOk, orD}
@@ -14,11 +14,11 @@ use Rattle.rules.specs.Expressions.{Expr}
 use Rattle.rules.specs.Forms.{sizeAt, operandsAt}
 use Rattle.rules.specs.Patterns.{rowsOf, bytesAt}
 use Rattle.rules.specs.Programs.{Stmt, gone, instr, label, variable, comment, org, bytes, words, Program, byteCount}
-use Rattle.rules.specs.Layout.{after, position, gap, lay}
+use Rattle.rules.specs.Layout.{after, position, lay}
 use Rattle.rules.specs.Names.{Entry, contextAt}
 use Rattle.rules.specs.Encoding.{byte, word}
 use Rattle.rules.specs.Judging.{fields, items, encode}
-use Rattle.rules.proofs.Laws.{no-ok, then-ok}
+use Rattle.rules.proofs.Laws.{then-ok}
 use Rattle.encoding.proofs.Codes.{length-rows}
 use Rattle.instruction.proofs.Numbers.{size-bound}
 use Rattle.encoding.specs.Encode.{bytesOfCode}
@@ -32,7 +32,7 @@ use Rattle.image.specs.Image.{imageOf, put}
 use Rattle.image.proofs.Placed.{position-start, position-after}
 use Rattle.image.proofs.Worths.{count-program, at-program}
 use Rattle.image.proofs.Items.{items-cons}
-use Rattle.image.proofs.Passes.{ok-same, fromSlot, from-start, from-end, Step, step-ok, rest-ok}
+use Rattle.image.proofs.Passes.{ok-same, fromSlot, from-start, from-end, step-ok, rest-ok}
 use Rattle.image.proofs.Rooms.{put-none, roomOf, room-gap, room-put}
 
 -- ---- a statement has as many bytes as counted
@@ -118,6 +118,9 @@ lay-length q (words es) b rest e r l = omega (arith, length-append b rest)
 
 -- ---- a slot's bytes in front of the rest
 
+zeros : (g : ℕ) → replicate {A = ℕ} g 0 ≡ replicate (length (replicate {A = ℕ} g 0)) 0
+zeros g = ap (λ m. replicate m 0) (sym (length-replicate {A = ℕ} g 0))
+
 module _ (n q : ℕ) (s : Stmt) (rest behind : List ℕ) where
   no-bytes : (0 < length (lay q s [] rest) → n ≡ q + length (lay q s [] rest)) → roomOf n rest behind ≡ roomOf n (lay q s [] rest) behind
   no-bytes = on s rest
@@ -129,7 +132,8 @@ module _ (n q : ℕ) (s : Stmt) (rest behind : List ℕ) where
       on (variable m e) r h = refl
       on (comment x) r h = refl
       on (org m) [] h = refl
-      on (org m) (y ∷ r) h = room-gap n q (y ∷ r) behind (m - q) (h (omega (arith, length-append (replicate (m - q) 0) (y ∷ r))))
+      on (org m) (y ∷ r) h =
+          room-gap n q (y ∷ r) behind (replicate (m - q) 0) (h (omega (arith, length-append (replicate (m - q) 0) (y ∷ r)))) (zeros (m - q))
       on (bytes es) r h = refl
       on (words es) r h = refl
 
@@ -164,7 +168,7 @@ module _ (d : Tables) where
         let next : s .next ≡ rest = ok-same (sym (s .follows) ∙ f) in
         let q = position (program d) i in
         let after-is = position-next i (omega arith) in
-        let rises : q ≤ after q (slotAt (d .slots) i) = omega (arith, after-is, h .rises i (omega arith), h .place i (omega arith), h .place (suc i) (omega arith)) in
+        let rises : q ≤ after q (slotAt (d .slots) i) = omega (arith, after-is, h .rises i (omega arith), h .position i (omega arith), h .position (suc i) (omega arith)) in
         let long = lay-length q (slotAt (d .slots) i) (s .bytes) (s .next) (bytes-count i (s .bytes) (s .encodes)) rises (omega (arith, ap length next)) in
         let here = stands i (omega arith) (before .0) (before .1) in
         omega (arith, here (omega (arith, long, ap length (s .is), ap length next)), long, ap length (s .is), ap length next, after-is)
@@ -181,7 +185,7 @@ module _ (d : Tables) where
         let q = position (program d) i in
         let count = bytes-count i (s .bytes) (s .encodes) in
         let long = ap length (s .is ∙ lay-bytes q (slotAt (d .slots) i) (s .bytes) (s .next) some) ∙ length-append (s .bytes) (s .next) in
-        omega (arith, stands i (omega arith) (r .0) (r .1) (omega (arith, long, count)), long, count, h .place i (omega arith))
+        omega (arith, stands i (omega arith) (r .0) (r .1) (omega (arith, long, count)), long, count, h .position i (omega arith))
 
     -- a slot's bytes in front of the rest: the room then holds the image from the slot on
     pub record Laid (i : ℕ) (next behind : List ℕ) : Type 0 where
@@ -205,7 +209,7 @@ module _ (d : Tables) where
           rest = r .0;
           encodes = s .encodes;
           from = r .1;
-          room = ap (λ n. put (roomOf (length image) next behind) n (s .bytes)) (h .place i (omega arith))
+          room = ap (λ n. put (roomOf (length image) next behind) n (s .bytes)) (h .position i (omega arith))
               ∙ room-step (length image) q x next behind (s .bytes) (bytes-count i (s .bytes) (s .encodes)) here
               ∙ ap (λ b. roomOf (length image) b behind) (sym is);
         }
@@ -252,6 +256,17 @@ module _ (d : Tables) where
 
   pub length-none : (image : List ℕ) → encodeSlots d ≡ ok image → Done 0 → 0 ≡ length image
   length-none image e h = sym (ap length (h image (sym (from-start d) ∙ e)))
+
+  -- "Positions reach at most 65,536", and so does the image
+  pub image-low : Ready d → (image : List ℕ) → encodeSlots d ≡ ok image → length image ≤ 65536
+  image-low ready image e = on (d .slots .count) (omega arith) done-end
+    where
+      on : (i : ℕ) → i ≤ d .slots .count → Done i → length image ≤ 65536
+      on zero l h = omega (arith, length-none image e h)
+      on (suc i) l h =
+          ⊎-elim (λ z. on i (omega arith) (done-more i (omega arith) z h))
+          (λ n. omega (arith, length-found ready image e i (omega arith) (omega arith) h, ready .position (suc i) l, ready .low (suc i) l))
+          (eq-or-not (byteCount (slotAt (d .slots) i)) 0)
 
 -- ---- an instruction's bytes, as the code holds them
 

@@ -1,18 +1,17 @@
 -- The items of data that were read: each reads where it begins; and their encoding from item j on.
-use mathlib.Core.Path.{_≡_, refl, sym, ap, _∙_}
+use mathlib.Core.Path.{_≡_, refl, ap, _∙_}
 use mathlib.Core.List.{List, [], _∷_, _++_}
 use mathlib.Core.Bool.{Bool, true, false}
-use Prim.Native.Nat.{ℕ, zero, suc, _+_, _*_, _≤_, _<_}
+use Prim.Native.Nat.{ℕ, suc, _+_, _≤_, _<_}
 use native.Mathlib.Omega.{arith}
 use lib.ListN.{length, getD, drop, drop-of-length-le}
 use lib.Seq.{drop-cons}
 use lib.IntN.{ℤ, pos}
 use Rattle.rules.specs.declared.Outcome.the-variants.{Is, Unknown, Nothing}
 use Rattle.rules.specs.declared.Refusal.the-variants.{NoName, NoValue, Range}
-use Rattle.rules.specs.Answers.{atPlace, Judged, ok, no, _>>=_, require, orD}
+use Rattle.rules.specs.Answers.{atPlace, Judged, ok, no, _>>=_, require}
 use Rattle.rules.specs.Expressions.{Expr, num}
 use Rattle.rules.specs.Listing.{readFrame}
-use Rattle.rules.specs.Programs.{gone}
 use Rattle.rules.specs.Values.{below, nat}
 use Rattle.rules.specs.Names.{Entry}
 use Rattle.rules.specs.Judging.{valueAt, worth, items}

@@ -1,19 +1,17 @@
 -- What operand j of an instruction is: by the bytes of its frame, and in a slot, where a transfer's last one is the target that it carries.
 use mathlib.Core.Path.{_≡_, refl, sym, ap, _∙_}
-use mathlib.Core.List.{List, [], _∷_, map}
+use mathlib.Core.List.{List, [], _∷_}
 use mathlib.Core.Bool.{Bool, true, false, _&&_, cond}
-use Prim.Native.Nat.{ℕ, zero, suc, _+_, _-_, _≤_, _<_}
+use Prim.Native.Nat.{ℕ, zero, suc, _-_, _≤_, _<_}
 use native.Mathlib.Omega.{arith}
 use lib.Dec.{eqb}
 use lib.ListN.{length, drop, getD, length-map}
-use lib.IntN.{pos}
 use borrow.Author.Tests.{eqb-true, eq-eqb, lt-ltb, le-ltb}
 use Rattle.laws.proofs.Tests.{clash, true-false, false-true, and-true, cond-true}
 use Rattle.rules.specs.declared.Kind.{Kind}
 use Rattle.rules.specs.declared.Kind.the-variants.{Reg, I8, D9, Bit, Rel8, A12, A16, Rel16}
-use Rattle.rules.specs.Expressions.{readExpr}
 use Rattle.rules.specs.Forms.{operandsAt, isTransfer}
-use Rattle.rules.specs.Programs.{Operand, register, value, inner, Stmt, gone, instr, argsOf, lastOf, onLast}
+use Rattle.rules.specs.Programs.{Operand, register, value, inner, instr, argsOf, lastOf, onLast}
 use Rattle.rules.specs.Statements.{argAt, argumentAt, exprAt, operandAt}
 use Rattle.instruction.specs.declared.tables.Target.{Target}
 use Rattle.instruction.specs.declared.tables.Target.the-variants.{Arg, Nothing as NoTarget}
@@ -22,9 +20,9 @@ use Rattle.instruction.specs.declared.tables.Operand.the-variants.{Is, Nothing 
 use Rattle.instruction.specs.Tables.{targetAt, operandIn as kindIn}
 use Rattle.instruction.proofs.Rows.{has-target}
 use Rattle.listing.specs.Tables.{frameAt, inputAt, Held}
-use Rattle.slots.specs.Slots.{Slots, written, targetOf, aimedAt, slotAt, kindOf, noOwner, isReg, registerAt, InstrIn, Agree, WroteTarget, Sound}
-use Rattle.slots.proofs.Frames.{Reads, InstrFrame}
-use Rattle.slots.proofs.Operands.{OperandRead, OperandsRead, operands-read, register-at, readIn, instr-in, operands-in}
+use Rattle.slots.specs.Slots.{Slots, written, targetOf, aimedAt, slotAt, kindOf, noOwner, isReg, registerAt, InstrIn, Agree, WroteTarget}
+use Rattle.slots.proofs.Frames.{Reads}
+use Rattle.slots.proofs.Operands.{OperandRead, register-at, readIn, instr-in, operands-in}
 use Rattle.slots.proofs.Tables.{frame-is}
 use Rattle.slots.proofs.Slots.{kind-read, kind-kept, not-gone, slot-instr, written-frame}
 use Rattle.image.specs.Tables.{isTarget, operandIn, operandAt as operandIs}

@@ -1,21 +1,20 @@
 -- The encoding pass, statement by statement: what passes leaves the rest to be judged, and what is refused is the answer.
 use mathlib.Core.Path.{_≡_, refl, sym, ap, _∙_}
-use mathlib.Core.List.{List, [], _∷_, _++_}
-use mathlib.Core.Bool.{Bool, true, false}
+use mathlib.Core.List.{List, []}
+use mathlib.Core.Bool.{true, false}
 use Prim.Native.Nat.{ℕ, zero, suc, _≤_, _<_}
 use native.Mathlib.Omega.{arith}
-use lib.ListN.{length, getD, drop}
-use Rattle.laws.proofs.Tests.{clash, true-false, false-true}
+use lib.ListN.{drop}
+use Rattle.laws.proofs.Tests.{clash, true-false}
 use Rattle.rules.specs.declared.Refusal.{Refusal}
 use Rattle.rules.specs.Answers.{Judged, ok, no, _>>=_, isOk}
-use Rattle.rules.specs.Programs.{Stmt, gone, instr, label, variable, comment, org, bytes, words, Program, at}
+use Rattle.rules.specs.Programs.{Stmt, gone, instr, label, variable, comment, org, bytes, words, Program}
 use Rattle.rules.specs.Layout.{position, lay}
 use Rattle.rules.specs.Names.{Entry, contextAt, placed}
 use Rattle.rules.specs.Encoding.{byte, word}
 use Rattle.rules.specs.Judging.{items, encode, encodeAll}
 use Rattle.rules.proofs.Laws.{then-ok}
-use Rattle.slots.specs.Slots.{Slots, slotAt, kindOf}
-use Rattle.image.specs.declared.Checked.{Checked}
+use Rattle.slots.specs.Slots.{slotAt, kindOf}
 use Rattle.image.specs.declared.Checked.the-variants.{Passes, Refused}
 use Rattle.image.specs.Tables.{Tables, program}
 use Rattle.image.specs.Encoding.{encodeAt, encodedAs, itemsOf, checkedAs, checkOf, encodeSlots}

@@ -1,11 +1,11 @@
 -- The statements of a program one after the other, each with its place, context and position: from a place on, and the position after one.
-use mathlib.Core.Path.{_≡_, refl, sym, ap, _∙_}
-use mathlib.Core.List.{List, [], _∷_}
+use mathlib.Core.Path.{_≡_, refl, ap, _∙_}
+use mathlib.Core.List.{[], _∷_}
 use Prim.Native.Nat.{ℕ, zero, suc, _≤_, _<_}
 use native.Mathlib.Omega.{arith}
-use lib.ListN.{length, getD, drop, drop-of-length-le}
+use lib.ListN.{length, drop, drop-of-length-le}
 use lib.Seq.{drop-cons}
-use Rattle.rules.specs.Programs.{Stmt, gone, Program, at}
+use Rattle.rules.specs.Programs.{Program, at}
 use Rattle.rules.specs.Layout.{after, position, positionFrom}
 use Rattle.rules.specs.Names.{Placed, placed, contextAt}
 use Rattle.rules.proofs.Laws.{length-placed, placed-at}

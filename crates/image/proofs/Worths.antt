@@ -1,8 +1,8 @@
 -- What an operand of a slot is worth by the table of positions is what it is worth in the program: an inner label's owner is one of its
 -- statements. A register's number is small, so that its field holds it as it is.
 use mathlib.Core.Path.{_≡_, refl, sym, ap, _∙_}
-use mathlib.Core.List.{List, [], _∷_, map}
-use mathlib.Core.Bool.{Bool, true, false, _&&_}
+use mathlib.Core.List.{List, [], _∷_}
+use mathlib.Core.Bool.{Bool, true, false}
 use mathlib.Core.Logic.{⊎-elim}
 use Prim.Native.Nat.{ℕ, zero, suc, _+_, _-_, _≤_, _<_}
 use native.Mathlib.Omega.{arith}
@@ -17,7 +17,7 @@ use Rattle.rules.specs.declared.Kind.{Kind}
 use Rattle.rules.specs.declared.Kind.the-variants.{Reg, I8, D9, Bit, Rel8, A12, A16, Rel16}
 use Rattle.rules.specs.declared.Outcome.the-variants.{Is}
 use Rattle.rules.specs.Forms.{operandsAt, sizeAt, isAddress, endsInAddress, isTransfer}
-use Rattle.rules.specs.Programs.{Operand, register, value, inner, Stmt, gone, Program, at}
+use Rattle.rules.specs.Programs.{Operand, register, value, inner, gone, Program, at}
 use Rattle.rules.specs.Layout.{after, position}
 use Rattle.rules.specs.Names.{Entry, contextAt}
 use Rattle.rules.specs.Judging.{worthOf}
@@ -162,7 +162,7 @@ pub worth-at : (d : Tables) → Ready d → (i : ℕ) → i < d .slots .count �
     → worthIn (d .entries) (d .positions) (getD (d .contexts) i 0) (operandIs (d .slots) i j) ≡ worthOf (d .entries) (program d) (contextAt (program d) i) (operandIs (d .slots) i j)
 worth-at d h i l e j m =
     ap (λ k. worthIn (d .entries) (d .positions) k (operandIs (d .slots) i j)) (h .context i l)
-    ∙ worth-same (d .entries) (d .positions) (program d) (d .slots .count) (contextAt (program d) i) (λ k b. h .place k (omega arith))
+    ∙ worth-same (d .entries) (d .positions) (program d) (d .slots .count) (contextAt (program d) i) (λ k b. h .position k (omega arith))
     (operandIs (d .slots) i j) (operand-inside (d .slots) (h .sound) i l e j m)
 
 -- the address after an instruction
@@ -173,4 +173,4 @@ end-low d h i l e =
     let next : position (program d) (suc i) ≡ position (program d) i + sizeAt f =
     position-after (program d) i (omega (arith, count-program (d .slots)))
     ∙ ap (after (position (program d) i)) (at-program (d .slots) i l ∙ slot-is (d .slots) (h .sound .held) i l e) in
-    omega (arith, next, h .place (suc i) (omega arith), h .place i (omega arith), h .low (suc i) (omega arith))
+    omega (arith, next, h .position (suc i) (omega arith), h .position i (omega arith), h .low (suc i) (omega arith))

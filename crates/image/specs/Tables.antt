@@ -1,6 +1,6 @@
 -- The tables that an encoding is judged with: the slots, the names' entries, and each place's context and position.
 use mathlib.Core.Path.{_≡_}
-use mathlib.Core.List.{List, []}
+use mathlib.Core.List.{List}
 use mathlib.Core.Bool.{Bool, _&&_}
 use Prim.Native.Nat.{ℕ, suc, _-_, _≤_, _<_}
 use lib.Dec.{eqb}
@@ -14,7 +14,7 @@ use Rattle.rules.specs.Layout.{position}
 use Rattle.rules.specs.Names.{Entry, contextAt}
 use Rattle.expression.specs.Environment.{entriesOf}
 use Rattle.listing.specs.Tables.{Held}
-use Rattle.slots.specs.Slots.{Slots, slots, slotAt, programOf, kindOf, noOwner, WroteTarget, Sound}
+use Rattle.slots.specs.Slots.{Slots, slots, slotAt, programOf, noOwner, WroteTarget, Sound}
 
 pub record Tables : Type 0 where
   pub slots : Slots
@@ -51,11 +51,11 @@ pub record Aims (t : Slots) (positions : List ℕ) (c : Placeℕ) : Type 0 where
   pub wrote : WroteTarget t c
   pub low : getD (t .owners) c 0 < noOwner → getD positions (getD (t .owners) c 0) 0 ≤ 65536
 
--- the slots and what is known of each place below the count, its end included: context, and position, "an org below the position is refused.
--- Positions reach at most 65,536."
+-- what is known before the encoding: the tables hold each statement's context and position, and where the last one ends; "an org below the
+-- position is refused. Positions reach at most 65,536."
 pub record Ready (d : Tables) : Type 0 where
   pub sound : Sound (d .slots)
   pub context : (i : Placeℕ) → i < d .slots .count → getD (d .contexts) i 0 ≡ contextAt (program d) i
-  pub place : (i : Placeℕ) → i ≤ d .slots .count → getD (d .positions) i 0 ≡ position (program d) i
+  pub position : (i : Placeℕ) → i ≤ d .slots .count → getD (d .positions) i 0 ≡ position (program d) i
   pub rises : (i : Placeℕ) → i < d .slots .count → getD (d .positions) i 0 ≤ getD (d .positions) (suc i) 0
   pub low : (i : Placeℕ) → i ≤ d .slots .count → getD (d .positions) i 0 ≤ 65536

@@ -88,6 +88,15 @@ pub fn target_worth(
     own_worth(frame, c, last, names, contexts, values, count, context)
 }
 
+// The place whose target stands in a slot.
+fn carried(carry: &[u16; 1024], at: Place) -> Place
+    requires { ⌜ at .0 < 1024 ⌝ }
+    ensures { λ r. ⌜ r .0 ≡ getD (now (carry .entry)) (at .0) 0 ⌝ }
+{
+    let i = at.0;
+    Place(wide(carry[i]))
+}
+
 // Argument j of a form is its target.
 fn is_target(form: u8, j: usize) -> bool
     ensures { λ r. ⌜ r ≡ isTarget form j ⌝ }
@@ -121,7 +130,7 @@ pub fn argument_worth(
     let i = at.0;
     let form = forms[i];
     if is_target(form, j) {
-        let c = Place(wide(carry[i]));
+        let c = carried(carry, at);
         return target_worth(
             frames,
             starts,

@@ -105,11 +105,14 @@ fn write_item(image: &mut [u8], q: usize, kind: u8, v: u16)
     requires { ⌜ (q + widthOf kind ≤ length (now image)) × (v < boundOf kind) ⌝ }
     ensures { λ r. ⌜ now (image .exit) ≡ put (now (image .entry)) q (writeOf kind v) ⌝ }
 {
-    image[q] = low(v);
     if kind == BYTES {
+        image[q] = low(v);
         return;
     }
-    image[q + 1] = high(v);
+    let first = low(v);
+    let second = high(v);
+    image[q] = first;
+    image[q + 1] = second;
 }
 
 // The items of the data in a frame, from q on.

@@ -1,14 +1,14 @@
 -- What a fold comes to: none where a statement or a test of its pattern fails, and else the candidate.
 use mathlib.Core.Path.{_≡_, refl, sym, subst, ap, _∙_}
-use mathlib.Core.List.{List, [], _∷_}
+use mathlib.Core.List.{[], _∷_}
 use mathlib.Core.Option.{Option, none, some}
 use mathlib.Core.Bool.{Bool, true, false, _&&_, cond}
 use mathlib.Core.Logic.{⊎-elim}
-use Prim.Native.Nat.{ℕ, suc, _+_, _≤_, _<_}
+use Prim.Native.Nat.{ℕ, suc, _≤_, _<_}
 use native.Mathlib.Omega.{arith}
 use lib.Dec.{eqb, leb}
 use lib.ListN.{getD, set}
-use borrow.Author.Tests.{eqb-true, leb-true, lt-leb}
+use borrow.Author.Tests.{eqb-true, lt-leb}
 use Rattle.laws.specs.Options.{isSome, given, bind}
 use Rattle.laws.proofs.Options.{bind-no}
 use Rattle.laws.proofs.Tests.{clash, none-some, false-true, or-true, lt-or-le}
@@ -16,10 +16,10 @@ use Rattle.instruction.proofs.Rows.{transfer-range}
 use Rattle.rules.specs.declared.Place.{Place}
 use Rattle.rules.specs.Forms.{formAt, isTransfer, isUnconditional, br, jmp, jmpf}
 use Rattle.rules.specs.Names.{contextAt}
-use Rattle.rules.specs.Programs.{Stmt, gone, Instruction, Program, at, asLabel}
+use Rattle.rules.specs.Programs.{gone, Instruction, Program, at, asLabel}
 use Rattle.rules.specs.Rewriting.{next, branch, unconditional, localLabel, namesBare, noInnerLabelBetween, noInteriorLabelAt, references, aimed, candidate, dropAll, invertedAt, trampolineAt}
 use Rattle.listing.specs.Tables.{Held}
-use Rattle.slots.specs.Slots.{Slots, goneForm, slotAt, programOf, kindOf}
+use Rattle.slots.specs.Slots.{Slots, goneForm, programOf}
 use Rattle.patterns.specs.declared.LocalLabel.the-variants.{Name, Nothing}
 use Rattle.patterns.specs.Targets.{standsAt, formIn, instrAt, labelAs}
 use Rattle.patterns.specs.Matches.{Moves, JumpFound, JumpAfter, LandingFound, LandingAfter, OpeningFound, OpeningIs}
@@ -30,7 +30,7 @@ use Rattle.patterns.specs.declared.shapes.Jump.the-variants.{At as Jump�
 use Rattle.patterns.specs.declared.shapes.Landing.{Landing}
 use Rattle.patterns.specs.declared.shapes.Landing.the-variants.{At as Landing·At, Nothing as Landing·Nothing}
 use Rattle.patterns.proofs.Programs.{at-program, past-program}
-use Rattle.patterns.proofs.Instructions.{form-kind, slot-form, slot-self, branch-form, unconditional-form, branch-found, unconditional-found, transfer-slot}
+use Rattle.patterns.proofs.Instructions.{slot-form, slot-self, branch-form, unconditional-form, branch-found, unconditional-found, transfer-slot}
 
 -- ---- forms
 

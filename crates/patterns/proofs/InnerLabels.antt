@@ -3,7 +3,7 @@ use mathlib.Core.Path.{_≡_, refl, sym, ap, _∙_}
 use mathlib.Core.List.{List, [], _∷_}
 use mathlib.Core.Bool.{Bool, true, false, _&&_, not}
 use mathlib.Core.Logic.{⊎-elim}
-use Prim.Native.Nat.{ℕ, suc, _+_, _≤_, _<_}
+use Prim.Native.Nat.{ℕ, _≤_, _<_}
 use native.Mathlib.Omega.{arith}
 use lib.Dec.{eqb, leb, ltb}
 use lib.ListN.{length, getD}
@@ -20,7 +20,6 @@ use Rattle.rules.specs.Forms.{isTransfer, operandsAt}
 use Rattle.rules.specs.Programs.{Operand, register, value, inner, Stmt, gone, instr, label, variable, comment, org, bytes, words, argsOf, lastOf, onLast}
 use Rattle.rules.specs.Rewriting.{ofInner, everyInnerLabel}
 use Rattle.rules.specs.Statements.{argAt, argumentAt, operandAt}
-use Rattle.listing.specs.Tables.{frameAt}
 use Rattle.slots.specs.Slots.{Slots, noOwner, slotAt, programOf, targetOf, kindOf, Sound}
 use Rattle.slots.proofs.Frames.{InstrFrame}
 use Rattle.patterns.specs.declared.InnerLabel.{InnerLabel}

@@ -1,25 +1,25 @@
 -- What the instruction in a slot is: its form, its operands, and as a transfer its target, which reads where the frame says.
 use mathlib.Core.Path.{_≡_, refl, sym, ap, _∙_}
 use mathlib.Core.List.{List, [], _∷_}
-use mathlib.Core.Option.{Option, none, some}
-use mathlib.Core.Bool.{Bool, true, false, cond}
+use mathlib.Core.Option.{some}
+use mathlib.Core.Bool.{Bool, true, false}
 use mathlib.Core.Logic.{⊎-elim}
-use Prim.Native.Nat.{ℕ, zero, suc, _+_, _-_, _≤_, _<_}
+use Prim.Native.Nat.{ℕ, suc, _-_, _≤_, _<_}
 use native.Mathlib.Omega.{arith}
-use lib.Dec.{eqb, ltb}
-use lib.ListN.{length, getD, drop}
-use borrow.Author.Tests.{eq-eqb, ne-eqb, lt-ltb, le-ltb, lt-leb, le-leb}
+use lib.Dec.{eqb}
+use lib.ListN.{length, getD}
+use borrow.Author.Tests.{ne-eqb, lt-ltb, le-ltb, lt-leb, le-leb}
 use Rattle.laws.specs.Options.{isSome, given, bind}
 use Rattle.laws.proofs.Tests.{false-true, true-false, cond-true, cond-false, eq-or-not}
 use Rattle.rules.specs.declared.Kind.{Kind}
 use Rattle.rules.specs.declared.Kind.the-variants.{Reg, I8, D9, Bit, Rel8, A12, A16, Rel16}
-use Rattle.rules.specs.Expressions.{Expr, got, readExpr}
+use Rattle.rules.specs.Expressions.{Expr}
 use Rattle.rules.specs.Forms.{formAt, isAddress, endsInAddress, isTransfer, isUnconditional, operandsAt}
-use Rattle.rules.specs.Programs.{Operand, register, value, inner, Stmt, gone, instr, label, variable, comment, org, bytes, words, Instruction, onInstr, asInstr, asLabel, argsOf, lastOf, onLast}
+use Rattle.rules.specs.Programs.{Operand, register, value, inner, Stmt, gone, instr, label, variable, comment, org, bytes, words, Instruction, asInstr, asLabel, argsOf, lastOf, onLast}
 use Rattle.rules.specs.Rewriting.{branch, unconditional, localLabel}
 use Rattle.rules.specs.Statements.{argAt, argumentAt, exprAt, operandAt}
 use Rattle.listing.specs.Tables.{frameAt, inputAt, Held}
-use Rattle.slots.specs.Slots.{Slots, slots, goneForm, noOwner, written, targetOf, aimedAt, reformed, slotAt, kindOf, isReg, WroteTarget, Sound}
+use Rattle.slots.specs.Slots.{Slots, slots, goneForm, noOwner, written, targetOf, aimedAt, slotAt, kindOf, isReg, Sound}
 use Rattle.slots.proofs.Frames.{InstrFrame, Left, Reads, frame-of}
 use Rattle.slots.proofs.Operands.{OperandRead, OperandsRead, operands-read}
 use Rattle.slots.proofs.Tables.{frame-is}
@@ -27,7 +27,6 @@ use Rattle.slots.proofs.Slots.{slot-gone, kind-kept, kind-read, slot-instr, not
 use Rattle.instruction.proofs.Rows.{has-target}
 use Rattle.patterns.proofs.Programs.{at-program}
 use Rattle.patterns.specs.Targets.{standsAt, formIn, instrAt, labelAs, TargetIn, lastBytes}
-use Rattle.patterns.specs.Matches.{Moves}
 use Rattle.patterns.specs.declared.LocalLabel.the-variants.{Name, Nothing}
 
 -- ---- a statement by its form
@@ -305,6 +304,3 @@ module _ (frames starts : List ℕ) (count : ℕ) (forms carry owners offsets ot
         carried = λ i l e m. let w = s .carried i l (sym (kind-any i) ∙ e) m in record { inside = w .inside; instruction = w .instruction; transfer = w .transfer };
         owned = s .owned;
       }
-
-  pub moves-any : (j : ℕ) → Moves these j → Moves those j
-  moves-any j m = record { inside = m .inside; kind = kind-any j ∙ m .kind; transfer = m .transfer }

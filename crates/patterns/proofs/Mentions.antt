@@ -2,7 +2,7 @@
 use mathlib.Core.Path.{_≡_, refl, sym, ap, ap₂, _∙_}
 use mathlib.Core.List.{List, [], _∷_}
 use mathlib.Core.Bool.{Bool, true, false, cond}
-use Prim.Native.Nat.{ℕ, zero, suc, _+_, _-_, _*_, _≤_, _<_}
+use Prim.Native.Nat.{ℕ, zero, suc, _+_, _-_, _≤_, _<_}
 use native.Mathlib.Omega.{arith}
 use lib.Dec.{eqb}
 use lib.ListN.{length, getD, drop, take}
@@ -13,8 +13,6 @@ use Rattle.laws.proofs.Tests.{false-true, cond-le}
 use Rattle.laws.proofs.Counts.{total-by, sum-ext}
 use Rattle.rules.specs.declared.Kind.{Kind}
 use Rattle.rules.specs.declared.Kind.the-variants.{Reg, I8, D9, Bit, Rel8, A12, A16, Rel16}
-use Rattle.rules.specs.declared.Op1.{Op1}
-use Rattle.rules.specs.declared.Op2.{Op2}
 use Rattle.rules.specs.declared.Tag.{Tag}
 use Rattle.rules.specs.declared.Tag.the-variants.{Number, Name, Two, One, Bad}
 use Rattle.rules.specs.Expressions.{Expr, readExpr, parse, byTag, tagOf, mentions, nameOf}

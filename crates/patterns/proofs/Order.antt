@@ -11,7 +11,7 @@ use Rattle.laws.proofs.Lists.{every-at, getD-map-in}
 use Rattle.laws.proofs.Tests.{false-true, and-true}
 use Rattle.rules.specs.Forms.{formAt, isTransfer, operandsAt}
 use Rattle.rules.specs.Rewriting.{Pattern, inverted, trampoline, patterns}
-use Rattle.slots.specs.Slots.{goneForm, isReg, Agree}
+use Rattle.slots.specs.Slots.{goneForm, isReg}
 use Rattle.patterns.specs.declared.Pattern.{Pattern as Tried}
 use Rattle.patterns.specs.declared.Pattern.the-variants.{Inverted, Trampoline}
 use Rattle.patterns.specs.Order.{patternAt, patternOf, Known}

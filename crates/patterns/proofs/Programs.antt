@@ -1,10 +1,10 @@
 -- The program that the tables hold, by place: as many statements as counted, each as its slot has it, and nothing behind.
-use mathlib.Core.Path.{_≡_, refl, sym, ap, _∙_}
+use mathlib.Core.Path.{_≡_, refl}
 use mathlib.Core.Bool.{Bool, false, not, cond}
-use Prim.Native.Nat.{ℕ, _+_, _-_, _≤_, _<_}
+use Prim.Native.Nat.{ℕ, _-_, _≤_, _<_}
 use native.Mathlib.Omega.{arith}
 use lib.Dec.{eqb}
-use lib.ListN.{length, getD}
+use lib.ListN.{length}
 use Rattle.laws.specs.Counts.{scan}
 use Rattle.laws.proofs.Counts.{length-tab, getD-tab, scan-bound}
 use Rattle.laws.proofs.Stores.{get-out}

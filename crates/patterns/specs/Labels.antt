@@ -1,7 +1,6 @@
 -- The inner label that the target in a slot is, and tests of it.
 use mathlib.Core.Bool.{Bool, true}
 use Prim.Native.Nat.{ℕ, _<_}
-use Rattle.rules.specs.declared.Place.{Place}
 use Rattle.rules.specs.Programs.{Placeℕ, Operand, register, value, inner, argsOf, lastOf}
 use Rattle.slots.specs.Slots.{Slots, slotAt}
 use Rattle.patterns.specs.declared.InnerLabel.{InnerLabel}

@@ -6,7 +6,7 @@ use mathlib.Core.Option.{none, some}
 use Prim.Native.Nat.{ℕ, suc, _<_}
 use lib.ListN.{getD, set}
 use Rattle.rules.specs.Forms.{isTransfer}
-use Rattle.rules.specs.Programs.{Placeℕ, at}
+use Rattle.rules.specs.Programs.{Placeℕ}
 use Rattle.rules.specs.Rewriting.{next, branch, unconditional, localLabel, aimed, candidate, dropAll, invertedAt, trampolineAt}
 use Rattle.slots.specs.Slots.{Slots, slotAt, programOf, kindOf}
 use Rattle.patterns.specs.declared.Inverted.{Inverted}

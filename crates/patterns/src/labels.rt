@@ -14,7 +14,7 @@ ghost use lib.Dec.{eqb, leb, ltb};
 ghost use Rattle.rules.specs.Programs.{byteCount};
 ghost use Rattle.rules.specs.Rewriting.{everyInnerLabel, noInnerLabelBetween, noInteriorLabelAt};
 ghost use Rattle.listing.specs.Tables.{Held};
-ghost use Rattle.slots.specs.Slots.{slots, slotAt, programOf, Sound};
+ghost use Rattle.slots.specs.Slots.{slots, programOf, Sound};
 ghost use Rattle.patterns.specs.Labels.{labelAt, ofLabel, OwnerIn};
 ghost use Rattle.patterns.specs.Targets.{standsAt};
 

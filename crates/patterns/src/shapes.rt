@@ -19,12 +19,11 @@ ghost use lib.Dec.{eqb};
 ghost use lib.ListN.{getD};
 ghost use Rattle.rules.specs.Forms.{isTransfer};
 ghost use Rattle.rules.specs.Names.{contextAt};
-ghost use Rattle.rules.specs.Rewriting.{namesBare, noInnerLabelBetween, noInteriorLabelAt};
+ghost use Rattle.rules.specs.Rewriting.{noInnerLabelBetween, noInteriorLabelAt};
 ghost use Rattle.rules.specs.Rewriting.{references as referencesOf};
 ghost use Rattle.listing.specs.Tables.{Held};
 ghost use Rattle.slots.specs.Slots.{slots, programOf, Sound};
-ghost use Rattle.patterns.specs.Targets.{instrAt};
-ghost use Rattle.patterns.specs.Matches.{Moves, JumpAfter, LandingAfter, OpeningIs, InvertedIs, TrampolineIs};
+ghost use Rattle.patterns.specs.Matches.{JumpAfter, LandingAfter, OpeningIs, InvertedIs, TrampolineIs};
 
 // The place of an unconditional.
 enum Jump {
@@ -114,28 +113,19 @@ fn is_free(
     owners: &[u16; 1024],
     offsets: &[u16; 1024],
     at: Place,
-    last: Place,
+    m: Place,
 ) -> bool
     requires { ⌜ Sound (slots (now frames) (now starts) count (now forms) (now carry) (now owners) (now offsets)) ⌝ }
-    ensures { λ r. ⌜ r ≡ noInnerLabelBetween (programOf (slots (now (frames .entry)) (now (starts .entry)) count (now (forms .entry)) (now (carry .entry)) (now (owners .entry)) (now (offsets .entry)))) (at .0) (last .0) && noInteriorLabelAt (programOf (slots (now (frames .entry)) (now (starts .entry)) count (now (forms .entry)) (now (carry .entry)) (now (owners .entry)) (now (offsets .entry)))) (at .0) ⌝ }
+    ensures { λ r. ⌜ r ≡ noInnerLabelBetween (programOf (slots (now (frames .entry)) (now (starts .entry)) count (now (forms .entry)) (now (carry .entry)) (now (owners .entry)) (now (offsets .entry)))) (at .0) (m .0) && noInteriorLabelAt (programOf (slots (now (frames .entry)) (now (starts .entry)) count (now (forms .entry)) (now (carry .entry)) (now (owners .entry)) (now (offsets .entry)))) (at .0) ⌝ }
 {
-    if no_inner_label_between(
-        frames,
-        starts,
-        count,
-        forms,
-        carry,
-        owners,
-        offsets,
-        at,
-        last,
-    ) {
+    if no_inner_label_between(frames, starts, count, forms, carry, owners, offsets, at, m) {
         return no_interior_label_at(frames, starts, count, forms, carry, owners, offsets, at);
     }
     false
 }
 
-// "Inverted: branch, unconditional, local label that the branch names bare." `from` is the form of the branch.
+// "Inverted: branch, unconditional, local label that the branch names bare." `from` is the form of the branch; m is the place
+// of the label, n its name.
 pub fn inverted_at(
     frames: &[u8],
     starts: &[u16; 1025],
@@ -150,30 +140,20 @@ pub fn inverted_at(
     requires { ⌜ Sound (slots (now frames) (now starts) count (now forms) (now carry) (now owners) (now offsets)) × (at .0 < count) × (isTransfer from ≡ true) ⌝ }
     ensures { λ r. ⌜ InvertedIs (slots (now (frames .entry)) (now (starts .entry)) count (now (forms .entry)) (now (carry .entry)) (now (owners .entry)) (now (offsets .entry))) from (at .0) r ⌝ }
 {
-    let Opening::At(jump, label, n) = opening_at(frames, starts, count, forms, from, at) else {
+    let Opening::At(jump, m, n) = opening_at(frames, starts, count, forms, from, at) else {
         return Inverted::Nothing;
     };
     if !names_bare(frames, starts, count, carry, owners, at, n) {
         return Inverted::Nothing;
     }
-    if is_free(
-        frames,
-        starts,
-        count,
-        forms,
-        carry,
-        owners,
-        offsets,
-        at,
-        label,
-    ) {
-        return Inverted::At(jump, label);
+    if is_free(frames, starts, count, forms, carry, owners, offsets, at, m) {
+        return Inverted::At(jump, m);
     }
     Inverted::Nothing
 }
 
-// The branch names T bare, the unconditional behind it names S bare, and "T has exactly one reference in the whole listing".
-fn is_bounce(
+// "T has exactly one reference in the whole listing": the label n at a place.
+fn referred_once(
     frames: &[u8],
     starts: &[u16; 1025],
     count: usize,
@@ -182,37 +162,18 @@ fn is_bounce(
     owners: &[u16; 1024],
     contexts: &[u16; 1024],
     at: Place,
-    skip: Place,
-    target: Place,
-    t: u16,
-    s: u16,
+    n: u16,
 ) -> bool
-    requires { ⌜ (target .0 < count) × ((offsets : List ℕ) → Sound (slots (now frames) (now starts) count (now forms) (now carry) (now owners) offsets) × Moves (slots (now frames) (now starts) count (now forms) (now carry) (now owners) offsets) (at .0) × Moves (slots (now frames) (now starts) count (now forms) (now carry) (now owners) offsets) (skip .0)) ⌝ }
-    ensures { λ r. ⌜ ((offsets : List ℕ) → ((i : ℕ) → i < count → getD (now (contexts .entry)) i 0 ≡ contextAt (programOf (slots (now (frames .entry)) (now (starts .entry)) count (now (forms .entry)) (now (carry .entry)) (now (owners .entry)) offsets)) i) → r ≡ namesBare t (instrAt (slots (now (frames .entry)) (now (starts .entry)) count (now (forms .entry)) (now (carry .entry)) (now (owners .entry)) offsets) (at .0)) && (namesBare s (instrAt (slots (now (frames .entry)) (now (starts .entry)) count (now (forms .entry)) (now (carry .entry)) (now (owners .entry)) offsets) (skip .0)) && eqb (referencesOf (contextAt (programOf (slots (now (frames .entry)) (now (starts .entry)) count (now (forms .entry)) (now (carry .entry)) (now (owners .entry)) offsets)) (target .0)) t (programOf (slots (now (frames .entry)) (now (starts .entry)) count (now (forms .entry)) (now (carry .entry)) (now (owners .entry)) offsets))) 1)) ⌝ }
+    requires { ⌜ (at .0 < count) × ((offsets : List ℕ) → Sound (slots (now frames) (now starts) count (now forms) (now carry) (now owners) offsets)) ⌝ }
+    ensures { λ r. ⌜ ((offsets : List ℕ) → ((i : ℕ) → i < count → getD (now (contexts .entry)) i 0 ≡ contextAt (programOf (slots (now (frames .entry)) (now (starts .entry)) count (now (forms .entry)) (now (carry .entry)) (now (owners .entry)) offsets)) i) → r ≡ eqb (referencesOf (contextAt (programOf (slots (now (frames .entry)) (now (starts .entry)) count (now (forms .entry)) (now (carry .entry)) (now (owners .entry)) offsets)) (at .0)) n (programOf (slots (now (frames .entry)) (now (starts .entry)) count (now (forms .entry)) (now (carry .entry)) (now (owners .entry)) offsets))) 1) ⌝ }
 {
-    if !names_bare(frames, starts, count, carry, owners, at, t) {
-        return false;
-    }
-    if !names_bare(frames, starts, count, carry, owners, skip, s) {
-        return false;
-    }
-    let i = target.0;
-    let context = contexts[i];
-    references(
-        frames,
-        starts,
-        count,
-        forms,
-        carry,
-        owners,
-        contexts,
-        context,
-        t,
-    )
-        == 1
+    let i = at.0;
+    let k = contexts[i];
+    references(frames, starts, count, forms, carry, owners, contexts, k, n) == 1
 }
 
-// "Trampoline: branch to bare local T, unconditional to bare local S, T, unconditional, S". `form` is that of the branch.
+// "Trampoline: branch to bare local T, unconditional to bare local S, T, unconditional, S". `form` is that of the branch; t and s are
+// the places of T and S, n and m their names.
 pub fn trampoline_at(
     frames: &[u8],
     starts: &[u16; 1025],
@@ -228,43 +189,26 @@ pub fn trampoline_at(
     requires { ⌜ Sound (slots (now frames) (now starts) count (now forms) (now carry) (now owners) (now offsets)) × ((i : ℕ) → i < count → getD (now contexts) i 0 ≡ contextAt (programOf (slots (now frames) (now starts) count (now forms) (now carry) (now owners) (now offsets))) i) × (at .0 < count) × (isTransfer form ≡ true) ⌝ }
     ensures { λ r. ⌜ TrampolineIs (slots (now (frames .entry)) (now (starts .entry)) count (now (forms .entry)) (now (carry .entry)) (now (owners .entry)) (now (offsets .entry))) form (at .0) r ⌝ }
 {
-    let Opening::At(skip, target, t) = opening_at(frames, starts, count, forms, form, at) else {
+    let Opening::At(skip, t, n) = opening_at(frames, starts, count, forms, form, at) else {
         return Trampoline::Nothing;
     };
-    let Jump::At(last) = jump_after(frames, starts, count, forms, target) else {
+    let Jump::At(last) = jump_after(frames, starts, count, forms, t) else {
         return Trampoline::Nothing;
     };
-    let Landing::At(label, s) = landing_after(frames, starts, count, forms, last) else {
+    let Landing::At(s, m) = landing_after(frames, starts, count, forms, last) else {
         return Trampoline::Nothing;
     };
-    if !is_bounce(
-        frames,
-        starts,
-        count,
-        forms,
-        carry,
-        owners,
-        contexts,
-        at,
-        skip,
-        target,
-        t,
-        s,
-    ) {
+    if !names_bare(frames, starts, count, carry, owners, at, n) {
         return Trampoline::Nothing;
     }
-    if is_free(
-        frames,
-        starts,
-        count,
-        forms,
-        carry,
-        owners,
-        offsets,
-        at,
-        label,
-    ) {
-        return Trampoline::At(skip, target, last, label);
+    if !names_bare(frames, starts, count, carry, owners, skip, m) {
+        return Trampoline::Nothing;
+    }
+    if !referred_once(frames, starts, count, forms, carry, owners, contexts, t, n) {
+        return Trampoline::Nothing;
+    }
+    if is_free(frames, starts, count, forms, carry, owners, offsets, at, s) {
+        return Trampoline::At(skip, t, last, s);
     }
     Trampoline::Nothing
 }

@@ -1,11 +1,11 @@
 -- `checking::encode_all` meets its contract. The invariant: the answer is that of the slots from i on.
-use mathlib.Core.Path.{_≡_, refl, sym, ap, _∙_}
-use Prim.Native.Nat.{ℕ, suc, _+_, _-_, _<_, _≤_}
+use mathlib.Core.Path.{_≡_, sym, ap, _∙_}
+use Prim.Native.Nat.{_-_, _≤_}
 use native.Mathlib.Numerals.{add-one}
 use native.Mathlib.Omega.{arith}
 use borrow.Author.Needs.{needs}
 use Rattle.image.specs.Tables.{Tables, tables}
-use Rattle.image.specs.Encoding.{encodeAt, encodeSlots, checkedAs}
+use Rattle.image.specs.Encoding.{encodeSlots, checkedAs}
 use Rattle.image.proofs.Passes.{fromSlot, from-start, from-end, slot-passes, slot-refused}
 use Rattle.image.proofs.checking.encode_all.Statement.{statement}
 use Rattle.image.proofs.checking.encode_all.Tie as tie

@@ -18,10 +18,9 @@ use Rattle.slots.specs.Slots.{slotAt, aimedAt, written}
 use Rattle.image.specs.declared.Encoded.the-variants.{Is}
 use Rattle.image.specs.Tables.{Tables, tables, program, operandAt}
 use Rattle.image.specs.Encoding.{fieldOf, encodeAt, encodedAs}
-use Rattle.image.proofs.Answers.{field-ok, field-no}
 use Rattle.image.proofs.Operands.{slot-is, count-args}
 use Rattle.image.proofs.Worths.{end-low}
-use Rattle.image.proofs.Fields.{leftOf, left-start, left-ok, left-no, left-end, code-is}
+use Rattle.image.proofs.Fields.{field-ok, field-no, leftOf, left-start, left-ok, left-no, left-end, code-is}
 use Rattle.image.proofs.codes.encode_at.Statement.{statement}
 use Rattle.image.proofs.codes.encode_at.Tie as tie
 
@@ -93,7 +92,7 @@ loop-holds c =
       left-start (d .entries) p (place s) (contextAt p (place s)) (c .after .result .0) (form s) (getD (s .args .carry .now) (place s) 0) q
           (aimedAt (d .slots) (form s) (getD (s .args .carry .now) (place s) 0) (argsOf (written (d .slots) (place s)))) (slotAt (d .slots) (place s)) (0 ∷ 0 ∷ 0 ∷ [])
           (slot-is (d .slots) (s .pre .0 .sound .held) (place s) (s .pre .1) (s .pre .2))
-          (ends-at c ∙ ap (λ n. n + sizeAt (form s)) (s .pre .0 .place (place s) (omega (arith, s .pre .1)))),
+          (ends-at c ∙ ap (λ n. n + sizeAt (form s)) (s .pre .0 .position (place s) (omega (arith, s .pre .1)))),
     )
 
 -- there is an argument j

@@ -1,6 +1,6 @@
 -- `data::check_items` meets its contract. The invariant: the answer is that of the items from j on.
 use mathlib.Core.Path.{_≡_, refl, sym, ap, _∙_}
-use mathlib.Core.List.{List, [], _++_}
+use mathlib.Core.List.{List, _++_}
 use Prim.Native.Nat.{ℕ, suc, _+_, _-_, _<_, _≤_}
 use native.Mathlib.Numerals.{add-one}
 use native.Mathlib.Omega.{arith}
@@ -12,9 +12,9 @@ use Rattle.rules.specs.Expressions.{Expr, num}
 use Rattle.rules.specs.Names.{Entry}
 use Rattle.rules.specs.Judging.{items}
 use Rattle.expression.specs.Environment.{entriesOf}
-use Rattle.image.specs.declared.Checked.the-variants.{Refused}
 use Rattle.image.specs.Encoding.{itemsIn, boundOf, itemOf, checkedAs}
-use Rattle.image.proofs.Answers.{bind-ok, bind-no, field-ok, field-no}
+use Rattle.image.proofs.Answers.{bind-ok, bind-no}
+use Rattle.image.proofs.Fields.{field-ok, field-no}
 use Rattle.image.proofs.Items.{data-in, items-more, items-end}
 use Rattle.image.proofs.Passes.{checked-then}
 use Rattle.image.proofs.data.check_items.Statement.{statement}

@@ -2,17 +2,17 @@
 use mathlib.Core.Path.{_≡_, sym, ap, _∙_}
 use mathlib.Core.Bool.{true}
 use mathlib.Core.List.{List, []}
-use Prim.Native.Nat.{ℕ, _<_, _≤_}
+use Prim.Native.Nat.{ℕ, _<_}
 use native.Mathlib.Omega.{arith}
 use lib.Dec.{eqb}
-use lib.ListN.{length, getD}
+use lib.ListN.{getD}
 use borrow.Author.Needs.{needs}
-use Rattle.rules.specs.Forms.{isTransfer, operandsAt}
+use Rattle.rules.specs.Forms.{isTransfer}
 use Rattle.rules.specs.Names.{Entry}
 use Rattle.expression.specs.Environment.{entriesOf}
 use Rattle.listing.specs.Tables.{frameAt}
 use Rattle.laws.proofs.Tests.{and-true}
-use Rattle.slots.specs.Slots.{Slots, slots, targetOf, worthIn, noOwner, Agree, WroteTarget}
+use Rattle.slots.specs.Slots.{Slots, slots, targetOf, worthIn, Agree}
 use Rattle.image.specs.Tables.{isTarget, operandIn, Aims}
 use Rattle.image.proofs.Operands.{slot-in, count-kinds, operand-target, operand-own}
 use Rattle.image.proofs.worth.argument_worth.Statement.{statement}
@@ -46,11 +46,11 @@ low s = omega (arith, s .pre .0 .2, s .pre .0 .0 .held .few)
 element-copy-out-form : tie.Need-element-copy-out-form
 element-copy-out-form c = low (c .before)
 
-element-copy-out-wide : tie.Need-element-copy-out-wide
-element-copy-out-wide c = low (c .before .before .before .before)
+carried-requires : tie.Need-carried-requires
+carried-requires c κs = low (c .before .before .before .before)
 
 element-copy-out-target-worth : tie.Need-element-copy-out-target-worth
-element-copy-out-target-worth c = low (c .before .before .before .before .before .before)
+element-copy-out-target-worth c = low (c .before .before .before .before .before)
 
 -- the target is carried from a place that wrote one
 aims : (s : tie.Start) → isTarget (form s) (s .args .j) ≡ true
@@ -67,18 +67,18 @@ aims s q =
 target-worth-requires : tie.Need-target-worth-requires
 target-worth-requires c κs =
     let w = c .before in
-    let i = w .before .before in
+    let i = w .before in
     let s = i .before .before .before .before in
-    rw (w .wide .ensures) (aims s (sym (i .before .is-target .ensures) ∙ i .if1 .taken))
+    rw (w .carried .ensures) (aims s (sym (i .before .is-target .ensures) ∙ i .if1 .taken))
 
 returns : tie.Need-returns
 returns c =
     let w = c .before .before in
-    let i = w .before .before in
+    let i = w .before in
     let s = i .before .before .before .before in
     let target = targetOf (here s) in
     c .target-worth .ensures (s .args .forms .now) (s .args .carry .now)
-    ∙ ap (λ n. worthIn (seen s) (s .args .positions .now) (context s) (target n)) (w .wide .ensures)
+    ∙ ap (λ n. worthIn (seen s) (s .args .positions .now) (context s) (target n)) (w .carried .ensures)
     ∙ sym
     (ap (worthIn (seen s) (s .args .positions .now) (context s))
     (operand-target (here s) (s .pre .0 .0 .held) (s .args .at .0) (s .pre .0 .2) (s .pre .1 .0) (agrees s) (s .args .j) (sym (i .before .is-target .ensures) ∙ i .if1 .taken)))
@@ -117,9 +117,7 @@ argument-worth-spec =
     (tie.spec
     element-copy-out-form
     (λ c κs. search needs)
-    (λ c. search needs)
-    element-copy-out-wide
-    (λ c κs. search needs)
+    carried-requires
     (λ c. search needs)
     element-copy-out-target-worth
     target-worth-requires

@@ -1,7 +1,7 @@
 -- `worth::target_worth` meets its contract: an owner says that the target became an inner label; else it is its frame's last argument.
-use mathlib.Core.Path.{_≡_, refl, sym, ap, _∙_}
+use mathlib.Core.Path.{_≡_, sym, ap, _∙_}
 use mathlib.Core.List.{List, []}
-use Prim.Native.Nat.{ℕ, _+_, _-_, _<_, _≤_}
+use Prim.Native.Nat.{ℕ, _+_, _-_, _<_}
 use native.Mathlib.Omega.{arith}
 use lib.IntN.{pos}
 use lib.ListN.{length, getD}
@@ -11,7 +11,7 @@ use Rattle.rules.specs.Forms.{operandsAt}
 use Rattle.rules.specs.Names.{Entry}
 use Rattle.expression.specs.Environment.{entriesOf}
 use Rattle.listing.specs.Tables.{frameAt}
-use Rattle.slots.specs.Slots.{Slots, slots, worthIn, noOwner, InstrIn, WroteTarget}
+use Rattle.slots.specs.Slots.{Slots, slots, worthIn, InstrIn, WroteTarget}
 use Rattle.slots.proofs.Operands.{instr-in}
 use Rattle.instruction.proofs.Rows.{has-target}
 use Rattle.image.specs.Tables.{operandIn}

@@ -1,13 +1,13 @@
 -- `writing::image_length` meets its contract. The invariant: nothing of the image is left from slot i on.
-use mathlib.Core.Path.{_≡_, refl, sym, ap, _∙_}
+use mathlib.Core.Path.{_≡_, ap, _∙_}
 use mathlib.Core.List.{List}
-use Prim.Native.Nat.{ℕ, suc, _+_, _-_, _≤_, _<_}
+use Prim.Native.Nat.{ℕ, suc, _-_, _≤_, _<_}
 use native.Mathlib.Numerals.{add-one}
 use native.Mathlib.Omega.{arith}
 use lib.IntN.{ℤ}
 use lib.ListN.{getD}
 use borrow.Author.Needs.{needs}
-use Rattle.image.specs.Tables.{Tables, tables, program}
+use Rattle.image.specs.Tables.{Tables, tables}
 use Rattle.image.specs.Image.{imageOf}
 use Rattle.image.proofs.Images.{image-is, Done, done-end, done-more, length-found, length-none}
 use Rattle.image.proofs.writing.image_length.Statement.{statement}
@@ -65,7 +65,7 @@ returns c carry owners offsets names contexts values ready fine =
     let n = slot z in
     c .address .ensures
     ∙ ap (λ m. getD (s .args .positions .now) m 0) (add-one n)
-    ∙ ready .place (suc n) (omega (arith, within z))
+    ∙ ready .position (suc n) (omega (arith, within z))
     ∙ length-found d ready (imageOf d) (image-is d fine) n (within z) (omega (arith, z .size-at .ensures carry owners offsets, c .before .before .if1 .taken))
     (done-next z carry owners offsets names contexts values)
 

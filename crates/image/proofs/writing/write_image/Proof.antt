@@ -12,7 +12,7 @@ use Rattle.image.specs.Encoding.{encodeSlots}
 use Rattle.image.specs.Image.{imageOf, put}
 use Rattle.image.proofs.Passes.{ok-same, fromSlot, from-start, from-end}
 use Rattle.image.proofs.Rooms.{roomOf, room-length, room-start, room-end}
-use Rattle.image.proofs.Images.{image-is, rest-short, slot-fits, Laid, laid}
+use Rattle.image.proofs.Images.{image-is, rest-short, slot-fits, laid}
 use Rattle.image.proofs.writing.write_image.Statement.{statement}
 use Rattle.image.proofs.writing.write_image.Tie as tie
 

@@ -1,7 +1,7 @@
 -- `writing::write_item` meets its contract: a byte is the value itself, a word its low byte and then its high byte.
-use mathlib.Core.Path.{_≡_, sym, ap, _∙_}
-use mathlib.Core.List.{List, [], _∷_}
-use Prim.Native.Nat.{ℕ, suc, _+_, _%_, _/_, _≤_, _<_}
+use mathlib.Core.Path.{sym, ap, _∙_}
+use mathlib.Core.List.{List}
+use Prim.Native.Nat.{ℕ, _+_, _%_, _/_, _≤_, _<_}
 use native.Mathlib.Nat.{mod-eq-of-lt}
 use native.Mathlib.Numerals.{add-one}
 use native.Mathlib.Omega.{arith}
@@ -12,7 +12,6 @@ use borrow.Author.Needs.{needs}
 use borrow.Author.Tests.{eq-eqb, ne-eqb}
 use Rattle.laws.proofs.Tests.{cond-true, cond-false, cond-both}
 use Rattle.rules.specs.Encoding.{byte, word}
-use Rattle.image.specs.Encoding.{boundOf, writeOf}
 use Rattle.image.specs.Image.{put, widthOf}
 use Rattle.image.proofs.writing.write_item.Statement.{statement}
 use Rattle.image.proofs.writing.write_item.Tie as tie
@@ -21,16 +20,16 @@ some : (kind : ℕ) → 1 ≤ widthOf kind
 some kind = cond-both (λ n. 1 ≤ n) (eqb kind 6) 1 2 (omega arith) (omega arith)
 
 slice-write-image : tie.Need-slice-write-image
-slice-write-image c = let s = c .before .before in omega (arith, s .pre .0, some (s .args .kind))
+slice-write-image c = let s = c .before .before .before in omega (arith, s .pre .0, some (s .args .kind))
 
 returns : tie.Need-returns
 returns c =
     let s = c .before .before .before in
     let room = s .args .image .now in
-    let is = eq-eqb (s .args .kind) 6 (c .if1 .taken) in
+    let is = eq-eqb (s .args .kind) 6 (c .before .if1 .taken) in
     let small : s .args .v < 256 = rw (cond-true {A = ℕ} (eqb (s .args .kind) 6) 256 65536 is) at (s .pre .1) in
     let fits : s .args .q + 1 ≤ length room = omega (arith, s .pre .0, some (s .args .kind)) in
-    ap (set room (s .args .q)) (c .before .low .ensures ∙ mod-eq-of-lt small)
+    ap (set room (s .args .q)) (c .low .ensures ∙ mod-eq-of-lt small)
     ∙ sets-eq (byte (s .args .v)) room (s .args .q) fits
     ∙ ap (λ (write : ℕ → List ℕ). put room (s .args .q) (write (s .args .v))) (sym (cond-true (eqb (s .args .kind) 6) byte word is))
 
@@ -38,13 +37,16 @@ returns c =
 two : (c : tie.After-high) → let s = c .before .before .before .before in s .args .q + 2 ≤ length (s .args .image .now)
 two c =
     let s = c .before .before .before .before in
-    rw (cond-false {A = ℕ} (eqb (s .args .kind) 6) 1 2 (ne-eqb (s .args .kind) 6 (c .before .if1 .left))) at (s .pre .0)
+    rw (cond-false {A = ℕ} (eqb (s .args .kind) 6) 1 2 (ne-eqb (s .args .kind) 6 (c .before .before .if1 .left))) at (s .pre .0)
 
 add-image : tie.Need-add-image
 add-image c = record { fits = omega (arith, two c) }
 
 slice-write-image-2 : tie.Need-slice-write-image-2
-slice-write-image-2 c = simp length-set (omega (arith, two c))
+slice-write-image-2 c = omega (arith, two c)
+
+slice-write-image-3 : tie.Need-slice-write-image-3
+slice-write-image-3 c = simp length-set (omega (arith, two c))
 
 returns-2 : tie.Need-returns-2
 returns-2 c =
@@ -52,8 +54,8 @@ returns-2 c =
     let room = s .args .image .now in
     let q = s .args .q in
     let v = s .args .v in
-    let not = ne-eqb (s .args .kind) 6 (c .before .if1 .left) in
-    ap (λ b. set (set room q b) (q + 1) (c .high .result)) (c .before .before .low .ensures)
+    let not = ne-eqb (s .args .kind) 6 (c .before .before .if1 .left) in
+    ap (λ b. set (set room q b) (q + 1) (c .high .result)) (c .before .low2 .ensures)
     ∙ ap (λ b. set (set room q (v % 256)) (q + 1) b) (c .high .ensures)
     ∙ ap (λ n. set (set room q (v % 256)) n (v / 256)) (add-one q)
     ∙ sets-eq (word v) room q (two c)
@@ -68,7 +70,9 @@ write-item-spec =
     (λ c. search needs)
     returns
     (λ c κs. search needs)
-    add-image
+    (λ c κs. search needs)
     slice-write-image-2
+    add-image
+    slice-write-image-3
     (λ c. search needs)
     returns-2)

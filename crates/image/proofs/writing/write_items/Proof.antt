@@ -19,7 +19,8 @@ use Rattle.rules.proofs.Laws.{no-ok}
 use Rattle.expression.specs.Environment.{entriesOf}
 use Rattle.image.specs.Encoding.{itemsIn, boundOf, writeOf, itemOf}
 use Rattle.image.specs.Image.{put, widthOf}
-use Rattle.image.proofs.Answers.{bind-ok, bind-no, bind-ext, bind-id, bind-bind, field-ok, field-no}
+use Rattle.image.proofs.Answers.{bind-ok, bind-no, bind-ext, bind-id, bind-bind}
+use Rattle.image.proofs.Fields.{field-ok, field-no}
 use Rattle.image.proofs.Items.{data-in, item-small, items-more, items-end}
 use Rattle.image.proofs.Passes.{ok-same}
 use Rattle.image.proofs.Rooms.{put-none, length-put, put-more}

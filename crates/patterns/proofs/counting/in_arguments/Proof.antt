@@ -1,9 +1,8 @@
 -- `patterns::counting::in_arguments` meets its contract: one argument more at each turn.
-use mathlib.Core.Path.{_≡_, refl, sym, ap, _∙_}
-use Prim.Native.Nat.{ℕ, _+_, _-_, _*_, _≤_, _<_}
+use mathlib.Core.Path.{_≡_, refl, ap, _∙_}
+use Prim.Native.Nat.{ℕ, _-_, _*_, _≤_, _<_}
 use lib.ListN.{length, getD, take}
 use native.Mathlib.Omega.{arith}
-use borrow.Author.Needs.{needs}
 use Rattle.laws.specs.Lists.{total}
 use Rattle.laws.proofs.Lists.{total-more}
 use Rattle.instruction.proofs.Numbers.{few-operands}

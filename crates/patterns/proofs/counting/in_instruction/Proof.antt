@@ -2,7 +2,7 @@
 use mathlib.Core.Path.{_≡_, sym, subst, ap, ap₂, _∙_}
 use mathlib.Core.Bool.{true}
 use mathlib.Core.List.{List, []}
-use Prim.Native.Nat.{ℕ, _+_, _-_, _*_, _≤_, _<_}
+use Prim.Native.Nat.{ℕ, _+_, _-_, _≤_}
 use lib.ListN.{length, getD, take}
 use native.Mathlib.Omega.{arith}
 use borrow.Author.Needs.{needs}
@@ -10,13 +10,13 @@ use Rattle.laws.specs.Lists.{total}
 use Rattle.rules.specs.Forms.{isTransfer, operandsAt}
 use Rattle.rules.specs.Programs.{argsOf, inOperand}
 use Rattle.listing.specs.Tables.{frameAt}
-use Rattle.slots.specs.Slots.{Slots, slots, slotAt, targetOf, kindOf, InstrIn, Sound}
+use Rattle.slots.specs.Slots.{Slots, slots, targetOf, InstrIn}
 use Rattle.slots.proofs.Operands.{instr-in}
 use Rattle.instruction.proofs.Numbers.{few-operands}
 use Rattle.instruction.proofs.Rows.{has-target}
 use Rattle.patterns.specs.Mentions.{times, readAs}
 use Rattle.patterns.specs.Targets.{TargetIn}
-use Rattle.patterns.proofs.Instructions.{carried-target, own-some}
+use Rattle.patterns.proofs.Instructions.{carried-target}
 use Rattle.patterns.proofs.Mentions.{instr-here, in-own, in-aimed}
 use Rattle.patterns.proofs.counting.in_instruction.Statement.{statement}
 use Rattle.patterns.proofs.counting.in_instruction.Tie as tie

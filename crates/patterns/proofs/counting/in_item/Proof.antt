@@ -1,6 +1,6 @@
 -- `patterns::counting::in_item` meets its contract: an item reads where it begins.
-use mathlib.Core.Path.{_≡_, sym, ap, _∙_}
-use Prim.Native.Nat.{ℕ, _<_, _≤_}
+use mathlib.Core.Path.{ap, _∙_}
+use Prim.Native.Nat.{ℕ, _<_}
 use lib.IntN.{pos}
 use lib.ListN.{length, getD, drop}
 use native.Mathlib.Omega.{arith}

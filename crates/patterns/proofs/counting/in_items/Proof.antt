@@ -1,11 +1,10 @@
 -- `patterns::counting::in_items` meets its contract: one item more at each turn, 16 at most.
 use mathlib.Core.Path.{_≡_, refl, sym, ap, _∙_}
-use Prim.Native.Nat.{ℕ, _+_, _-_, _*_, _≤_, _<_}
+use Prim.Native.Nat.{ℕ, _-_, _*_, _≤_, _<_}
 use lib.IntN.{pos}
-use lib.ListN.{length, getD, take}
+use lib.ListN.{length, take}
 use lib.Seq.{take-length}
 use native.Mathlib.Omega.{arith}
-use borrow.Author.Needs.{needs}
 use Rattle.laws.specs.Lists.{total}
 use Rattle.laws.proofs.Lists.{total-more}
 use Rattle.rules.specs.Expressions.{num}

@@ -1,12 +1,11 @@
 -- `patterns::labels::fits_owner` meets its contract: an owner is a statement of the program.
-use mathlib.Core.Path.{_≡_, sym, ap, _∙_}
-use mathlib.Core.List.{List}
+use mathlib.Core.Path.{sym, ap, _∙_}
 use Prim.Native.Nat.{ℕ, _<_}
 use lib.Dec.{ltb}
 use borrow.Author.Needs.{needs}
 use Rattle.rules.specs.Programs.{byteCount}
 use Rattle.slots.specs.Slots.{slots}
-use Rattle.patterns.specs.Labels.{ofLabel, OwnerIn}
+use Rattle.patterns.specs.Labels.{ofLabel}
 use Rattle.patterns.specs.Targets.{standsAt}
 use Rattle.patterns.proofs.Programs.{at-program}
 use Rattle.patterns.proofs.labels.fits_owner.Statement.{statement}

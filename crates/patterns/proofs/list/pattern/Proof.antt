@@ -1,5 +1,5 @@
 -- `patterns::list::pattern` meets its contract: the table is the list.
-use mathlib.Core.Path.{_≡_, sym, subst}
+use mathlib.Core.Path.{sym, subst}
 use borrow.Author.Needs.{needs}
 use Rattle.patterns.specs.declared.Pattern.the-variants.{Inverted}
 use Rattle.patterns.specs.Order.{Known}

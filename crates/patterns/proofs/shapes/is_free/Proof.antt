@@ -1,6 +1,5 @@
 -- `patterns::shapes::is_free` meets its contract.
-use mathlib.Core.Path.{_≡_, sym, _∙_}
-use borrow.Author.Needs.{needs}
+use mathlib.Core.Path.{sym, _∙_}
 use Rattle.laws.proofs.Tests.{and-left, first-false}
 use Rattle.patterns.proofs.shapes.is_free.Statement.{statement}
 use Rattle.patterns.proofs.shapes.is_free.Tie as tie

@@ -1,10 +1,9 @@
 -- `patterns::shapes::jump_after` meets its contract.
 use mathlib.Core.Path.{_≡_, sym, ap, _∙_}
 use mathlib.Core.List.{List}
-use Prim.Native.Nat.{ℕ, suc, _+_, _≤_, _<_}
+use Prim.Native.Nat.{ℕ, suc, _<_}
 use native.Mathlib.Numerals.{add-one}
 use native.Mathlib.Omega.{arith}
-use borrow.Author.Needs.{needs}
 use Rattle.laws.proofs.Options.{said-none}
 use Rattle.rules.specs.Rewriting.{unconditional, next as nextPlace}
 use Rattle.slots.specs.Slots.{Slots, slots, programOf}

@@ -1,15 +1,14 @@
 -- `patterns::shapes::opening_at` meets its contract: where one of the three is missing, neither shape is there.
-use mathlib.Core.Path.{_≡_, sym, _∙_}
-use mathlib.Core.Option.{none}
+use mathlib.Core.Path.{sym, _∙_}
 use mathlib.Core.List.{List, []}
-use Prim.Native.Nat.{ℕ, suc}
+use Prim.Native.Nat.{ℕ}
 use borrow.Author.Needs.{needs}
 use borrow.Author.Tests.{not-true, not-false}
 use Rattle.laws.proofs.Options.{said-none}
 use Rattle.rules.specs.Rewriting.{branch}
 use Rattle.slots.specs.Slots.{Slots, slots, programOf}
 use Rattle.patterns.specs.Targets.{standsAt}
-use Rattle.patterns.specs.Matches.{JumpFound, LandingFound}
+use Rattle.patterns.specs.Matches.{JumpFound}
 use Rattle.patterns.proofs.Folds.{transfer-known, branch-slot, jump-found, jump-none, landing-found, landing-none, inverted-no-branch, inverted-no-jump, inverted-no-label, trampoline-no-branch, trampoline-no-skip, trampoline-no-target}
 use Rattle.patterns.proofs.shapes.opening_at.Statement.{statement}
 use Rattle.patterns.proofs.shapes.opening_at.Tie as tie

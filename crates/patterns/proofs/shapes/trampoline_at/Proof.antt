@@ -1,21 +1,22 @@
 -- `patterns::shapes::trampoline_at` meets its contract: each way out is a way in which the definition has none, or its candidate.
 use mathlib.Core.Path.{_≡_, sym, _∙_}
 use mathlib.Core.Bool.{Bool, _&&_}
-use mathlib.Core.List.{List, [], _∷_}
+use mathlib.Core.List.{[], _∷_}
 use Prim.Native.Nat.{ℕ}
 use lib.Dec.{eqb}
-use lib.ListN.{set}
+use lib.ListN.{getD, set}
 use borrow.Author.Needs.{needs}
 use borrow.Author.Tests.{not-true, not-false}
 use Rattle.laws.specs.Options.{given}
 use Rattle.laws.proofs.Options.{given-true, given-false}
+use Rattle.laws.proofs.Tests.{and-both, first-false, second-false}
 use Rattle.rules.specs.Names.{contextAt}
 use Rattle.rules.specs.Programs.{Program}
 use Rattle.rules.specs.Rewriting.{namesBare, references, noInnerLabelBetween, noInteriorLabelAt, trampolineAt, aimed, candidate, dropAll}
 use Rattle.slots.specs.Slots.{Slots, slots, programOf}
-use Rattle.patterns.specs.Targets.{instrAt}
-use Rattle.patterns.specs.Matches.{JumpFound, LandingFound, OpeningFound}
-use Rattle.patterns.proofs.Instructions.{sound-any, moves-any}
+use Rattle.patterns.specs.Targets.{instrAt, TargetIn}
+use Rattle.patterns.specs.Matches.{Moves, JumpFound, LandingFound, OpeningFound}
+use Rattle.patterns.proofs.Instructions.{carried-target, sound-any}
 use Rattle.patterns.proofs.Folds.{opening-found, opening-none, jump-found, jump-none, landing-found, landing-none, trampoline-no-last, trampoline-no-label, trampoline-is}
 use Rattle.patterns.proofs.shapes.trampoline_at.Statement.{statement}
 use Rattle.patterns.proofs.shapes.trampoline_at.Tie as tie
@@ -52,13 +53,13 @@ module _ (c : tie.After-skip) where
   abbrev skip : ℕ
   skip = c .skip .given .0 .0 .0
 
-  abbrev target : ℕ
-  target = c .skip .given .0 .1 .0 .0
+  abbrev place-t : ℕ
+  place-t = c .skip .given .0 .1 .0 .0
 
-  abbrev t : ℕ
-  t = c .skip .given .0 .1 .1 .0
+  abbrev name-t : ℕ
+  name-t = c .skip .given .0 .1 .1 .0
 
-  opens : OpeningFound (over start) (start .args .form) i skip target t
+  opens : OpeningFound (over start) (start .args .form) i skip place-t name-t
   opens =
       opening-found (over start) i (start .args .form) (c .skip .given .1)
       (c .before .before .opening-at .ensures (start .args .carry .now) (start .args .owners .now) (start .args .offsets .now))
@@ -77,8 +78,8 @@ returns-2 c =
     let a = c .before .before in
     let o = a .before .before in
     let s = start o in
-    trampoline-no-last (s .args .form) (program o) (i o) (skip o) (opens o .jumps .next-is) (target o) (opens o .lands .next-is)
-    (jump-none (over s) (target o) (c .enum-told2 .given .1) (a .jump-after .ensures (s .args .carry .now) (s .args .owners .now) (s .args .offsets .now)))
+    trampoline-no-last (s .args .form) (program o) (i o) (skip o) (opens o .jumps .next-is) (place-t o) (opens o .lands .next-is)
+    (jump-none (over s) (place-t o) (c .enum-told2 .given .1) (a .jump-after .ensures (s .args .carry .now) (s .args .owners .now) (s .args .offsets .now)))
 
 -- the last unconditional
 module _ (c : tie.After-last) where
@@ -88,16 +89,16 @@ module _ (c : tie.After-last) where
   abbrev last : ℕ
   last = c .last .given .0 .0 .0
 
-  jumps : JumpFound (over (start opening)) (target opening) last
+  jumps : JumpFound (over (start opening)) (place-t opening) last
   jumps =
       let s = start opening in
-      jump-found (over s) (target opening) (c .last .given .1) (c .before .before .jump-after .ensures (s .args .carry .now) (s .args .owners .now) (s .args .offsets .now))
+      jump-found (over s) (place-t opening) (c .last .given .1) (c .before .before .jump-after .ensures (s .args .carry .now) (s .args .owners .now) (s .args .offsets .now))
 
 landing-after-requires : tie.Need-landing-after-requires
 landing-after-requires c κs = let a = c .before in (start (opening a) .pre .0 .held, jumps a .moves .inside)
 
-enum-known-label : tie.Need-enum-known-label
-enum-known-label c = search needs
+enum-known-s : tie.Need-enum-known-s
+enum-known-s c = search needs
 
 enum-told-3 : tie.Need-enum-told-3
 enum-told-3 c = search needs
@@ -108,11 +109,11 @@ returns-3 c =
     let a = l .before .before in
     let o = opening a in
     let s = start o in
-    trampoline-no-label (s .args .form) (program o) (i o) (skip o) (opens o .jumps .next-is) (target o) (opens o .lands .next-is) (last a) (jumps a .next-is)
+    trampoline-no-label (s .args .form) (program o) (i o) (skip o) (opens o .jumps .next-is) (place-t o) (opens o .lands .next-is) (last a) (jumps a .next-is)
     (landing-none (over s) (last a) (c .enum-told3 .given .1) (l .landing-after .ensures (s .args .carry .now) (s .args .owners .now) (s .args .offsets .now)))
 
 -- S: the whole shape
-module _ (c : tie.After-label) where
+module _ (c : tie.After-s) where
   abbrev a : tie.After-last
   a = c .before .before .before .before
 
@@ -122,69 +123,108 @@ module _ (c : tie.After-label) where
   abbrev begin : tie.Start
   begin = start o
 
-  abbrev label : ℕ
-  label = c .label .given .0 .0 .0
+  abbrev place-s : ℕ
+  place-s = c .s .given .0 .0 .0
 
-  abbrev s : ℕ
-  s = c .label .given .0 .1 .0
+  abbrev name-s : ℕ
+  name-s = c .s .given .0 .1 .0
 
-  lands : LandingFound (over begin) (last a) label s
+  lands : LandingFound (over begin) (last a) place-s name-s
   lands =
-      landing-found (over begin) (last a) (c .label .given .1)
+      landing-found (over begin) (last a) (c .s .given .1)
       (c .before .before .landing-after .ensures (begin .args .carry .now) (begin .args .owners .now) (begin .args .offsets .now))
 
-  abbrev bounce : Bool
-  bounce =
-      namesBare (t o) (instrAt (over begin) (i o))
-      && (namesBare s (instrAt (over begin) (skip o)) && eqb (references (contextAt (program o) (target o)) (t o) (program o)) 1)
+  -- the three tests of names, and that of inner labels
+  abbrev to-t : Bool
+  to-t = namesBare (name-t o) (instrAt (over begin) (i o))
+
+  abbrev to-s : Bool
+  to-s = namesBare name-s (instrAt (over begin) (skip o))
+
+  abbrev once : Bool
+  once = eqb (references (contextAt (program o) (place-t o)) (name-t o) (program o)) 1
 
   abbrev free : Bool
-  free = noInnerLabelBetween (program o) (i o) label && noInteriorLabelAt (program o) (i o)
+  free = noInnerLabelBetween (program o) (i o) place-s && noInteriorLabelAt (program o) (i o)
 
   abbrev folded : Program
-  folded = dropAll (skip o ∷ target o ∷ last a ∷ []) (set (program o) (i o) (aimed (begin .args .form) (instrAt (over begin) (i o)) (instrAt (over begin) (last a))))
+  folded = dropAll (skip o ∷ place-t o ∷ last a ∷ []) (set (program o) (i o) (aimed (begin .args .form) (instrAt (over begin) (i o)) (instrAt (over begin) (last a))))
 
-  shape : trampolineAt (begin .args .form) (program o) (i o) ≡ given bounce (given free (candidate folded))
+  shape : trampolineAt (begin .args .form) (program o) (i o) ≡ given (to-t && (to-s && once)) (given free (candidate folded))
   shape =
-      trampoline-is (begin .args .form) (program o) (i o) (skip o) (opens o .jumps .next-is) (target o) (opens o .lands .next-is) (last a) (jumps a .next-is) label (lands .next-is)
-      (instrAt (over begin) (i o)) (instrAt (over begin) (skip o)) (instrAt (over begin) (last a)) (t o) s
+      trampoline-is (begin .args .form) (program o) (i o) (skip o) (opens o .jumps .next-is) (place-t o) (opens o .lands .next-is) (last a) (jumps a .next-is) place-s (lands .next-is)
+      (instrAt (over begin) (i o)) (instrAt (over begin) (skip o)) (instrAt (over begin) (last a)) (name-t o) name-s
       (opens o .is) (opens o .jumps .is) (opens o .lands .is) (jumps a .is) (lands .is)
 
-is-bounce-requires : tie.Need-is-bounce-requires
-is-bounce-requires c κs =
-    let l = c .before in
-    let x = begin l .args in
-    let f = opens (o l) in (
-      f .lands .inside,
-      λ others. (
-        sound-any _ _ _ _ _ _ (x .offsets .now) others (begin l .pre .0),
-        moves-any (x .frames .now) (x .starts .now) (x .count) (x .forms .now) (x .carry .now) (x .owners .now) (x .offsets .now) others (i (o l)) (f .branches),
-        moves-any (x .frames .now) (x .starts .now) (x .count) (x .forms .now) (x .carry .now) (x .owners .now) (x .offsets .now) others (skip (o l)) (f .jumps .moves),
-      ),
-    )
+  -- what a transfer carries
+  carries : (j : ℕ) → Moves (over begin) j → TargetIn (begin .args .frames .now) (begin .args .starts .now) (begin .args .count) (getD (begin .args .carry .now) j 0)
+  carries j m = carried-target (over begin) (begin .pre .0) j (m .inside) (m .kind) (m .transfer)
 
--- the test, as the definition has it
-tested : (c : tie.After-is-bounce) → c .is-bounce .result ≡ bounce (c .before .before)
-tested c = let l = c .before .before in c .is-bounce .ensures (begin l .args .offsets .now) (begin l .pre .1)
+names-bare-requires : tie.Need-names-bare-requires
+names-bare-requires c κs = let l = c .before in (begin l .pre .0 .held, begin l .pre .2, carries l (i (o l)) (opens (o l) .branches))
+
+tested-t : (c : tie.After-names-bare) → c .names-bare .result ≡ to-t (c .before .before)
+tested-t c =
+    let l = c .before .before in
+    let m = opens (o l) .branches in
+    c .names-bare .ensures (begin l .args .forms .now) (begin l .args .offsets .now) (begin l .pre .0) (m .kind) (m .transfer)
 
 returns-4 : tie.Need-returns-4
 returns-4 c =
-    let b = c .before in
-    let l = b .before .before in
-    shape l ∙ given-false (bounce l) _ (sym (tested b) ∙ not-true _ (c .if1 .taken))
+    let l = c .before .before .before in
+    shape l ∙ given-false _ _ (first-false (to-t l) _ (sym (tested-t (c .before)) ∙ not-true _ (c .if1 .taken)))
 
-is-free-requires : tie.Need-is-free-requires
-is-free-requires c κs = begin (c .before .before .before) .pre .0
+names-bare-requires-2 : tie.Need-names-bare-requires-2
+names-bare-requires-2 c κs =
+    let l = c .before .before .before in
+    let m = opens (o l) .jumps .moves in
+    (begin l .pre .0 .held, m .inside, carries l (skip (o l)) m)
 
--- it bounces
-bouncing : (c : tie.After-is-free) → let l : tie.After-label = c .before .before .before .before in
-    trampolineAt (begin l .args .form) (program (o l)) (i (o l)) ≡ given (free l) (candidate (folded l))
-bouncing c = let l = c .before .before .before .before in shape l ∙ given-true (bounce l) _ (sym (tested (c .before .before)) ∙ not-false _ (c .before .if1 .left))
+tested-s : (c : tie.After-names-bare2) → c .names-bare2 .result ≡ to-s (c .before .before .before .before)
+tested-s c =
+    let l = c .before .before .before .before in
+    let m = opens (o l) .jumps .moves in
+    c .names-bare2 .ensures (begin l .args .forms .now) (begin l .args .offsets .now) (begin l .pre .0) (m .kind) (m .transfer)
 
 returns-5 : tie.Need-returns-5
 returns-5 c =
+    let n = c .before in
+    let l = n .before .before .before .before in
+    shape l ∙ given-false _ _ (second-false (to-t l) _ (first-false (to-s l) _ (sym (tested-s n) ∙ not-true _ (c .if2 .taken))))
+
+referred-once-requires : tie.Need-referred-once-requires
+referred-once-requires c κs =
+    let l = c .before .before .before .before .before in
+    (opens (o l) .lands .inside, λ others. sound-any _ _ _ _ _ _ (begin l .args .offsets .now) others (begin l .pre .0))
+
+tested-once : (c : tie.After-referred-once) → c .referred-once .result ≡ once (c .before .before .before .before .before .before)
+tested-once c = let l = c .before .before .before .before .before .before in c .referred-once .ensures (begin l .args .offsets .now) (begin l .pre .1)
+
+returns-6 : tie.Need-returns-6
+returns-6 c =
+    let r = c .before in
+    let l = r .before .before .before .before .before .before in
+    shape l ∙ given-false _ _ (second-false (to-t l) _ (second-false (to-s l) (once l) (sym (tested-once r) ∙ not-true _ (c .if3 .taken))))
+
+is-free-requires : tie.Need-is-free-requires
+is-free-requires c κs = begin (c .before .before .before .before .before .before .before) .pre .0
+
+-- the names are as they should be
+bouncing : (c : tie.After-is-free) → let l : tie.After-s = c .before .before .before .before .before .before .before .before in
+    trampolineAt (begin l .args .form) (program (o l)) (i (o l)) ≡ given (free l) (candidate (folded l))
+bouncing c =
+    let r = c .before .before in
+    let n = r .before .before in
+    let l = n .before .before .before .before in
+    shape l
+    ∙ given-true _ _
+    (and-both (to-t l) _ (sym (tested-t (n .before .before)) ∙ not-false _ (n .before .if1 .left))
+    (and-both (to-s l) (once l) (sym (tested-s n) ∙ not-false _ (r .before .if2 .left)) (sym (tested-once r) ∙ not-false _ (c .before .if3 .left))))
+
+returns-7 : tie.Need-returns-7
+returns-7 c =
     let f = c .before in
-    let l = f .before .before .before .before in
+    let l = f .before .before .before .before .before .before .before .before in
     let b = opens (o l) in
     record {
       skip-rises = b .jumps .rises;
@@ -196,14 +236,14 @@ returns-5 c =
       form = b .form;
       skips = b .jumps .moves;
       jumps = jumps (a l) .moves;
-      fold = bouncing f ∙ given-true (free l) _ (sym (f .is-free .ensures) ∙ c .if2 .taken);
+      fold = bouncing f ∙ given-true (free l) _ (sym (f .is-free .ensures) ∙ c .if4 .taken);
     }
 
-returns-6 : tie.Need-returns-6
-returns-6 c =
+returns-8 : tie.Need-returns-8
+returns-8 c =
     let f = c .before in
-    let l = f .before .before .before .before in
-    bouncing f ∙ given-false (free l) _ (sym (f .is-free .ensures) ∙ c .if2 .left)
+    let l = f .before .before .before .before .before .before .before .before in
+    bouncing f ∙ given-false (free l) _ (sym (f .is-free .ensures) ∙ c .if4 .left)
 
 pub trampoline-at-spec : {M : Type 1} → statement M
 trampoline-at-spec =
@@ -218,11 +258,15 @@ trampoline-at-spec =
     enum-told-2
     returns-2
     landing-after-requires
-    enum-known-label
+    enum-known-s
     enum-told-3
     returns-3
-    is-bounce-requires
+    names-bare-requires
     returns-4
-    is-free-requires
+    names-bare-requires-2
     returns-5
-    returns-6)
+    referred-once-requires
+    returns-6
+    is-free-requires
+    returns-7
+    returns-8)

@@ -1,13 +1,11 @@
 -- `patterns::significance::next` meets its contract: the loop is the search, whatever the tables on which no kind depends.
-use mathlib.Core.Path.{_≡_, refl, sym, ap, _∙_}
+use mathlib.Core.Path.{_≡_, sym, ap, _∙_}
 use mathlib.Core.List.{List}
 use mathlib.Core.Bool.{not}
-use Prim.Native.Nat.{ℕ, _+_, _-_, _≤_, _<_}
+use Prim.Native.Nat.{ℕ, _-_}
 use native.Mathlib.Omega.{arith}
-use borrow.Author.Needs.{needs}
 use Rattle.laws.specs.Counts.{scan}
 use Rattle.laws.proofs.Counts.{scan-hit, scan-miss, scan-end}
-use Rattle.rules.specs.Programs.{at}
 use Rattle.rules.specs.Rewriting.{insignificant, next as nextPlace}
 use Rattle.slots.specs.Slots.{Slots, slots, programOf}
 use Rattle.patterns.proofs.Programs.{at-program, significantAt, next-starts}

@@ -1,7 +1,5 @@
 -- `patterns::targets::branch_at` meets its contract: a branch is known by its form.
-use mathlib.Core.Path.{_≡_, sym, ap, _∙_}
-use mathlib.Core.List.{List}
-use Prim.Native.Nat.{ℕ}
+use mathlib.Core.Path.{sym, ap, _∙_}
 use lib.Dec.{eqb}
 use borrow.Author.Needs.{needs}
 use Rattle.slots.specs.Slots.{slots}

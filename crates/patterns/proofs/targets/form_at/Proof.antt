@@ -1,10 +1,10 @@
 -- `patterns::targets::form_at` meets its contract: an instruction's form is the table's, and of nothing else is there one.
-use mathlib.Core.Path.{_≡_, sym, ap, _∙_}
+use mathlib.Core.Path.{sym, ap, _∙_}
 use mathlib.Core.List.{List}
-use Prim.Native.Nat.{ℕ, _<_, _≤_}
+use Prim.Native.Nat.{ℕ}
 use native.Mathlib.Omega.{arith}
 use borrow.Author.Needs.{needs}
-use Rattle.slots.specs.Slots.{Slots, slots, slotAt, kindOf}
+use Rattle.slots.specs.Slots.{Slots, slots, slotAt}
 use Rattle.patterns.specs.Targets.{formIn}
 use Rattle.patterns.proofs.Programs.{at-program, past-program}
 use Rattle.patterns.proofs.Instructions.{not-instr, slot-form}

@@ -1,12 +1,12 @@
 -- `patterns::targets::is_bare_target` meets its contract: the target is an inner label, or reads where the frame says.
-use mathlib.Core.Path.{_≡_, sym, ap, _∙_}
+use mathlib.Core.Path.{sym, ap, _∙_}
 use mathlib.Core.List.{List}
-use Prim.Native.Nat.{ℕ, _<_, _≤_}
+use Prim.Native.Nat.{ℕ}
 use native.Mathlib.Omega.{arith}
 use borrow.Author.Needs.{needs}
 use Rattle.rules.specs.Expressions.{readExpr}
 use Rattle.rules.specs.Rewriting.{bareIn}
-use Rattle.slots.specs.Slots.{Slots, slots, noOwner}
+use Rattle.slots.specs.Slots.{Slots, slots}
 use Rattle.patterns.proofs.Instructions.{target-reads, target-inner, target-written}
 use Rattle.patterns.proofs.targets.is_bare_target.Statement.{statement}
 use Rattle.patterns.proofs.targets.is_bare_target.Tie as tie

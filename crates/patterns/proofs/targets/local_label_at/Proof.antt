@@ -1,11 +1,10 @@
 -- `patterns::targets::local_label_at` meets its contract: "Names 8000 and up are local".
-use mathlib.Core.Path.{_≡_, refl, sym, ap, _∙_}
+use mathlib.Core.Path.{_≡_, sym, ap, _∙_}
 use mathlib.Core.List.{List, []}
-use Prim.Native.Nat.{ℕ, _<_, _≤_}
-use lib.ListN.{length}
+use Prim.Native.Nat.{ℕ}
 use native.Mathlib.Omega.{arith}
 use borrow.Author.Needs.{needs}
-use Rattle.rules.specs.Programs.{Stmt, label}
+use Rattle.rules.specs.Programs.{label}
 use Rattle.rules.specs.Rewriting.{localLabel}
 use Rattle.rules.specs.Statements.{pairAt}
 use Rattle.listing.specs.Tables.{frameAt}

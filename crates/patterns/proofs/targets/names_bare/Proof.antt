@@ -1,12 +1,9 @@
 -- `patterns::targets::names_bare` meets its contract: the last operand of a transfer is the target that it carries.
-use mathlib.Core.Path.{_≡_, sym, ap, _∙_}
-use mathlib.Core.List.{List}
-use Prim.Native.Nat.{ℕ, _<_, _≤_}
-use lib.ListN.{getD}
+use mathlib.Core.Path.{sym, ap, _∙_}
+use Prim.Native.Nat.{ℕ}
 use native.Mathlib.Omega.{arith}
-use borrow.Author.Needs.{needs}
 use Rattle.rules.specs.Rewriting.{bareIn, namesBare}
-use Rattle.slots.specs.Slots.{Slots, slots, targetOf}
+use Rattle.slots.specs.Slots.{slots, targetOf}
 use Rattle.patterns.proofs.Instructions.{last-target}
 use Rattle.patterns.proofs.targets.names_bare.Statement.{statement}
 use Rattle.patterns.proofs.targets.names_bare.Tie as tie

@@ -1,7 +1,7 @@
 -- `patterns::targets::target_in` meets its contract: a transfer's target is the last argument of its frame.
-use mathlib.Core.Path.{_≡_, sym, ap, _∙_}
+use mathlib.Core.Path.{_≡_, ap, _∙_}
 use mathlib.Core.List.{List}
-use Prim.Native.Nat.{ℕ, _+_, _-_, _≤_, _<_}
+use Prim.Native.Nat.{ℕ, _-_, _≤_, _<_}
 use native.Mathlib.Omega.{arith}
 use lib.ListN.{length, getD, drop}
 use borrow.Author.Needs.{needs}
@@ -9,7 +9,6 @@ use Rattle.laws.proofs.Stores.{rest-is}
 use Rattle.rules.specs.Forms.{operandsAt}
 use Rattle.rules.specs.Statements.{argumentAt}
 use Rattle.listing.specs.Tables.{frameAt}
-use Rattle.slots.specs.Slots.{InstrIn}
 use Rattle.patterns.specs.Targets.{lastBytes}
 use Rattle.patterns.proofs.Instructions.{target-frame, target-count, target-inside}
 use Rattle.patterns.proofs.targets.target_in.Statement.{statement}

@@ -1,7 +1,5 @@
 -- `patterns::targets::unconditional_at` meets its contract: an unconditional is known by its form.
-use mathlib.Core.Path.{_≡_, sym, ap, _∙_}
-use mathlib.Core.List.{List}
-use Prim.Native.Nat.{ℕ}
+use mathlib.Core.Path.{sym, ap, _∙_}
 use borrow.Author.Needs.{needs}
 use Rattle.rules.specs.Forms.{isUnconditional}
 use Rattle.slots.specs.Slots.{slots}
