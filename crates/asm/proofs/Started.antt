@@ -1,0 +1,93 @@
+-- The slots of a listing as read: each place has its own form and its own target, and no target became an inner label. They hold the listing's
+-- statements, and all that is asked of slots is known of them.
+use mathlib.Core.Path.{_≡_, refl, sym, ap, _∙_}
+use mathlib.Core.List.{List, [], _∷_, map}
+use mathlib.Core.Bool.{Bool, true, false, cond}
+use Prim.Native.Nat.{ℕ, zero, suc, _≤_, _<_}
+use native.Mathlib.Omega.{arith}
+use lib.Dec.{eqb, ltb}
+use lib.ListN.{getD, length}
+use borrow.Author.Tests.{eq-eqb, ne-eqb, le-ltb}
+use Rattle.laws.proofs.Counts.{tab-ext}
+use Rattle.rules.specs.Forms.{isTransfer, operandsAt}
+use Rattle.rules.specs.Programs.{Operand, register, Stmt, instr, Instruction, onInstr, argsOf, lastOf, onLast}
+use Rattle.listing.specs.Tables.{frameAt, inputAt, inputOf, Held}
+use Rattle.slots.specs.Slots.{Slots, slots, goneForm, noOwner, written, targetOf, aimedAt, slotAt, programOf, kindOf, isReg, Agree, WroteTarget, Sound}
+use Rattle.slots.proofs.Frames.{Frame, InstrFrame, ofInstr, ofLabel, ofVariable, ofComment, ofOrg, ofBytes, ofWords}
+use Rattle.slots.proofs.Tables.{frame-is}
+use Rattle.slots.proofs.Slots.{slot-instr, slot-other, kind-kept, kind-read, written-frame}
+use Rattle.asm.specs.Starting.{formIn}
+
+-- the last operand put in its own place
+last-again : (xs : List Operand) → onLast (λ old. lastOf xs) xs ≡ xs
+last-again [] = refl
+last-again (x ∷ []) = refl
+last-again (x ∷ y ∷ xs) = ap (λ l. x ∷ l) (last-again (y ∷ xs))
+
+module _ (frames starts : List ℕ) (n : ℕ) (h : Held frames starts n) (forms carry owners offsets : List ℕ)
+    (own : (i : ℕ) → i < n → getD forms i 0 ≡ formIn (frameAt frames starts i))
+    (mine : (i : ℕ) → i < n → getD carry i 0 ≡ i)
+    (free : (c : ℕ) → c < n → getD owners c 0 ≡ noOwner) where
+  abbrev t : Slots
+  t = slots frames starts n forms carry owners offsets
+
+  abbrev s : ℕ → List ℕ
+  s i = frameAt frames starts i
+
+  -- the form of an instruction is its own; any other statement's is 0
+  own-form : (i : ℕ) → i < n → getD (s i) 0 0 ≡ 1 → getD forms i 0 ≡ getD (s i) 1 0
+  own-form i l k = own i l ∙ rw (eq-eqb (getD (s i) 0 0) 1 k)
+
+  no-form : (i : ℕ) → i < n → (getD (s i) 0 0 ≡ 1 → ⊥) → getD forms i 0 ≡ 0
+  no-form i l k = own i l ∙ rw (ne-eqb (getD (s i) 0 0) 1 k)
+
+  -- the target of a place is the one that was written there
+  own-target : (c : ℕ) → c < n → targetOf t c ≡ lastOf (argsOf (written t c))
+  unfolding targetOf
+  own-target c l = rw (free c l)
+
+  slot-instruction : (i : ℕ) → i < n → InstrFrame i (s i) (written t i) → slotAt t i ≡ written t i
+  slot-instruction i l f =
+      let e = own-form i l (f .kind) in
+      let stays : getD forms i 0 ≡ goneForm → ⊥ = λ g. omega (arith, f .known) in
+      slot-instr t i (getD (s i) 1 0) (f .args) i stays (f .is)
+      ∙ rw (mine i l, e)
+      (ap (λ xs. instr (getD (s i) 1 0) xs i) (aimed (isTransfer (getD (s i) 1 0))) ∙ sym (f .is))
+    where
+      aimed : (b : Bool) → cond b (onLast (λ old. targetOf t i) (f .args)) (f .args) ≡ f .args
+      aimed true = ap (λ x. onLast (λ old. x) (f .args)) (own-target i l ∙ ap (λ w. lastOf (argsOf w)) (f .is)) ∙ last-again (f .args)
+      aimed false = refl
+
+  slot-plain : (i : ℕ) → i < n → (getD (s i) 0 0 ≡ 1 → ⊥) → slotAt t i ≡ written t i
+  slot-plain i l k =
+      let e = no-form i l k in
+      slot-other t i (λ g. omega arith) (λ o. k (sym (kind-read i (s i) (written t i) (frame-is frames starts n h i l)) ∙ o))
+
+  pub slot-as-read : (i : ℕ) → i < n → slotAt t i ≡ inputAt frames starts i
+  slot-as-read i l = on (frame-is frames starts n h i l)
+    where
+      on : Frame i (s i) (written t i) → slotAt t i ≡ written t i
+      on (ofInstr f) = slot-instruction i l f
+      on (ofLabel f) = slot-plain i l (λ e. omega (arith, f .kind))
+      on (ofVariable f) = slot-plain i l (λ e. omega (arith, f .kind))
+      on (ofComment f) = slot-plain i l (λ e. omega (arith, f .kind))
+      on (ofOrg f) = slot-plain i l (λ e. omega (arith, f .kind))
+      on (ofBytes f) = slot-plain i l (λ e. omega (arith, f .kind))
+      on (ofWords f) = slot-plain i l (λ e. omega (arith, f .kind))
+
+  -- the slots hold the listing's statements
+  pub program-as-read : programOf t ≡ inputOf frames starts n
+  unfolding programOf inputOf
+  program-as-read = tab-ext (slotAt t) (inputAt frames starts) n slot-as-read
+
+  pub sound-start : Sound t
+  sound-start =
+      record {
+        held = h;
+        forms = λ i l k. (let f = written-frame t h i l 0 k in let e = own-form i l (f .kind) in record { known = omega (arith, f .known); registers = rw e; transfer = rw e });
+        carried = λ i l k x.
+            (let f = written-frame t h i l 0 k in
+            rw (mine i l)
+            (record { inside = l; instruction = ap kindOf (f .is); transfer = rw (own-form i l (f .kind)) at x }));
+        owned = λ c l o. absurd (omega (arith, free c l));
+      }
