@@ -1,0 +1,2 @@
+-- What the entries answer and leave in the lent rooms.
+pub mod Assembling

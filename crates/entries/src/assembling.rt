@@ -1,0 +1,181 @@
+// A listing is read, judged as it stands, and its image written. Each phase declares the tables that it fills and hands them on.
+use asm::Verdict;
+use asm::judge;
+use asm::start_carry;
+use asm::start_forms;
+use env::fill_contexts;
+use image::image_length;
+use image::write_image;
+use listing::Listed;
+use listing::read_listing;
+use rules::Answer;
+use rules::Refusal;
+use rules::Sizes;
+ghost use mathlib.Core.Path.{_≡_};
+ghost use mathlib.Core.Bool.{true};
+ghost use lib.ListN.{length};
+ghost use Rattle.rules.specs.Answers.{isOk};
+ghost use Rattle.rules.specs.Run.{assembled};
+ghost use Rattle.listing.specs.Tables.{inputOf, Held};
+ghost use Rattle.env.specs.Tables.{Any};
+ghost use Rattle.slots.specs.Slots.{slots, programOf, Sound};
+ghost use Rattle.image.specs.Tables.{tables, Ready};
+ghost use Rattle.image.specs.Encoding.{encodeSlots};
+ghost use Rattle.asm.specs.Assembling.{Placed};
+ghost use Rattle.entries.specs.Assembling.{Leaves, imageIn, fitted};
+
+// The image of slots that encode, if the room holds it.
+fn finish(
+    frames: &[u8],
+    starts: &[u16; 1025],
+    count: usize,
+    forms: &[u8; 1024],
+    carry: &[u16; 1024],
+    owners: &[u16; 1024],
+    offsets: &[u16; 1024],
+    names: &[u32; 1024],
+    contexts: &[u16; 1024],
+    values: &[i32; 1024],
+    positions: &[u32; 1025],
+    image: &mut [u8],
+) -> Answer
+    requires { ⌜ Ready (tables (now frames) (now starts) count (now forms) (now carry) (now owners) (now offsets) (now names) (now contexts) (now values) (now positions)) × (isOk (encodeSlots (tables (now frames) (now starts) count (now forms) (now carry) (now owners) (now offsets) (now names) (now contexts) (now values) (now positions))) ≡ true) ⌝ }
+    ensures { λ r. ⌜ Leaves (fitted count (length (now (image .entry))) (encodeSlots (tables (now (frames .entry)) (now (starts .entry)) count (now (forms .entry)) (now (carry .entry)) (now (owners .entry)) (now (offsets .entry)) (now (names .entry)) (now (contexts .entry)) (now (values .entry)) (now (positions .entry))))) r (now (image .entry)) (now (image .exit)) ⌝ }
+{
+    let n = image_length(frames, starts, count, forms, positions);
+    if image.len() < n {
+        return Answer::Refused(Refusal::Room(count));
+    }
+    write_image(
+        frames,
+        starts,
+        count,
+        forms,
+        carry,
+        owners,
+        offsets,
+        names,
+        contexts,
+        values,
+        positions,
+        image,
+    );
+    Answer::Done(Sizes {
+        listing: 0,
+        rewrites: 0,
+        image: n,
+    })
+}
+
+// Judges the slots, and writes their image.
+fn judge_slots(
+    frames: &[u8],
+    starts: &[u16; 1025],
+    count: usize,
+    forms: &[u8; 1024],
+    carry: &[u16; 1024],
+    owners: &[u16; 1024],
+    offsets: &[u16; 1024],
+    contexts: &[u16; 1024],
+    image: &mut [u8],
+) -> Answer
+    requires { ⌜ Sound (slots (now frames) (now starts) count (now forms) (now carry) (now owners) (now offsets)) × Any (now frames) (now starts) count (now forms) (λ t. Placed t (now contexts)) ⌝ }
+    ensures { λ r. ⌜ Leaves (imageIn (length (now (image .entry))) (programOf (slots (now (frames .entry)) (now (starts .entry)) count (now (forms .entry)) (now (carry .entry)) (now (owners .entry)) (now (offsets .entry))))) r (now (image .entry)) (now (image .exit)) ⌝ }
+{
+    let mut names = [65536u32; 1024];
+    let mut positions = [0u32; 1025];
+    let mut values = [0i32; 1024];
+    match judge(
+        frames,
+        starts,
+        count,
+        forms,
+        carry,
+        owners,
+        offsets,
+        contexts,
+        &mut names,
+        &mut positions,
+        &mut values,
+    ) {
+        Verdict::Refused(r) => Answer::Refused(r),
+        Verdict::Good => finish(
+            frames,
+            starts,
+            count,
+            forms,
+            carry,
+            owners,
+            offsets,
+            &names,
+            contexts,
+            &values,
+            &positions,
+            image,
+        ),
+    }
+}
+
+// The contexts are found first: every later pass asks for them.
+fn place_slots(
+    frames: &[u8],
+    starts: &[u16; 1025],
+    count: usize,
+    forms: &[u8; 1024],
+    carry: &[u16; 1024],
+    owners: &[u16; 1024],
+    offsets: &[u16; 1024],
+    image: &mut [u8],
+) -> Answer
+    requires { ⌜ Sound (slots (now frames) (now starts) count (now forms) (now carry) (now owners) (now offsets)) ⌝ }
+    ensures { λ r. ⌜ Leaves (imageIn (length (now (image .entry))) (programOf (slots (now (frames .entry)) (now (starts .entry)) count (now (forms .entry)) (now (carry .entry)) (now (owners .entry)) (now (offsets .entry))))) r (now (image .entry)) (now (image .exit)) ⌝ }
+{
+    let mut contexts = [0u16; 1024];
+    fill_contexts(frames, starts, count, forms, &mut contexts);
+    judge_slots(
+        frames,
+        starts,
+        count,
+        forms,
+        carry,
+        owners,
+        offsets,
+        &contexts,
+        image,
+    )
+}
+
+// The slots of a listing as read: no target is an inner label.
+fn assemble_read(frames: &[u8], starts: &[u16; 1025], count: usize, image: &mut [u8]) -> Answer
+    requires { ⌜ Held (now frames) (now starts) count ⌝ }
+    ensures { λ r. ⌜ Leaves (imageIn (length (now (image .entry))) (inputOf (now (frames .entry)) (now (starts .entry)) count)) r (now (image .entry)) (now (image .exit)) ⌝ }
+{
+    let mut forms = [0u8; 1024];
+    let mut carry = [0u16; 1024];
+    start_forms(frames, starts, count, &mut forms);
+    start_carry(count, &mut carry);
+    let owners = [1024u16; 1024];
+    let offsets = [0u16; 1024];
+    place_slots(
+        frames,
+        starts,
+        count,
+        &forms,
+        &carry,
+        &owners,
+        &offsets,
+        image,
+    )
+}
+
+// Reads a listing, judges it as it stands and writes its image. On refusal no lent byte changes.
+pub fn assemble(listing: &[u8], image: &mut [u8]) -> Answer
+    ensures { λ r. ⌜ Leaves (assembled (now (listing .entry)) (length (now (image .entry)))) r (now (image .entry)) (now (image .exit)) ⌝ }
+{
+    let mut frames = [0u8; 24576];
+    let mut starts = [0u16; 1025];
+    match read_listing(listing, &mut frames, &mut starts) {
+        Listed::Refused(r) => Answer::Refused(r),
+        Listed::Read(count) => assemble_read(&frames, &starts, count, image),
+    }
+}
