@@ -19,7 +19,7 @@ pub enum Field {
 }
 
 // 0 to 2^bits - 1: a negative number has ones in front, so one shift tells it too.
-pub fn unsigned(v: i32, bits: u32) -> bool
+fn unsigned(v: i32, bits: u32) -> bool
     requires { ⌜ bits ≤ 16 ⌝ }
     ensures { λ r. ⌜ r ≡ below (2 ^ bits) v ⌝ }
 {
