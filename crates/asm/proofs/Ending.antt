@@ -1,16 +1,18 @@
 -- The verdict: the names' refusal, or the encoding's where the names stand, and what the tables then hold.
 use mathlib.Core.Path.{_≡_, refl, sym, ap, _∙_}
 use mathlib.Core.List.{List, []}
+use mathlib.Core.Bool.{Bool, false}
 use Prim.Native.Nat.{ℕ, suc, _≤_, _<_}
 use native.Mathlib.Omega.{arith}
 use lib.ListN.{getD}
 use lib.IntN.{ℤ}
 use Rattle.rules.specs.declared.Refusal.{Refusal}
-use Rattle.rules.specs.Answers.{Judged, ok, no, Check, _>>=_, _>>_}
+use Rattle.rules.specs.Answers.{Judged, ok, no, Check, _>>=_, _>>_, orD, isOk}
 use Rattle.rules.specs.Programs.{Program}
 use Rattle.rules.specs.Layout.{position}
 use Rattle.rules.specs.Names.{Entry, placed}
-use Rattle.rules.specs.Judging.{noNameTwice, positionsFit, defineAll, encodeAll, judge}
+use Rattle.rules.specs.Judging.{noNameTwice, positionsFit, defineAll, encodeAll, namesOf, judge, assembles}
+use Rattle.rules.proofs.Laws.{next-ok}
 use Rattle.expression.specs.Environment.{entriesOf}
 use Rattle.slots.specs.Slots.{Slots, programOf, Sound}
 use Rattle.env.specs.declared.Checked.{Checked}
@@ -62,6 +64,15 @@ judge-encodes : (p : Program) (names : List Entry) → namesJudged p ≡ ok name
 unfolding _>>=_
 judge-encodes p names e = judge-names p ∙ rw e
 
+-- the names that stand are those of the program
+pub names-stand : (p : Program) (names : List Entry) → namesJudged p ≡ ok names → namesOf p ≡ names
+unfolding namesJudged namesOf orD
+names-stand p names e =
+    let fits : Judged (List Entry) = positionsFit (placed p) >> defineAll [] (placed p) in
+    let a = next-ok (noNameTwice [] (placed p)) fits names e in
+    let b = next-ok (positionsFit (placed p)) (defineAll [] (placed p)) names (a .2) in
+    rw (b .2)
+
 -- ---- the tables
 
 module _ (t : Slots) (contexts names : List ℕ) (values : List ℤ) (positions : List ℕ) where
@@ -84,6 +95,7 @@ module _ (t : Slots) (contexts names : List ℕ) (values : List ℤ) (positions 
       record {
         answer = sym (ap verdictAs n);
         ready = λ z. absurd (let w : _≡_ {A = ℕ} 0 1 = cc in omega arith);
+        names = λ z. absurd (let w : _≡_ {A = ℕ} 0 1 = cc in omega arith);
         encodes = λ z. absurd (let w : _≡_ {A = ℕ} 0 1 = cc in omega arith);
       }
 
@@ -91,4 +103,14 @@ module _ (t : Slots) (contexts names : List ℕ) (values : List ℤ) (positions 
   unfolding encodeSlots
   judged-last v s c f e =
       let n = judge-encodes (programOf t) (entriesOf names contexts values (t .count)) (f .entries) in
-      record { answer = e ∙ ap verdictAs (sym n); ready = λ z. ready-of s c f; encodes = λ z. n }
+      record { answer = e ∙ ap verdictAs (sym n); ready = λ z. ready-of s c f; names = λ z. names-stand (programOf t) (entriesOf names contexts values (t .count)) (f .entries); encodes = λ z. n }
+
+  -- ---- the same as a test
+
+  pub fails-refused : (r : Checked) (q : Refusal) → Prepared t contexts names values positions r → r ≡ Refused q → false ≡ assembles (programOf t)
+  unfolding assembles isOk
+  fails-refused r q h e = sym (ap (λ x. isOk x) (judge-refused (programOf t) q (refused-is (namesJudged (programOf t)) q (sym e ∙ h .answer))))
+
+  pub assembles-last : (b : Bool) → Filled t contexts names values positions → b ≡ isOk (encodeSlots held) → b ≡ assembles (programOf t)
+  unfolding assembles encodeSlots
+  assembles-last b f e = e ∙ sym (ap (λ x. isOk x) (judge-encodes (programOf t) (entriesOf names contexts values (t .count)) (f .entries)))

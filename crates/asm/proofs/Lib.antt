@@ -1,3 +1,4 @@
+pub mod Carrying
 pub mod Passing
 pub mod Ending
 pub mod Started

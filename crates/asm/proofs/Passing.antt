@@ -23,7 +23,7 @@ use Rattle.env.specs.Answers.{checkedAs}
 use Rattle.env.specs.Tables.{nameIn, nameSaid, NamesIn, Named, LaidOut, Laid, Defined}
 use Rattle.env.proofs.Programs.{length-program, at-program}
 use Rattle.env.proofs.Filled.{get-filled, filled-laid}
-use Rattle.asm.specs.Assembling.{namesJudged, Placed, Filled, Prepared}
+use Rattle.asm.specs.Assembling.{namesJudged, Placed, Once, Filled, Prepared}
 
 -- ---- what an answer says of its check
 
@@ -74,14 +74,17 @@ module _ (p : Program) where
   unfolding namesJudged _>>_
   twice-refused q e = rw (refused-is (noNameTwice [] (placed p)) q e)
 
-  module _ (once : Passes ≡ checkedAs (noNameTwice [] (placed p))) where
+  pub once-passes : Passes ≡ checkedAs (noNameTwice [] (placed p)) → noNameTwice [] (placed p) ≡ ok tt
+  once-passes e = passed-is (noNameTwice [] (placed p)) e .1
+
+  module _ (once : noNameTwice [] (placed p) ≡ ok tt) where
     pub fit-refused : (q : Refusal) → Refused q ≡ checkedAs (positionsFit (placed p)) → namesJudged p ≡ no q
     unfolding namesJudged _>>_
-    fit-refused q e = rw (passed-is (noNameTwice [] (placed p)) once .1, refused-is (positionsFit (placed p)) q e)
+    fit-refused q e = rw (once, refused-is (positionsFit (placed p)) q e)
 
     pub defined-last : Passes ≡ checkedAs (positionsFit (placed p)) → namesJudged p ≡ defineAll [] (placed p)
     unfolding namesJudged _>>_
-    defined-last e = rw (passed-is (noNameTwice [] (placed p)) once .1, passed-is (positionsFit (placed p)) e .1)
+    defined-last e = rw (once, passed-is (positionsFit (placed p)) e .1)
 
 -- ---- what is left in the tables
 
@@ -101,7 +104,7 @@ module _ (t : Slots) (contexts names : List ℕ) where
     prepared-refused q e = record { answer = sym (ap checkedAs e); filled = λ z. absurd (let w : _≡_ {A = ℕ} 0 1 = cc in omega arith) }
 
     pub prepared-last : (r s : Checked) (old : List ℕ) (before : List ℤ)
-        → Passes ≡ checkedAs (noNameTwice [] (placed (programOf t))) → s ≡ Passes → LaidOut t s old positions
+        → Once t → s ≡ Passes → LaidOut t s old positions
         → Defined t names contexts r before values → Prepared t contexts names values positions r
     prepared-last r s old before once fits laid defined =
         let p = programOf t in

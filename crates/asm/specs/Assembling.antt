@@ -26,6 +26,10 @@ namesJudged p = do
 pub record Placed (t : Slots) (contexts : List ℕ) : Type 0 where
   pub context : (i : Placeℕ) → i < t .count → getD contexts i 0 ≡ contextAt (programOf t) i
 
+-- "Each name is defined once (a local once per context)."
+abbrev pub Once : Slots → Type 0
+Once t = noNameTwice [] (placed (programOf t)) ≡ ok tt
+
 -- what the tables hold of a program whose names stand
 pub record Filled (t : Slots) (contexts names : List ℕ) (values : List ℤ) (positions : List ℕ) : Type 0 where
   pub entries : namesJudged (programOf t) ≡ ok (entriesOf names contexts values (t .count))

@@ -1,8 +1,10 @@
 // What is refused of a program in slots, 3 to 11 in document 01's order, as src/asm.rs has `assemble`.
+mod candidates; // the verdict on a rewritten program, as a test
 mod judging; // the verdict
 mod names; // 3, then 5 and 6, then the variables
 mod start; // the slots of a listing as read
 
+pub use candidates::assembles;
 pub use judging::judge;
 pub use names::name_and_lay;
 use rules::Refusal;

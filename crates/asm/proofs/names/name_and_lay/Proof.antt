@@ -1,16 +1,10 @@
--- `asm::names::name_and_lay` meets its contract: each pass is judged where those before it passed.
-use mathlib.Core.Path.{_≡_, sym, ap, _∙_}
-use mathlib.Core.List.{List, []}
+-- `asm::names::name_and_lay` meets its contract: positions and variables are judged where no name is defined twice.
+use mathlib.Core.Path.{_≡_, sym, _∙_}
+use mathlib.Core.List.{List}
 use Prim.Native.Nat.{ℕ}
 use borrow.Author.Needs.{needs}
-use Rattle.rules.specs.Names.{placed}
-use Rattle.rules.specs.Judging.{noNameTwice}
 use Rattle.slots.specs.Slots.{Slots, slots, programOf}
-use Rattle.env.specs.declared.Checked.the-variants.{Passes}
-use Rattle.env.specs.Answers.{checkedAs}
-use Rattle.env.specs.Tables.{Named}
-use Rattle.env.proofs.Filled.{filled-laid}
-use Rattle.asm.proofs.Passing.{twice-refused, fit-refused, named-of, prepared-refused, prepared-last}
+use Rattle.asm.proofs.Passing.{twice-refused, once-passes, named-of, prepared-refused}
 use Rattle.asm.proofs.names.name_and_lay.Statement.{statement}
 use Rattle.asm.proofs.names.name_and_lay.Tie as tie
 
@@ -40,61 +34,26 @@ returns c carry owners offsets =
 enum-told : tie.Need-enum-told
 enum-told c = search needs
 
-lay-out-requires : tie.Need-lay-out-requires
-lay-out-requires c κs = search needs
-
-enum-known-r-2 : tie.Need-enum-known-r-2
-enum-known-r-2 c = search needs
-
--- 3 is not given
-once : (c : tie.After-enum-told) (carry owners offsets : List ℕ)
-    → Passes ≡ checkedAs (noNameTwice [] (placed (programOf (over (c .before .before .before .before .before .before .before) carry owners offsets))))
-once c carry owners offsets =
-    let n = c .before .before in
-    let f = n .before .before in
-    let s = f .before .before .before in
-    let t = over s carry owners offsets in
-    sym (c .enum-told .given .1) ∙ n .no-name-twice .ensures (programOf t) (named-of t _ _ _ (f .fill-names .ensures .1 carry owners offsets) (s .pre .4 carry owners offsets))
+lay-and-define-requires : tie.Need-lay-and-define-requires
+lay-and-define-requires c κs =
+    let f = c .before .before .before .before .before .before .before in
+    let s = f .before .before .before in (
+      s .pre .0,
+      s .pre .2,
+      s .pre .3,
+      λ carry owners offsets. named-of (over s carry owners offsets) _ _ _ (f .fill-names .ensures .1 carry owners offsets) (s .pre .4 carry owners offsets),
+    )
 
 returns-2 : tie.Need-returns-2
 returns-2 c carry owners offsets =
-    let l = c .before .before .before in
-    let e = l .before .before in
-    let s = e .before .before .before .before .before .before .before in
-    let t = over s carry owners offsets in
-    prepared-refused t _ _ _ _ _
-    (fit-refused (programOf t) (once e carry owners offsets) _
-    (sym (c .before .r2 .given .1) ∙ l .lay-out .ensures .1 carry owners offsets .answer))
-
-enum-told-2 : tie.Need-enum-told-2
-enum-told-2 c = search needs
-
-define-all-requires : tie.Need-define-all-requires
-define-all-requires c κs =
-    let a = c .before .before .before in
-    let l = a .before .before in
-    let e = l .before .before in
+    let e = c .before .before .before .before in
     let n = e .before .before in
     let f = n .before .before in
-    let s = f .before .before .before in (
-      s .pre .0,
-      s .pre .3,
-      λ carry owners offsets.
-          (let t = over s carry owners offsets in
-          filled-laid t _ _ _ (a .enum-told2 .given .1) _ _
-          (named-of t _ _ _ (f .fill-names .ensures .1 carry owners offsets) (s .pre .4 carry owners offsets))
-          (l .lay-out .ensures .1 carry owners offsets)),
-    )
-
-returns-3 : tie.Need-returns-3
-returns-3 c carry owners offsets =
-    let a = c .before .before .before .before in
-    let l = a .before .before in
-    let e = l .before .before in
-    let s = e .before .before .before .before .before .before .before in
+    let s = f .before .before .before in
     let t = over s carry owners offsets in
-    prepared-last t _ _ _ _ _ _ _ _ (once e carry owners offsets) (a .enum-told2 .given .1) (l .lay-out .ensures .1 carry owners offsets)
-    (c .define-all .ensures .1 carry owners offsets)
+    c .lay-and-define .ensures carry owners offsets
+    (once-passes (programOf t)
+    (sym (e .enum-told .given .1) ∙ n .no-name-twice .ensures (programOf t) (named-of t _ _ _ (f .fill-names .ensures .1 carry owners offsets) (s .pre .4 carry owners offsets))))
 
 pub name-and-lay-spec : {M : Type 1} → statement M
 name-and-lay-spec =
@@ -105,9 +64,5 @@ name-and-lay-spec =
     enum-known-r
     returns
     enum-told
-    lay-out-requires
-    enum-known-r-2
-    returns-2
-    enum-told-2
-    define-all-requires
-    returns-3)
+    lay-and-define-requires
+    returns-2)

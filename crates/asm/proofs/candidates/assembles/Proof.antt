@@ -1,0 +1,78 @@
+-- `asm::candidates::assembles` meets its contract: it passes where positions, variables and encoding pass, no name being defined twice.
+use mathlib.Core.Path.{_≡_}
+use mathlib.Core.List.{List}
+use Prim.Native.Nat.{ℕ}
+use borrow.Author.Needs.{needs}
+use Rattle.slots.specs.Slots.{Slots, slots}
+use Rattle.env.specs.Tables.{Any}
+use Rattle.asm.specs.Assembling.{Placed}
+use Rattle.asm.proofs.Carrying.{placed-any}
+use Rattle.asm.proofs.Passing.{named-of}
+use Rattle.asm.proofs.Ending.{ready-of, fails-refused, assembles-last}
+use Rattle.asm.proofs.candidates.assembles.Statement.{statement}
+use Rattle.asm.proofs.candidates.assembles.Tie as tie
+
+abbrev over : (c : tie.Start) → (carry owners offsets : List ℕ) → Slots
+over c carry owners offsets = slots (c .args .frames .now) (c .args .starts .now) (c .args .count) (c .args .forms .now) carry owners offsets
+
+abbrev here : (c : tie.Start) → Slots
+here c = over c (c .args .carry .now) (c .args .owners .now) (c .args .offsets .now)
+
+fill-names-requires : tie.Need-fill-names-requires
+fill-names-requires c κs = let s = c .before .before in (s .pre .0 .held, search needs)
+
+lay-and-define-requires : tie.Need-lay-and-define-requires
+lay-and-define-requires c κs =
+    let f = c .before .before .before in
+    let s = f .before .before .before in (
+      s .pre .0 .held,
+      search needs,
+      search needs,
+      λ carry owners offsets.
+          named-of (over s carry owners offsets) _ _ _ (f .fill-names .ensures .1 carry owners offsets)
+          (placed-any (s .args .frames .now) (s .args .starts .now) (s .args .count) (s .args .forms .now) (s .args .carry .now) (s .args .owners .now) (s .args .offsets .now) (s .args .contexts .now) (s .pre .1) carry owners offsets),
+    )
+
+enum-told : tie.Need-enum-told
+enum-told c = search needs
+
+enum-told-2 : tie.Need-enum-told-2
+enum-told-2 c = search needs
+
+encodes-all-requires : tie.Need-encodes-all-requires
+encodes-all-requires c κs =
+    let e = c .before .before .before in
+    let n = e .before .before in
+    let s = n .before .before .before .before .before .before .before in (
+      ready-of (here s) _ _ _ _ (s .pre .0) (s .pre .1)
+          (n .lay-and-define .ensures (s .args .carry .now) (s .args .owners .now) (s .args .offsets .now) (s .pre .2) .filled (e .enum-told2 .given .1)),
+      s .pre .3,
+    )
+
+returns : tie.Need-returns
+returns c =
+    let n = c .before .before in
+    let s = n .before .before .before .before .before .before .before in
+    fails-refused (here s) _ _ _ _ _ (c .enum-told .given .0 .0)
+    (n .lay-and-define .ensures (s .args .carry .now) (s .args .owners .now) (s .args .offsets .now) (s .pre .2)) (c .enum-told .given .1)
+
+returns-2 : tie.Need-returns-2
+returns-2 c =
+    let e = c .before .before .before .before in
+    let n = e .before .before in
+    let s = n .before .before .before .before .before .before .before in
+    assembles-last (here s) _ _ _ _ _
+    (n .lay-and-define .ensures (s .args .carry .now) (s .args .owners .now) (s .args .offsets .now) (s .pre .2) .filled (e .enum-told2 .given .1))
+    (c .encodes-all .ensures)
+
+pub assembles-spec : {M : Type 1} → statement M
+assembles-spec =
+    tie.close
+    (tie.spec
+    fill-names-requires
+    lay-and-define-requires
+    enum-told
+    enum-told-2
+    encodes-all-requires
+    returns
+    returns-2)
