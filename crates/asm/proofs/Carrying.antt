@@ -1,4 +1,4 @@
--- No context depends on a target: what is placed for slots is placed for them whatever targets they carry.
+-- No context and no position depends on a target: a table of them that is right for slots is right for them whatever targets they carry.
 use mathlib.Core.Path.{_≡_, refl, sym, ap, _∙_}
 use mathlib.Core.List.{List, [], _∷_}
 use mathlib.Core.Bool.{Bool, true, false, cond}
@@ -6,24 +6,27 @@ use Prim.Native.Nat.{ℕ, zero, suc, _<_}
 use native.Mathlib.Omega.{arith}
 use lib.Dec.{eqb}
 use lib.ListN.{getD, length}
-use Rattle.rules.specs.Programs.{Placeℕ, Stmt, gone, instr, label, variable, comment, org, bytes, words, Instruction, onInstr, Program, at}
+use Rattle.rules.specs.Programs.{Placeℕ, Addressℕ, Operand, Stmt, gone, instr, label, variable, comment, org, bytes, words, Instruction, onInstr, Program, at}
+use Rattle.rules.specs.Layout.{after, positionFrom, position}
 use Rattle.rules.specs.Names.{enter, contextFrom, contextAt}
 use Rattle.slots.specs.Slots.{Slots, slots, goneForm, written, reformed, slotAt, programOf}
 use Rattle.env.specs.Tables.{Any}
 use Rattle.env.proofs.Programs.{length-program, at-program}
 use Rattle.asm.specs.Assembling.{Placed}
+use Rattle.asm.specs.Belonging.{Positioned}
 
-enter-either : (k : ℕ) (f g : Instruction → Stmt) → ((x : Instruction) → enter k (f x) ≡ enter k (g x)) → (b : Bool) (s : Stmt)
-    → enter k (cond b gone (onInstr s f s)) ≡ enter k (cond b gone (onInstr s g s))
-enter-either k f g e true s = refl
-enter-either k f g e false gone = refl
-enter-either k f g e false (instr h xs c) = e _
-enter-either k f g e false (label n) = refl
-enter-either k f g e false (variable n d) = refl
-enter-either k f g e false (comment x) = refl
-enter-either k f g e false (org l) = refl
-enter-either k f g e false (bytes es) = refl
-enter-either k f g e false (words es) = refl
+-- what does not look at an instruction's target is the same of both
+either : (F : Stmt → ℕ) (f g : Instruction → Stmt) → ((x : Instruction) → F (f x) ≡ F (g x)) → (b : Bool) (s : Stmt)
+    → F (cond b gone (onInstr s f s)) ≡ F (cond b gone (onInstr s g s))
+either F f g e true s = refl
+either F f g e false gone = refl
+either F f g e false (instr h xs c) = e _
+either F f g e false (label n) = refl
+either F f g e false (variable n d) = refl
+either F f g e false (comment x) = refl
+either F f g e false (org l) = refl
+either F f g e false (bytes es) = refl
+either F f g e false (words es) = refl
 
 -- statements that enter the same contexts
 context-same : (k : ℕ) (p q : Program) → length p ≡ length q → ((j : Placeℕ) (m : ℕ) → j < length p → enter m (at p j) ≡ enter m (at q j))
@@ -37,7 +40,19 @@ context-same k (s ∷ p) (r ∷ q) e h (suc i) =
     ap (λ m. contextFrom m p i) (h 0 k (omega arith))
     ∙ context-same (enter k r) p q (omega arith) (λ j m l. h (suc j) m (omega arith)) i
 
-module _ (frames starts : List ℕ) (count : ℕ) (forms carry owners offsets contexts : List ℕ) where
+-- statements that end at the same positions
+position-same : (q : Addressℕ) (p r : Program) → length p ≡ length r → ((j : Placeℕ) (m : Addressℕ) → j < length p → after m (at p j) ≡ after m (at r j))
+    → (i : Placeℕ) → positionFrom q p i ≡ positionFrom q r i
+unfolding positionFrom
+position-same q [] [] e h i = refl
+position-same q [] (x ∷ r) e h i = absurd (omega arith)
+position-same q (s ∷ p) [] e h i = absurd (omega arith)
+position-same q (s ∷ p) (x ∷ r) e h zero = refl
+position-same q (s ∷ p) (x ∷ r) e h (suc i) =
+    ap (λ m. positionFrom m p i) (h 0 q (omega arith))
+    ∙ position-same (after q x) p r (omega arith) (λ j m l. h (suc j) m (omega arith)) i
+
+module _ (frames starts : List ℕ) (count : ℕ) (forms carry owners offsets : List ℕ) where
   abbrev one : Slots
   one = slots frames starts count forms carry owners offsets
 
@@ -45,18 +60,30 @@ module _ (frames starts : List ℕ) (count : ℕ) (forms carry owners offsets co
     abbrev other : Slots
     other = slots frames starts count forms carry' owners' offsets'
 
-    entered : (j : Placeℕ) (m : ℕ) → enter m (slotAt one j) ≡ enter m (slotAt other j)
+    same-length : length (programOf one) ≡ length (programOf other)
+    same-length = length-program one ∙ sym (length-program other)
+
+    same-slots : (F : Stmt → ℕ) → ((f : ℕ) (xs ys : List Operand) (c d : Placeℕ) → F (instr f xs c) ≡ F (instr f ys d))
+        → (j : Placeℕ) → j < length (programOf one) → F (at (programOf one) j) ≡ F (at (programOf other) j)
     unfolding slotAt
-    entered j m = enter-either m (reformed one j) (reformed other j) (λ x. refl) (eqb (getD forms j 0) goneForm) (written one j)
+    same-slots F e j l =
+        let k : j < count = omega (arith, length-program one) in
+        ap F (at-program one j k)
+        ∙ either F (reformed one j) (reformed other j) (λ x. e _ _ _ _ _) (eqb (getD forms j 0) goneForm) (written one j)
+        ∙ sym (ap F (at-program other j k))
 
-    same-contexts : (i : Placeℕ) → contextAt (programOf one) i ≡ contextAt (programOf other) i
+    same-context : (i : Placeℕ) → contextAt (programOf one) i ≡ contextAt (programOf other) i
     unfolding contextAt
-    same-contexts i =
-        context-same 0 (programOf one) (programOf other) (length-program one ∙ sym (length-program other))
-        (λ j m l.
-        (let k : j < count = omega (arith, length-program one) in
-        ap (enter m) (at-program one j k) ∙ entered j m ∙ sym (ap (enter m) (at-program other j k))))
-        i
+    same-context i =
+        context-same 0 (programOf one) (programOf other) same-length (λ j m l. same-slots (enter m) (λ f xs ys c d. refl) j l) i
 
-  pub placed-any : Placed one contexts → Any frames starts count forms (λ t. Placed t contexts)
-  placed-any h carry' owners' offsets' = record { context = λ i l. h .context i l ∙ same-contexts carry' owners' offsets' i }
+    same-position : (i : Placeℕ) → position (programOf one) i ≡ position (programOf other) i
+    unfolding position
+    same-position i =
+        position-same 0 (programOf one) (programOf other) same-length (λ j m l. same-slots (after m) (λ f xs ys c d. refl) j l) i
+
+  pub placed-any : (contexts : List ℕ) → Placed one contexts → Any frames starts count forms (λ t. Placed t contexts)
+  placed-any contexts h carry' owners' offsets' = record { context = λ i l. h .context i l ∙ same-context carry' owners' offsets' i }
+
+  pub positioned-any : (positions : List ℕ) → Positioned one positions → Any frames starts count forms (λ t. Positioned t positions)
+  positioned-any positions h carry' owners' offsets' i l = h i l ∙ same-position carry' owners' offsets' i

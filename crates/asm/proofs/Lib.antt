@@ -1,4 +1,6 @@
 pub mod Carrying
 pub mod Passing
 pub mod Ending
+pub mod OriginsBack
+pub mod Finding
 pub mod Started

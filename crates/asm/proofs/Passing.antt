@@ -1,28 +1,27 @@
 -- The passes up to the variables, one behind the other: which refusal is given, and what stands where none is.
 use mathlib.Core.Path.{_≡_, refl, sym, ap, _∙_}
-use mathlib.Core.List.{List, [], _∷_, _++_}
-use Prim.Native.Nat.{ℕ, zero, suc, _+_, _*_, _≤_, _<_}
+use mathlib.Core.List.{List, [], _∷_}
+use Prim.Native.Nat.{ℕ, zero, suc, _+_, _≤_, _<_}
 use native.Mathlib.Omega.{arith}
 use lib.Dec.{leb}
-use lib.ListN.{getD, length, drop}
+use lib.ListN.{length, drop}
 use lib.IntN.{ℤ}
 use borrow.Author.Tests.{leb-true}
 use Rattle.rules.specs.declared.Refusal.{Refusal}
 use Rattle.rules.specs.declared.Refusal.the-variants.{Back}
-use Rattle.rules.specs.Answers.{atPlace, Judged, ok, no, Check, _>>_, checkEach, require}
+use Rattle.rules.specs.Answers.{atPlace, Judged, ok, no, _>>_, checkEach}
 use Rattle.rules.specs.Programs.{Stmt, gone, instr, label, variable, comment, org, bytes, words, Program, asName}
 use Rattle.rules.specs.Layout.{after, position, positionFrom}
-use Rattle.rules.specs.Names.{Entry, contextAt, placed, placedFrom, enter}
+use Rattle.rules.specs.Names.{placed, placedFrom, enter}
 use Rattle.rules.specs.Judging.{settles, noNameTwice, positionsFit, defineAll}
-use Rattle.rules.proofs.Laws.{no-ok, next-ok, require-ok}
-use Rattle.expression.specs.Environment.{entriesOf}
+use Rattle.rules.proofs.Laws.{next-ok, require-ok}
 use Rattle.slots.specs.Slots.{Slots, programOf, slotAt}
 use Rattle.env.specs.declared.Checked.{Checked}
 use Rattle.env.specs.declared.Checked.the-variants.{Passes, Refused}
 use Rattle.env.specs.Answers.{checkedAs}
-use Rattle.env.specs.Tables.{nameIn, nameSaid, NamesIn, Named, LaidOut, Laid, Defined}
+use Rattle.env.specs.Tables.{nameIn, nameSaid, NamesIn, Named, LaidOut, Defined}
 use Rattle.env.proofs.Programs.{length-program, at-program}
-use Rattle.env.proofs.Filled.{get-filled, filled-laid}
+use Rattle.env.proofs.Filled.{get-filled}
 use Rattle.asm.specs.Assembling.{namesJudged, Placed, Once, Filled, Prepared}
 
 -- ---- what an answer says of its check
@@ -37,7 +36,7 @@ passed-is (no r) e = absurd (let z : _≡_ {A = ℕ} 0 1 = cc in omega arith)
 
 -- ---- positions rise where they fit
 
-position-start : (q : ℕ) (p : Program) → positionFrom q p 0 ≡ q
+pub position-start : (q : ℕ) (p : Program) → positionFrom q p 0 ≡ q
 unfolding positionFrom
 position-start q [] = refl
 position-start q (s ∷ p) = refl

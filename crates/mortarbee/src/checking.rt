@@ -16,7 +16,7 @@ pub fn check_listing() {
     let mut starts = [0u16; 1025];
     match read_listing(&text[..n], &mut frames, &mut starts) {
         Listed::Read(count) => good(count),
-        Listed::Refused(r) => refusals::say(r),
+        Listed::Refused(r) => refusals::say(r, &text[..n]),
     }
 }
 

@@ -19,10 +19,7 @@ pub fn image() {
     } else if n == 0 {
         write_image(false);
     } else {
-        write_all(
-            STDERR_FILENO,
-            b"mortarbee: image takes no word or the word hex\n",
-        );
+        write_all(STDERR_FILENO, b"mortarbee: image takes no word or the word hex\n");
     }
 }
 
@@ -33,7 +30,7 @@ fn write_image(as_digits: bool) {
     let mut room = io::large_buffer();
     match assemble(&text[..n], &mut room) {
         Answer::Done(sizes) => put(&room, sizes.image, as_digits),
-        Answer::Refused(r) => refusals::say(r),
+        Answer::Refused(r) => refusals::say(r, &text[..n]),
     }
 }
 
@@ -60,13 +57,7 @@ fn put_bytes(bytes: &[u8], as_digits: bool) {
 
 // A digit of the sixteen.
 fn digit(x: u8) -> u8 {
-    if x < 10 {
-        48 + x
-    } else if x < 16 {
-        55 + x
-    } else {
-        63
-    }
+    if x < 10 { 48 + x } else if x < 16 { 55 + x } else { 63 }
 }
 
 fn put_pair(b: u8, end: u8) {

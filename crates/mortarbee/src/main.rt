@@ -2,6 +2,7 @@
 mod checking; // reads a listing and says how many statements it has
 mod help; // the words, and each refusal explained
 mod imaging; // the image of a listing as it stands
+mod lines; // the text of a line
 mod refusals; // each refusal in a number and a sentence
 
 use check::same;

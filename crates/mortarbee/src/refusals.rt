@@ -1,4 +1,5 @@
-// The 7E line of a refusal on standard output, and its sentence on standard error.
+// The 7E line of a refusal on standard output, and its sentence on standard error with the line's text.
+use crate::lines::quote;
 use io::print_decimal;
 use io::write_all;
 use libc::STDERR_FILENO;
@@ -65,8 +66,8 @@ fn tell(text: &[u8]) {
     write_all(STDERR_FILENO, text);
 }
 
-// The 7E line, and for a person the number, the place and the sentence.
-pub fn say(r: Refusal) {
+// The 7E line, and for a person the number, the place, the sentence and the line's text.
+pub fn say(r: Refusal, text: &[u8]) {
     let f = fault_of(r);
     let number = f.number;
     let place = f.place;
@@ -82,4 +83,5 @@ pub fn say(r: Refusal) {
     tell(b": ");
     sentence(number);
     tell(b"\n");
+    quote(text, place);
 }

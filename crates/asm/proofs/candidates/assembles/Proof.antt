@@ -1,11 +1,8 @@
 -- `asm::candidates::assembles` meets its contract: it passes where positions, variables and encoding pass, no name being defined twice.
-use mathlib.Core.Path.{_≡_}
 use mathlib.Core.List.{List}
 use Prim.Native.Nat.{ℕ}
 use borrow.Author.Needs.{needs}
 use Rattle.slots.specs.Slots.{Slots, slots}
-use Rattle.env.specs.Tables.{Any}
-use Rattle.asm.specs.Assembling.{Placed}
 use Rattle.asm.proofs.Carrying.{placed-any}
 use Rattle.asm.proofs.Passing.{named-of}
 use Rattle.asm.proofs.Ending.{ready-of, fails-refused, assembles-last}

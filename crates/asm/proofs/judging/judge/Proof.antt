@@ -1,7 +1,4 @@
 -- `asm::judging::judge` meets its contract: the names' refusal, or the encoding's verdict over the tables that they filled.
-use mathlib.Core.Path.{_≡_}
-use mathlib.Core.List.{List}
-use Prim.Native.Nat.{ℕ}
 use borrow.Author.Needs.{needs}
 use Rattle.slots.specs.Slots.{Slots, slots}
 use Rattle.asm.proofs.Ending.{ready-of, judged-refused, judged-last}

@@ -1,5 +1,5 @@
 -- `asm::names::lay_and_define` meets its contract: the variables are judged where the positions fit.
-use mathlib.Core.Path.{_≡_, sym, _∙_}
+use mathlib.Core.Path.{sym, _∙_}
 use mathlib.Core.List.{List}
 use Prim.Native.Nat.{ℕ}
 use borrow.Author.Needs.{needs}

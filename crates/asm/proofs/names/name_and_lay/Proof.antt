@@ -1,5 +1,5 @@
 -- `asm::names::name_and_lay` meets its contract: positions and variables are judged where no name is defined twice.
-use mathlib.Core.Path.{_≡_, sym, _∙_}
+use mathlib.Core.Path.{sym, _∙_}
 use mathlib.Core.List.{List}
 use Prim.Native.Nat.{ℕ}
 use borrow.Author.Needs.{needs}

@@ -1,0 +1,51 @@
+// The text of a line, by its place from 0: what a refusal quotes.
+use io::write_all;
+use libc::STDERR_FILENO;
+ghost use Rattle.io.specs.Counts.{Counts};
+
+// Where the line at a place begins; the text's end where there is none.
+fn line_start(text: &[u8], place: usize) -> usize
+    ensures { λ r. ⌜ Counts r (now (text .entry)) ⌝ }
+{
+    let mut left = place;
+    let mut i = 0;
+    while i < text.len() {
+        if left == 0 {
+            return i;
+        }
+        if text[i] == 10 {
+            left -= 1;
+        }
+        i += 1;
+    }
+    i
+}
+
+// The characters before the first line feed, 240 at most.
+fn line_length(rest: &[u8]) -> usize
+    ensures { λ r. ⌜ Counts r (now (rest .entry)) ⌝ }
+{
+    let mut i = 0;
+    while i < rest.len() {
+        if rest[i] == 10 {
+            return i;
+        }
+        if i == 240 {
+            return i;
+        }
+        i += 1;
+    }
+    i
+}
+
+// A line of standard error: the text at fault, if there is such a line.
+pub fn quote(text: &[u8], place: usize) {
+    let start = line_start(text, place);
+    let rest = &text[start..];
+    let n = line_length(rest);
+    if n > 0 {
+        write_all(STDERR_FILENO, b"  ");
+        write_all(STDERR_FILENO, &rest[..n]);
+        write_all(STDERR_FILENO, b"\n");
+    }
+}
