@@ -5,6 +5,7 @@ use mathlib.Core.List.{[], _∷_}
 use mathlib.Core.Option.{none, some}
 use Prim.Native.Nat.{ℕ, suc, _<_}
 use lib.ListN.{getD, set}
+use Rattle.laws.specs.Options.{isSome}
 use Rattle.rules.specs.Forms.{isTransfer}
 use Rattle.rules.specs.Programs.{Placeℕ}
 use Rattle.rules.specs.Rewriting.{next, branch, unconditional, localLabel, aimed, candidate, dropAll, invertedAt, trampolineAt}
@@ -90,6 +91,7 @@ pub record TrampolineFound (t : Slots) (f : ℕ) (i skip target last label : Pla
   pub branches : Moves t i
   pub form : getD (t .forms) i 0 ≡ f
   pub skips : Moves t skip
+  pub lands : isSome (localLabel (standsAt t target)) ≡ true
   pub jumps : Moves t last
   pub fold : trampolineAt f (programOf t) i ≡ candidate (dropAll (skip ∷ target ∷ last ∷ []) (set (programOf t) i (aimed f (instrAt t i) (instrAt t last))))
 

@@ -1,5 +1,5 @@
 -- `patterns::shapes::trampoline_at` meets its contract: each way out is a way in which the definition has none, or its candidate.
-use mathlib.Core.Path.{_≡_, sym, _∙_}
+use mathlib.Core.Path.{_≡_, sym, ap, _∙_}
 use mathlib.Core.Bool.{Bool, _&&_}
 use mathlib.Core.List.{[], _∷_}
 use Prim.Native.Nat.{ℕ}
@@ -7,7 +7,7 @@ use lib.Dec.{eqb}
 use lib.ListN.{getD, set}
 use borrow.Author.Needs.{needs}
 use borrow.Author.Tests.{not-true, not-false}
-use Rattle.laws.specs.Options.{given}
+use Rattle.laws.specs.Options.{isSome, given}
 use Rattle.laws.proofs.Options.{given-true, given-false}
 use Rattle.laws.proofs.Tests.{and-both, first-false, second-false}
 use Rattle.rules.specs.Names.{contextAt}
@@ -235,6 +235,7 @@ returns-7 c =
       branches = b .branches;
       form = b .form;
       skips = b .jumps .moves;
+      lands = ap isSome (b .lands .is);
       jumps = jumps (a l) .moves;
       fold = bouncing f ∙ given-true (free l) _ (sym (f .is-free .ensures) ∙ c .if4 .taken);
     }

@@ -1,0 +1,174 @@
+-- What an attempt leaves: the candidate where it counts, and else the tables as they were.
+use mathlib.Core.Path.{_≡_, refl, sym, subst, ap, _∙_}
+use mathlib.Core.List.{List, [], _∷_}
+use mathlib.Core.Option.{Option, none, some}
+use mathlib.Core.Bool.{Bool, true, false}
+use Prim.Native.Nat.{ℕ, _<_}
+use native.Mathlib.Omega.{arith}
+use lib.Dec.{ltb}
+use lib.ListN.{getD, set}
+use lib.Seq.{set-set, set-comm, set-getD}
+use Rattle.laws.specs.Options.{isSome, getOr}
+use Rattle.laws.proofs.Options.{given-true, given-false}
+use Rattle.laws.proofs.Tests.{false-true, first-false, and-left}
+use Rattle.rules.specs.Programs.{Program, gone, instr, argsOf, at, byteCount}
+use Rattle.rules.specs.Names.{enter}
+use Rattle.rules.specs.Judging.{assembles}
+use Rattle.rules.specs.Rewriting.{everyInnerLabel, acceptable, candidate, localLabel, dropAll}
+use Rattle.slots.specs.Slots.{Slots, slots, goneForm, slotAt, programOf, kindOf, Agree}
+use Rattle.patterns.proofs.Programs.{at-program}
+use Rattle.attempts.specs.Standing.{Standing, Tried}
+use Rattle.attempts.specs.Folds.{inverted, bounced, Inverts, Bounces}
+use Rattle.attempts.proofs.Edits.{Quiet, instr-quiet, label-quiet, edit-gone, edit-form, edit-aimed, edit-target}
+
+-- ---- whether it counts
+
+pub tried-not : (x : Option Program) (contexts : List ℕ) (t : Slots) → Standing t contexts → x ≡ none → Tried x contexts t t false
+tried-not x contexts t st e =
+    record {
+      says = sym (ap isSome e);
+      leaves = sym (ap (λ (o : Option Program). getOr o (programOf t)) e);
+      forms-kept = λ h. refl;
+      carry-kept = λ h. refl;
+      stands = st;
+    }
+
+candidate-is : (q : Program) (b : Bool) → b ≡ acceptable q → b ≡ true → candidate q ≡ some q
+unfolding candidate
+candidate-is q b e h = given-true (acceptable q) (some q) (sym e ∙ h)
+
+candidate-not : (q : Program) (b : Bool) → b ≡ acceptable q → b ≡ false → candidate q ≡ none
+unfolding candidate
+candidate-not q b e h = given-false (acceptable q) (some q) (sym e ∙ h)
+
+-- "A candidate counts only if every inner label's offset is below its owner's size and the whole assembles": the first fails, or both are known
+module _ (p : Program) (fit : Bool) (f : fit ≡ everyInnerLabel (λ owner o. ltb o (byteCount (at p owner))) p) where
+  pub counts-not : fit ≡ false → false ≡ acceptable p
+  unfolding acceptable
+  counts-not h = sym (first-false (everyInnerLabel (λ owner o. ltb o (byteCount (at p owner))) p) (assembles p) (sym f ∙ h))
+
+  pub counts-if : (b : Bool) → fit ≡ true → b ≡ assembles p → b ≡ acceptable p
+  unfolding acceptable
+  counts-if b h e = e ∙ sym (and-left (everyInnerLabel (λ owner o. ltb o (byteCount (at p owner))) p) (assembles p) (sym f ∙ h))
+
+-- an attempt at what x comes to is one at x
+pub tried-as : (x y : Option Program) (contexts : List ℕ) (t u : Slots) (r : Bool) → x ≡ y → Tried y contexts t u r → Tried x contexts t u r
+tried-as x y contexts t u r e h = subst (λ (o : Option Program). Tried o contexts t u r) (sym e) h
+
+-- the tables u hold the candidate q
+pub record Holding (u : Slots) (contexts : List ℕ) (q : Program) : Type 0 where
+  pub is : programOf u ≡ q
+  pub stands : Standing u contexts
+
+module _ (q : Program) (contexts : List ℕ) (t u : Slots) (h : Holding u contexts q) (b : Bool) (e : b ≡ acceptable (programOf u)) where
+  pub tried-kept : b ≡ true → Tried (candidate q) contexts t u true
+  tried-kept counts =
+      let is = candidate-is q b (e ∙ ap acceptable (h .is)) counts in
+      record {
+        says = sym (ap isSome is);
+        leaves = h .is ∙ sym (ap (λ (o : Option Program). getOr o (programOf t)) is);
+        forms-kept = λ z. false-true (sym z);
+        carry-kept = λ z. false-true (sym z);
+        stands = h .stands;
+      }
+
+  pub tried-none : b ≡ false → candidate q ≡ none
+  tried-none fails = candidate-not q b (e ∙ ap acceptable (h .is)) fails
+
+module _ (frames starts : List ℕ) (count : ℕ) (forms carry owners offsets contexts : List ℕ) (st : Standing (slots frames starts count forms carry owners offsets) contexts) where
+  abbrev there : (forms carry : List ℕ) → Slots
+  there forms carry = slots frames starts count forms carry owners offsets
+
+  -- the tables as they were, by equations
+  pub tried-back : (x : Option Program) (forms′ carry′ : List ℕ) → x ≡ none → forms′ ≡ forms → carry′ ≡ carry → Tried x contexts (there forms carry) (there forms′ carry′) false
+  tried-back x forms′ carry′ e f c =
+      subst (λ (a : List ℕ). Tried x contexts (there forms carry) (there a carry′) false) (sym f)
+      (subst (λ (a : List ℕ). Tried x contexts (there forms carry) (there forms a) false) (sym c) (tried-not x contexts (there forms carry) st e))
+
+  -- ---- the folds
+
+  inverted-held : (to i j : ℕ) → Inverts (there forms carry) to i j
+      → Holding (there (set (set forms i to) j goneForm) (set carry i (getD carry j 0))) contexts (inverted (there forms carry) to i j)
+  unfolding inverted dropAll
+  inverted-held to i j h =
+      let a = edit-aimed frames starts count forms carry owners offsets contexts st i j to (h .branches) (h .jumps) (h .agrees) in
+      let quiet : Quiet (slotAt (there (set forms i to) (set carry i (getD carry j 0))) j) =
+      instr-quiet (slotAt (there (set forms i to) (set carry i (getD carry j 0))) j) (ap kindOf (a .elsewhere j (λ e. omega (arith, h .rises))) ∙ h .jumps .kind) in
+      let b = edit-gone frames starts count (set forms i to) (set carry i (getD carry j 0)) owners offsets contexts (a .stands) j (h .jumps .inside) quiet in
+      record { is = b .is ∙ ap (λ (p : Program). set p j gone) (a .is); stands = b .stands }
+
+  bounced-held : (f i skip target last : ℕ) → Bounces (there forms carry) f i skip target last
+      → Holding (there (set (set (set forms skip goneForm) target goneForm) last goneForm) (set carry i (getD carry last 0))) contexts (bounced (there forms carry) f i skip target last)
+  unfolding bounced dropAll
+  bounced-held f i skip target last h =
+      let t = there forms carry in
+      let c = set carry i (getD carry last 0) in
+      let one = set forms skip goneForm in
+      let two = set one target goneForm in
+      let inside : target < count = omega (arith, h .last-rises, h .jumps .inside) in
+      let lands : Quiet (slotAt t target) = label-quiet (slotAt t target) (ap (λ s. isSome (localLabel s)) (sym (at-program t target inside)) ∙ h .lands) in
+      let a = edit-target frames starts count forms carry owners offsets contexts st i last f (h .branches) (h .jumps) (h .form) in
+      let at-skip : Quiet (slotAt (there forms c) skip) =
+      instr-quiet (slotAt (there forms c) skip) (ap kindOf (a .elsewhere skip (λ e. omega (arith, h .skip-rises))) ∙ h .skips .kind) in
+      let b = edit-gone frames starts count forms c owners offsets contexts (a .stands) skip (h .skips .inside) at-skip in
+      let at-target : Quiet (slotAt (there one c) target) =
+      λ k. ap (enter k) (b .elsewhere target (λ e. omega (arith, h .target-rises)) ∙ a .elsewhere target (λ e. omega (arith, h .skip-rises, h .target-rises))) ∙ lands k in
+      let d = edit-gone frames starts count one c owners offsets contexts (b .stands) target inside at-target in
+      let at-last : Quiet (slotAt (there two c) last) =
+      instr-quiet (slotAt (there two c) last) (ap kindOf (d .elsewhere last (λ e. omega (arith, h .last-rises)) ∙ b .elsewhere last (λ e. omega (arith, h .target-rises, h .last-rises))
+      ∙ a .elsewhere last (λ e. omega (arith, h .skip-rises, h .target-rises, h .last-rises))) ∙ h .jumps .kind) in
+      let g = edit-gone frames starts count two c owners offsets contexts (d .stands) last (h .jumps .inside) at-last in
+      record {
+        is = g .is ∙ ap (λ (p : Program). set p last gone) (d .is ∙ ap (λ (p : Program). set p target gone) (b .is ∙ ap (λ (p : Program). set p skip gone) (a .is)));
+        stands = g .stands;
+      }
+
+  -- the same, of tables known by equations
+  holding-by : (q : Program) (forms′ carry′ forms″ carry″ : List ℕ) → forms″ ≡ forms′ → carry″ ≡ carry′ → Holding (there forms′ carry′) contexts q → Holding (there forms″ carry″) contexts q
+  holding-by q forms′ carry′ forms″ carry″ e d h =
+      subst (λ (a : List ℕ). Holding (there a carry″) contexts q) (sym e) (subst (λ (a : List ℕ). Holding (there forms′ a) contexts q) (sym d) h)
+
+  pub inverted-holds : (to i j : ℕ) (forms′ carry′ : List ℕ) → Inverts (there forms carry) to i j → forms′ ≡ set (set forms i to) j goneForm → carry′ ≡ set carry i (getD carry j 0)
+      → Holding (there forms′ carry′) contexts (inverted (there forms carry) to i j)
+  inverted-holds to i j forms′ carry′ h e d = holding-by (inverted (there forms carry) to i j) _ _ forms′ carry′ e d (inverted-held to i j h)
+
+  pub bounced-holds : (f i skip target last : ℕ) (forms′ : List ℕ) → Bounces (there forms carry) f i skip target last → forms′ ≡ set (set (set forms skip goneForm) target goneForm) last goneForm
+      → Holding (there forms′ (set carry i (getD carry last 0))) contexts (bounced (there forms carry) f i skip target last)
+  bounced-holds f i skip target last forms′ h e =
+      holding-by (bounced (there forms carry) f i skip target last) _ _ forms′ (set carry i (getD carry last 0)) e refl (bounced-held f i skip target last h)
+
+  -- ---- a shorter form
+
+  pub formed-holds : (f i : ℕ) → i < count → kindOf (slotAt (there forms carry) i) ≡ 1 → Agree f (getD forms i 0)
+      → Holding (there (set forms i f) carry) contexts (set (programOf (there forms carry)) i (instr f (argsOf (slotAt (there forms carry) i)) (getD carry i 0)))
+  formed-holds f i l kind a =
+      let e = edit-form frames starts count forms carry owners offsets contexts st i f l kind a in
+      record { is = e .is; stands = e .stands }
+
+-- ---- undone
+
+-- a store under another is seen through it
+set-under : (l : List ℕ) (i j a b c : ℕ) → (i ≡ j → ⊥) → set (set (set l i a) j b) i c ≡ set (set l i c) j b
+set-under l i j a b c n = rw (set-comm l i j a b n, set-set) (set-comm l j i b c (λ e. n (sym e)))
+
+put-back : (l : List ℕ) (i j a b : ℕ) → (i ≡ j → ⊥) → set (set (set (set l i a) j b) i (getD l i 0)) j (getD l j 0) ≡ l
+put-back l i j a b n = rw (set-under l i j a b (getD l i 0) n, set-getD l i 0, set-set, set-getD)
+
+put-back-three : (l : List ℕ) (i j k a b c : ℕ) → (i ≡ j → ⊥) → (i ≡ k → ⊥) → (j ≡ k → ⊥)
+    → set (set (set (set (set (set l i a) j b) k c) i (getD l i 0)) j (getD l j 0)) k (getD l k 0) ≡ l
+put-back-three l i j k a b c m n o =
+    let below : set (set (set (set l i a) j b) k c) i (getD l i 0) ≡ set (set l j b) k c =
+    set-comm (set (set l i a) j b) k i c (getD l i 0) (λ e. n (sym e))
+    ∙ ap (λ (x : List ℕ). set x k c) (set-under l i j a b (getD l i 0) m ∙ ap (λ (x : List ℕ). set x j b) (set-getD l i 0)) in
+    ap (λ (x : List ℕ). set (set x j (getD l j 0)) k (getD l k 0)) below ∙ put-back l j k b c o
+
+-- the same, of lists known by equations
+pub undone-two : (l l′ l″ : List ℕ) (i j a b : ℕ) → i < j → l′ ≡ set (set l i a) j b → l″ ≡ set (set l′ i (getD l i 0)) j (getD l j 0) → l″ ≡ l
+undone-two l l′ l″ i j a b n e d =
+    d ∙ ap (λ (x : List ℕ). set (set x i (getD l i 0)) j (getD l j 0)) e ∙ put-back l i j a b (λ q. omega arith)
+
+pub undone-three : (l l′ l″ : List ℕ) (i j k a b c : ℕ) → i < j → j < k → l′ ≡ set (set (set l i a) j b) k c
+    → l″ ≡ set (set (set l′ i (getD l i 0)) j (getD l j 0)) k (getD l k 0) → l″ ≡ l
+undone-three l l′ l″ i j k a b c m n e d =
+    d ∙ ap (λ (x : List ℕ). set (set (set x i (getD l i 0)) j (getD l j 0)) k (getD l k 0)) e
+    ∙ put-back-three l i j k a b c (λ q. omega arith) (λ q. omega arith) (λ q. omega arith)

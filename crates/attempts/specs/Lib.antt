@@ -1,0 +1,4 @@
+-- What holds of a program under rewriting.
+pub mod Standing
+pub mod Shrinks
+pub mod Folds

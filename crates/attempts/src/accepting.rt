@@ -1,0 +1,40 @@
+// Rule 5: "A candidate counts only if every inner label's offset is below its owner's size and the whole assembles."
+use asm::assembles;
+use patterns::labels::offsets_fit;
+use rules::Place;
+ghost use mathlib.Core.Path.{_≡_};
+ghost use Prim.Native.Nat.{_<_};
+ghost use Rattle.rules.specs.Rewriting.{acceptable as Acceptable};
+ghost use Rattle.slots.specs.Slots.{slots, programOf};
+ghost use Rattle.attempts.specs.Standing.{Standing};
+
+// Whether the program counts as a candidate. `hint` is the place that a rewrite changed: the test looks there first.
+pub fn acceptable(
+    frames: &[u8],
+    starts: &[u16; 1025],
+    count: usize,
+    forms: &[u8; 1024],
+    carry: &[u16; 1024],
+    owners: &[u16; 1024],
+    offsets: &[u16; 1024],
+    contexts: &[u16; 1024],
+    hint: Place,
+) -> bool
+    requires { ⌜ Standing (slots (now frames) (now starts) count (now forms) (now carry) (now owners) (now offsets)) (now contexts) × (hint .0 < count) ⌝ }
+    ensures { λ r. ⌜ r ≡ Acceptable (programOf (slots (now (frames .entry)) (now (starts .entry)) count (now (forms .entry)) (now (carry .entry)) (now (owners .entry)) (now (offsets .entry)))) ⌝ }
+{
+    if !offsets_fit(frames, starts, count, forms, carry, owners, offsets) {
+        return false;
+    }
+    assembles(
+        frames,
+        starts,
+        count,
+        forms,
+        carry,
+        owners,
+        offsets,
+        contexts,
+        hint,
+    )
+}
