@@ -1,2 +1,5 @@
 pub mod Rooms
 pub mod Phases
+-- ---- the main entry
+pub mod Deliveries
+pub mod Results

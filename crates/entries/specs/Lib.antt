@@ -1,2 +1,3 @@
 -- What the entries answer and leave in the lent rooms.
 pub mod Assembling
+pub mod Optimizing

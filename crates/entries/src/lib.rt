@@ -1,4 +1,7 @@
 // The public entries: nothing is asked of the caller, and every lent byte is accounted for.
 mod assembling; // a listing to its image
+mod finishing; // an end form to its listing and its image
+mod optimizing; // a listing to its end form
 
 pub use assembling::assemble;
+pub use optimizing::optimize_jumps;

@@ -19,7 +19,10 @@ pub fn image() {
     } else if n == 0 {
         write_image(false);
     } else {
-        write_all(STDERR_FILENO, b"mortarbee: image takes no word or the word hex\n");
+        write_all(
+            STDERR_FILENO,
+            b"mortarbee: image takes no word or the word hex\n",
+        );
     }
 }
 
@@ -57,7 +60,13 @@ fn put_bytes(bytes: &[u8], as_digits: bool) {
 
 // A digit of the sixteen.
 fn digit(x: u8) -> u8 {
-    if x < 10 { 48 + x } else if x < 16 { 55 + x } else { 63 }
+    if x < 10 {
+        48 + x
+    } else if x < 16 {
+        55 + x
+    } else {
+        63
+    }
 }
 
 fn put_pair(b: u8, end: u8) {

@@ -1,0 +1,100 @@
+-- `anchors::anchoring::origin_at` meets its contract: a transfer that is no change jump, and the value of its target.
+use mathlib.Core.Path.{_≡_, sym, ap, _∙_}
+use mathlib.Core.Bool.{true}
+use Prim.Native.Nat.{ℕ, _<_}
+use native.Mathlib.Omega.{arith}
+use borrow.Author.Needs.{needs}
+use borrow.Author.Tests.{not-true, not-false}
+use Rattle.rules.specs.Forms.{isTransfer}
+use Rattle.rules.specs.Layout.{origin}
+use Rattle.image.specs.Tables.{Tables, tables, program}
+use Rattle.asm.specs.Belonging.{originAs}
+use Rattle.asm.proofs.Carrying.{positioned-any}
+use Rattle.patterns.specs.Targets.{standsAt, formIn}
+use Rattle.anchors.proofs.Targets.{origin-other, origin-change, own-target, origin-target}
+use Rattle.anchors.proofs.anchoring.origin_at.Statement.{statement}
+use Rattle.anchors.proofs.anchoring.origin_at.Tie as tie
+
+module _ (s : tie.Start) where
+  abbrev here : Tables
+  here =
+      tables (s .args .frames .now) (s .args .starts .now) (s .args .count) (s .args .forms .now) (s .args .carry .now) (s .args .bare .now) (s .args .none .now)
+      (s .args .names .now) (s .args .contexts .now) (s .args .values .now) (s .args .positions .now)
+
+  abbrev place : ℕ
+  place = s .args .at .0
+
+form-at-requires : tie.Need-form-at-requires
+form-at-requires c κs = c .before .pre .0 .sound .held
+
+-- the test, as the program has it
+tested : (c : tie.After-is-transfer) → let s = c .before .before .before in c .is-transfer .result ≡ isTransfer (formIn (standsAt (here s .slots) (place s)))
+tested c =
+    let s = c .before .before .before in
+    c .is-transfer .ensures ∙ ap isTransfer (c .before .form-at .ensures (s .args .carry .now) (s .args .bare .now) (s .args .none .now))
+
+returns : tie.Need-returns
+returns c =
+    let k = c .before in
+    let s = k .before .before .before in
+    let d = here s in
+    record { answer = sym (ap originAs (origin-other (d .entries) (program d) (place s) (sym (tested k) ∙ not-true _ (c .if1 .taken)))); inside = tt }
+
+is-change-jump-requires : tie.Need-is-change-jump-requires
+is-change-jump-requires c κs = let s = c .before .before .before .before in (s .pre .0, s .pre .2)
+
+returns-2 : tie.Need-returns-2
+returns-2 c =
+    let j = c .before in
+    let s = j .before .before .before .before .before in
+    let d = here s in
+    record { answer = sym (ap originAs (origin-change (d .entries) (program d) (place s) (sym (j .is-change-jump .ensures) ∙ c .if2 .taken))); inside = tt }
+
+-- a transfer
+moves : (c : tie.Else1) → let s = c .before .before .before .before in isTransfer (formIn (standsAt (here s .slots) (place s))) ≡ true
+moves c = sym (tested (c .before)) ∙ not-false _ (c .if1 .left)
+
+target-value-requires : tie.Need-target-value-requires
+target-value-requires c κs =
+    let m = c .before .before in
+    let s = m .before .before .before .before in
+    (s .pre .0 .sound .held, own-target (here s .slots) (s .pre .0 .sound) (s .pre .1) (place s) (s .pre .2) (moves m))
+
+value-origin-requires : tie.Need-value-origin-requires
+value-origin-requires c κs =
+    let s = c .before .before .before .before .before .before .before in (
+      s .pre .0 .sound .held,
+      positioned-any (s .args .frames .now) (s .args .starts .now) (s .args .count) (s .args .forms .now) (s .args .carry .now) (s .args .bare .now) (s .args .none .now)
+          (s .args .positions .now) (s .pre .0 .position),
+    )
+
+returns-3 : tie.Need-returns-3
+returns-3 c =
+    let v = c .before in
+    let j = v .before .before in
+    let m = j .before in
+    let s = m .before .before .before .before in
+    let d = here s in
+    let f = c .value-origin .ensures (s .args .carry .now) (s .args .bare .now) (s .args .none .now) in
+    record {
+      answer =
+          f .answer
+          ∙ ap (λ x. originAs (origin (program d) x)) (v .target-value .ensures)
+          ∙ sym
+          (ap originAs
+          (origin-target (d .slots) (s .pre .0 .sound) (s .pre .1) (place s) (s .pre .2) (moves m) (d .entries) (sym (j .is-change-jump .ensures) ∙ v .before .if2 .left)));
+      inside = f .inside;
+    }
+
+pub origin-at-spec : {M : Type 1} → statement M
+origin-at-spec =
+    tie.close
+    (tie.spec
+    form-at-requires
+    (λ c κs. search needs)
+    returns
+    is-change-jump-requires
+    returns-2
+    target-value-requires
+    value-origin-requires
+    returns-3)

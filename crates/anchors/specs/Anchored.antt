@@ -1,0 +1,63 @@
+-- What the targets of a program are anchored to, as the tables of a listing as read hold it.
+use mathlib.Core.Path.{_≡_}
+use mathlib.Core.Bool.{cond}
+use mathlib.Core.List.{List}
+use mathlib.Core.Option.{Option, none, some}
+use Prim.Native.Nat.{ℕ, _<_}
+use lib.ListN.{getD}
+use Rattle.rules.specs.declared.Outcome.{Outcome}
+use Rattle.rules.specs.declared.Outcome.the-variants.{Unknown}
+use Rattle.rules.specs.Expressions.{evalTree, holdsName}
+use Rattle.rules.specs.Programs.{Placeℕ, Operand, register, value, inner, argsOf, lastOf, Program, at}
+use Rattle.rules.specs.Layout.{Origin as Source, origin}
+use Rattle.rules.specs.Names.{Entry}
+use Rattle.rules.specs.Rewriting.{isAnchored, anchor}
+use Rattle.slots.specs.Slots.{Slots, noOwner, programOf, Sound}
+use Rattle.asm.specs.declared.Origin.{Origin}
+use Rattle.asm.specs.declared.Origin.the-variants.{At, Nothing}
+use Rattle.asm.specs.Belonging.{originAs, OriginIn}
+
+-- "a target with no name": its value; there is none to ask of a target that holds a name
+abbrev pub bareValue : Operand → Outcome
+bareValue (register r) = Unknown
+bareValue (value e) = cond (holdsName e) Unknown (evalTree (λ n. Unknown) e)
+bareValue (inner i o) = Unknown
+
+-- the origin that the target at place i becomes an inner label of
+unfoldable pub originAt : (names : List Entry) → Program → (i : Placeℕ) → Option Source
+originAt names p i = cond (isAnchored names p i (at p i)) (origin p (bareValue (lastOf (argsOf (at p i))))) none
+
+-- the code's answer to an origin that there is or is not, as a statement of the tables
+pub record Found (t : Slots) (o : Option Source) (r : Origin) : Type 0 where
+  pub answer : r ≡ originAs o
+  pub inside : OriginIn t r
+
+-- the inner label of an origin, as the tables have it
+abbrev pub ownerIn : Origin → ℕ
+ownerIn (At i o) = i .0
+ownerIn Nothing = noOwner
+
+abbrev pub offsetIn : Origin → ℕ
+offsetIn (At i o) = o
+offsetIn Nothing = 0
+
+-- the tables have room for it
+abbrev pub Small : Origin → Type 0
+Small (At i o) = (i .0 < 1024) × (o < 65536)
+Small Nothing = Unit
+
+abbrev pub ownerOf : Option Source → ℕ
+ownerOf o = ownerIn (originAs o)
+
+abbrev pub offsetOf : Option Source → ℕ
+offsetOf o = offsetIn (originAs o)
+
+-- the tables of a listing as read: each place carries its own target, and no target is an inner label
+pub record AsRead (t : Slots) : Type 0 where
+  pub own : (i : Placeℕ) → i < t .count → getD (t .carry) i 0 ≡ i
+  pub free : (i : Placeℕ) → i < t .count → getD (t .owners) i 0 ≡ noOwner
+
+-- u holds the program of t, anchored
+pub record Anchored (t u : Slots) : Type 0 where
+  pub program : programOf u ≡ anchor (programOf t)
+  pub sound : Sound u

@@ -1,0 +1,184 @@
+// Rule 1: a `Jmpf` right behind the `Not1` that changes the bank. It is judged on the tables at hand each time.
+use crate::Nearest;
+use image::argument_worth;
+use instruction::tables::JMPF;
+use instruction::tables::NOT1;
+use patterns::targets::form_at;
+use rules::Outcome;
+use rules::Place;
+use slots::kind_at;
+ghost use mathlib.Core.Path.{_≡_};
+ghost use mathlib.Core.List.{List};
+ghost use mathlib.Core.Option.{some};
+ghost use Prim.Native.Nat.{ℕ, suc, _<_, _≤_};
+ghost use lib.Dec.{eqb};
+ghost use lib.ListN.{getD};
+ghost use Rattle.rules.specs.Values.{isNumber};
+ghost use Rattle.rules.specs.Rewriting.{skipped, changesAt, isChangeJump};
+ghost use Rattle.rules.specs.Rewriting.{nearest as nearestPlace};
+ghost use Rattle.listing.specs.Tables.{Held};
+ghost use Rattle.slots.specs.Slots.{slots, slotAt, programOf};
+ghost use Rattle.image.specs.Tables.{tables, program, Ready};
+ghost use Rattle.anchors.specs.Changes.{nearestAs};
+
+// "labels (inner ones too), variables and comments skipped". A slot that is gone holds no statement.
+fn skipped_at(
+    frames: &[u8],
+    starts: &[u16; 1025],
+    count: usize,
+    forms: &[u8; 1024],
+    at: Place,
+) -> bool
+    requires { ⌜ Held (now frames) (now starts) count × (at .0 < count) ⌝ }
+    ensures { λ r. ⌜ ((carry owners offsets : List ℕ) → r ≡ skipped (slotAt (slots (now (frames .entry)) (now (starts .entry)) count (now (forms .entry)) carry owners offsets) (at .0))) ⌝ }
+{
+    let kind = kind_at(frames, starts, count, forms, at);
+    if kind == 1 {
+        return false;
+    }
+    kind < 5
+}
+
+// The last place below whose statement is not skipped.
+fn nearest(
+    frames: &[u8],
+    starts: &[u16; 1025],
+    count: usize,
+    forms: &[u8; 1024],
+    at: Place,
+) -> Nearest
+    requires { ⌜ Held (now frames) (now starts) count × (at .0 ≤ count) ⌝ }
+    ensures { λ r. ⌜ ((carry owners offsets : List ℕ) → r ≡ nearestAs (nearestPlace (programOf (slots (now (frames .entry)) (now (starts .entry)) count (now (forms .entry)) carry owners offsets)) (at .0))) ⌝ }
+{
+    let mut j = at.0;
+    while 0 < j {
+        j -= 1;
+        if !skipped_at(frames, starts, count, forms, Place(j)) {
+            return Nearest::At(Place(j));
+        }
+    }
+    Nearest::Nothing
+}
+
+// A value, and equal to n.
+fn is_number(x: Outcome, n: u16) -> bool
+    ensures { λ r. ⌜ r ≡ isNumber n x ⌝ }
+{
+    match x {
+        Outcome::Is(v) => v == n as i32,
+        Outcome::Unknown => false,
+        Outcome::Nothing => false,
+    }
+}
+
+// The statement at j ends where the one at `at` begins.
+fn meets(positions: &[u32; 1025], j: Place, at: Place) -> bool
+    requires { ⌜ (j .0 < 1024) × (at .0 < 1024) ⌝ }
+    ensures { λ r. ⌜ r ≡ eqb (getD (now (positions .entry)) (suc (j .0)) 0) (getD (now (positions .entry)) (at .0) 0) ⌝ }
+{
+    let i = at.0;
+    let end = j.0 + 1;
+    positions[end] == positions[i]
+}
+
+// The statement at j is `Not1` "with operands valued 0x10D and 0, ending where the jump begins".
+fn changes_at(
+    frames: &[u8],
+    starts: &[u16; 1025],
+    count: usize,
+    forms: &[u8; 1024],
+    carry: &[u16; 1024],
+    owners: &[u16; 1024],
+    offsets: &[u16; 1024],
+    names: &[u32; 1024],
+    contexts: &[u16; 1024],
+    values: &[i32; 1024],
+    positions: &[u32; 1025],
+    at: Place,
+    j: Place,
+) -> bool
+    requires { ⌜ Ready (tables (now frames) (now starts) count (now forms) (now carry) (now owners) (now offsets) (now names) (now contexts) (now values) (now positions)) × (at .0 < count) × (j .0 < count) ⌝ }
+    ensures { λ r. ⌜ (let d = tables (now (frames .entry)) (now (starts .entry)) count (now (forms .entry)) (now (carry .entry)) (now (owners .entry)) (now (offsets .entry)) (now (names .entry)) (now (contexts .entry)) (now (values .entry)) (now (positions .entry)) in r ≡ changesAt (d .entries) (program d) (at .0) (some (j .0))) ⌝ }
+{
+    if form_at(frames, starts, count, forms, j) != NOT1 {
+        return false;
+    }
+    let bank = argument_worth(
+        frames,
+        starts,
+        count,
+        forms,
+        carry,
+        owners,
+        offsets,
+        names,
+        contexts,
+        values,
+        positions,
+        j,
+        0,
+    );
+    if !is_number(bank, 0x10D) {
+        return false;
+    }
+    let bit = argument_worth(
+        frames,
+        starts,
+        count,
+        forms,
+        carry,
+        owners,
+        offsets,
+        names,
+        contexts,
+        values,
+        positions,
+        j,
+        1,
+    );
+    if !is_number(bit, 0) {
+        return false;
+    }
+    meets(positions, j, at)
+}
+
+// "a `Jmpf` whose nearest earlier statement .. is `Not1` with operands valued 0x10D and 0, ending where the jump begins"
+pub fn is_change_jump(
+    frames: &[u8],
+    starts: &[u16; 1025],
+    count: usize,
+    forms: &[u8; 1024],
+    carry: &[u16; 1024],
+    owners: &[u16; 1024],
+    offsets: &[u16; 1024],
+    names: &[u32; 1024],
+    contexts: &[u16; 1024],
+    values: &[i32; 1024],
+    positions: &[u32; 1025],
+    at: Place,
+) -> bool
+    requires { ⌜ Ready (tables (now frames) (now starts) count (now forms) (now carry) (now owners) (now offsets) (now names) (now contexts) (now values) (now positions)) × (at .0 < count) ⌝ }
+    ensures { λ r. ⌜ (let d = tables (now (frames .entry)) (now (starts .entry)) count (now (forms .entry)) (now (carry .entry)) (now (owners .entry)) (now (offsets .entry)) (now (names .entry)) (now (contexts .entry)) (now (values .entry)) (now (positions .entry)) in r ≡ isChangeJump (d .entries) (program d) (at .0)) ⌝ }
+{
+    if form_at(frames, starts, count, forms, at) != JMPF {
+        return false;
+    }
+    match nearest(frames, starts, count, forms, at) {
+        Nearest::At(j) => changes_at(
+            frames,
+            starts,
+            count,
+            forms,
+            carry,
+            owners,
+            offsets,
+            names,
+            contexts,
+            values,
+            positions,
+            at,
+            j,
+        ),
+        Nearest::Nothing => false,
+    }
+}

@@ -1,0 +1,56 @@
+-- A result and the two rooms that it is to fit: refused with 12 where one is too short, else in front of what each room held.
+use mathlib.Core.Path.{_≡_, refl, sym, ap, _∙_}
+use mathlib.Core.List.{List}
+use mathlib.Core.Bool.{true, false}
+use Prim.Native.Nat.{ℕ, _≤_, _<_}
+use lib.Dec.{leb}
+use lib.ListN.{length}
+use borrow.Author.Tests.{le-leb, lt-leb}
+use Rattle.laws.proofs.Tests.{and-both, first-false, second-false}
+use Rattle.rules.specs.declared.Answer.{Answer}
+use Rattle.rules.specs.declared.Answer.the-variants.{Done, Refused}
+use Rattle.rules.specs.declared.Refusal.{Refusal}
+use Rattle.rules.specs.declared.Refusal.the-variants.{Room}
+use Rattle.rules.specs.Answers.{Judged, ok, no, require}
+use Rattle.rules.specs.Run.{Output, fits, answerOf, front, listingAfter, imageAfter}
+use Rattle.entries.specs.Optimizing.{roomed, Delivers, Fitted}
+
+-- a refusal changes nothing
+pub delivers-no : (x : Judged Output) (q : Refusal) (out image : List ℕ) → x ≡ no q → Delivers x (Refused q) out image out image
+delivers-no x q out image e =
+    record {
+      answers = sym (ap answerOf e);
+      listing-is = sym (ap (λ y. listingAfter y out) e);
+      image-is = sym (ap (λ y. imageAfter y image) e);
+    }
+
+module _ (count : ℕ) (o : Output) (out image : List ℕ) where
+  short : fits (length out) (length image) o ≡ false → Fitted count o (Refused (Room count)) out image out image
+  unfolding roomed require
+  short e = delivers-no (roomed count (length out) (length image) o) (Room count) out image (rw e)
+
+  -- the listing room is too short
+  pub fitted-listing : length out < length (o .listing) → Fitted count o (Refused (Room count)) out image out image
+  unfolding fits
+  fitted-listing h = short (first-false (leb (length (o .listing)) (length out)) (leb (length (o .image)) (length image)) (lt-leb _ _ h))
+
+  -- the image room is too short
+  pub fitted-image : length image < length (o .image) → Fitted count o (Refused (Room count)) out image out image
+  unfolding fits
+  fitted-image h = short (second-false (leb (length (o .listing)) (length out)) (leb (length (o .image)) (length image)) (lt-leb _ _ h))
+
+  whole : length (o .listing) ≤ length out → length (o .image) ≤ length image → roomed count (length out) (length image) o ≡ ok o
+  unfolding roomed require fits
+  whole h k = rw (le-leb (length (o .listing)) (length out) h, le-leb (length (o .image)) (length image) k)
+
+  -- both hold the result
+  pub fitted-whole : (a n b : ℕ) (out′ image′ : List ℕ) → length (o .listing) ≤ length out → length (o .image) ≤ length image
+      → a ≡ length (o .listing) → n ≡ o .count → b ≡ length (o .image) → out′ ≡ front (o .listing) out → image′ ≡ front (o .image) image
+      → Fitted count o (Done (record { listing = a; rewrites = n; image = b })) out image out′ image′
+  fitted-whole a n b out′ image′ h k ea en eb el ei =
+      let e = whole h k in
+      record {
+        answers = rw (ea, en, eb) (sym (ap answerOf e));
+        listing-is = el ∙ sym (ap (λ y. listingAfter y out) e);
+        image-is = ei ∙ sym (ap (λ y. imageAfter y image) e);
+      }

@@ -1,0 +1,174 @@
+-- What the phases hand to each other is what document 01's run has: the anchored program stands, its end form's text and image are the output's, and
+-- the whole is the run of the text.
+use mathlib.Core.Path.{_≡_, refl, sym, ap, _∙_, subst}
+use mathlib.Core.List.{List, []}
+use mathlib.Core.Bool.{true}
+use Prim.Native.Nat.{ℕ}
+use native.Mathlib.Omega.{arith}
+use lib.ListN.{length}
+use Rattle.laws.specs.Lists.{total}
+use Rattle.laws.proofs.Tests.{false-true}
+use Rattle.rules.specs.declared.Answer.{Answer}
+use Rattle.rules.specs.declared.Answer.the-variants.{Refused}
+use Rattle.rules.specs.declared.Refusal.{Refusal}
+use Rattle.rules.specs.declared.Refusal.the-variants.{Room}
+use Rattle.rules.specs.Answers.{Judged, ok, no, _>>=_, _>>_, require, orD, isOk}
+use Rattle.rules.specs.Programs.{Program}
+use Rattle.rules.specs.Listing.{readListing}
+use Rattle.rules.specs.Judging.{judge, assembles}
+use Rattle.rules.specs.Rewriting.{Chain, anchor, chain, instrBytes, optimized}
+use Rattle.rules.specs.Output.{writeBack, compact, stems, textOf}
+use Rattle.rules.specs.Run.{Output, outputOf, fits, run}
+use Rattle.promises.specs.Demand2.{Answered, Input, outputProgram}
+use Rattle.promises.proofs.Passes.{judge-passes, assembles-image, image-assembles}
+use Rattle.promises.proofs.Anchors.{instrBytes-anchor}
+use Rattle.promises.proofs.Acceptable.{judge-anchor}
+use Rattle.promises.proofs.ImageOfOutput.{image-of-output}
+use Rattle.slots.specs.Slots.{Slots, programOf}
+use Rattle.image.specs.Tables.{Tables, program, Ready}
+use Rattle.image.specs.Encoding.{encodeSlots}
+use Rattle.image.specs.Image.{imageOf}
+use Rattle.output.specs.Lines.{listingOf, Positioned}
+use Rattle.asm.specs.declared.Verdict.{Verdict}
+use Rattle.asm.specs.declared.Verdict.the-variants.{Good, Refused as Bad}
+use Rattle.asm.specs.Verdicts.{JudgedAs}
+use Rattle.asm.specs.Assembling.{Placed}
+use Rattle.attempts.specs.Standing.{Standing}
+use Rattle.anchors.specs.Anchored.{Anchored}
+use Rattle.optimize.specs.Optimized.{Optimized}
+use Rattle.entries.specs.Optimizing.{resultOf, rewritten, roomed, judgedRun, Assembled, Delivers, Fitted}
+use Rattle.entries.proofs.Phases.{good-ok, bad-no}
+use Rattle.entries.proofs.Deliveries.{delivers-no}
+
+-- ---- judged
+
+-- a good verdict
+pub assembled-by : (d : Tables) (r : Verdict) → r ≡ Good → JudgedAs d r → Assembled d
+unfolding assembles
+assembled-by d r e v =
+    record {
+      ready = v .ready e;
+      names = sym (v .names e);
+      encodes = v .encodes e;
+      good = good-ok (judge (program d)) (sym e ∙ v .answer);
+    }
+
+module _ (d : Tables) (h : Assembled d) where
+  pub assembled-encodes : isOk (encodeSlots d) ≡ true
+  unfolding assembles
+  assembled-encodes = ap isOk (sym (h .encodes)) ∙ h .good
+
+  -- the image of the tables is the program's
+  pub image-result : (n : ℕ) → imageOf d ≡ resultOf (program d) n .image
+  unfolding imageOf resultOf
+  image-result n = ap (λ x. orD x []) (sym (h .encodes))
+
+pub listing-result : (t : Slots) (n : ℕ) → listingOf t ≡ resultOf (programOf t) n .listing
+unfolding listingOf resultOf
+listing-result t n = refl
+
+pub count-result : (q : Program) (n : ℕ) → n ≡ resultOf q n .count
+unfolding resultOf
+count-result q n = refl
+
+-- the positions that the tables hold are the program's
+pub positioned : (d : Tables) → Ready d → Positioned (d .slots) (d .positions)
+positioned d r = record { are = λ i l. r .position i (omega arith); low = λ i l. r .low i (omega arith) }
+
+-- a program that assembles is not refused
+pub not-refused {ℓ} : {X : Type ℓ} (d : Tables) (r : Verdict) (q : Refusal) → r ≡ Bad q → JudgedAs d r → assembles (program d) ≡ true → X
+unfolding assembles isOk
+not-refused d r q e v g =
+    let b : judge (program d) ≡ no q = bad-no (judge (program d)) q (sym e ∙ v .answer) in
+    false-true (rw b at g)
+
+-- ---- anchored
+
+-- anchoring a program that assembles leaves one that assembles, and defines no name twice
+pub anchored-stands : (t u : Slots) (contexts : List ℕ) → Anchored t u → assembles (programOf t) ≡ true → length (u .forms) ≡ 1024 → length (u .carry) ≡ 1024
+    → Placed u contexts → Standing u contexts × (assembles (programOf u) ≡ true)
+anchored-stands t u contexts a g f c k =
+    let i = assembles-image (programOf t) g in
+    let j : judge (programOf u) ≡ ok (i .0) = ap judge (a .program) ∙ judge-anchor (programOf t) ∙ i .1 in (
+      record { sound = a .sound; forms-full = f; carry-full = c; context = k .context; named = judge-passes (programOf u) (i .0) j .once },
+      image-assembles (programOf u) (i .0) j,
+    )
+
+-- ---- rewritten
+
+pub rewritten-is : (q end : Program) (n : ℕ) → chain (total instrBytes q) q ≡ record { program = end; count = n } → rewritten q ≡ resultOf end n
+unfolding rewritten
+rewritten-is q end n e = ap (λ (c : Chain). resultOf (c .program) (c .count)) e
+
+-- what the rewriting left, handed out
+pub optimized-fitted : (contexts : List ℕ) (t u : Slots) (n : ℕ) {r : Answer} {out image out′ image′ : List ℕ} → Optimized t u contexts n
+    → Fitted (t .count) (resultOf (programOf u) n) r out image out′ image′ → Fitted (t .count) (rewritten (programOf t)) r out image out′ image′
+optimized-fitted contexts t u n {r} {out} {image} {out′} {image′} h d =
+    let e = rewritten-is (programOf t) (programOf u) n (h .chain-is (total instrBytes (programOf t)) (omega arith)) in
+    subst (λ (o : Output). Fitted (t .count) o r out image out′ image′) (sym e) d
+
+-- of the same program
+pub fitted-program : (p q : Program) (n : ℕ) {r : Answer} {out image out′ image′ : List ℕ} → p ≡ q
+    → Fitted n (rewritten p) r out image out′ image′ → Fitted n (rewritten q) r out image out′ image′
+fitted-program p q n {r} {out} {image} {out′} {image′} e d = subst (λ (z : Program). Fitted n (rewritten z) r out image out′ image′) e d
+
+-- what is handed out of an accepted program is document 01's output: the end form's image is the output's
+pub rewritten-output : (p : Program) → Input p → rewritten (anchor p) ≡ outputOf p
+unfolding rewritten resultOf outputOf optimized outputProgram
+rewritten-output p h =
+    let i = image-of-output p h in
+    let same : judge (optimized p .program) ≡ judge (compact (writeBack (optimized p .program))) = i .of-end ∙ sym (i .of-output) in
+    ap (λ (fuel : ℕ). (let c = chain fuel (anchor p) in resultOf (c .program) (c .count))) (instrBytes-anchor p)
+    ∙ ap (λ x. record { listing = textOf (compact (writeBack (optimized p .program))); stems = stems (optimized p .program); count = optimized p .count; image = orD x [] }) same
+
+-- ---- the run
+
+module _ (a b : ℕ) (p : Program) where
+  pub judged-no : (q : Refusal) → judge p ≡ no q → judgedRun a b p ≡ no q
+  unfolding judgedRun _>>_
+  judged-no q e = rw e
+
+  judged-ok : (image : List ℕ) → judge p ≡ ok image → judgedRun a b p ≡ roomed (length p) a b (rewritten (anchor p))
+  unfolding judgedRun _>>_
+  judged-ok image e = rw e
+
+pub judged-delivers : (p : Program) (n : ℕ) {r : Answer} {out image out′ image′ : List ℕ} → length p ≡ n → assembles p ≡ true
+    → Fitted n (rewritten (anchor p)) r out image out′ image′ → Delivers (judgedRun (length out) (length image) p) r out image out′ image′
+judged-delivers p n {r} {out} {image} {out′} {image′} e g h =
+    let i = assembles-image p g in
+    let z : roomed n (length out) (length image) (rewritten (anchor p)) ≡ judgedRun (length out) (length image) p =
+    ap (λ m. roomed m (length out) (length image) (rewritten (anchor p))) (sym e) ∙ sym (judged-ok (length out) (length image) p (i .0) (i .1)) in
+    subst (λ (x : Judged Output). Delivers x r out image out′ image′) z h
+
+pub delivers-program : (p q : Program) {r : Answer} {out image out′ image′ : List ℕ} → p ≡ q
+    → Delivers (judgedRun (length out) (length image) p) r out image out′ image′ → Delivers (judgedRun (length out) (length image) q) r out image out′ image′
+delivers-program p q {r} {out} {image} {out′} {image′} e d =
+    subst (λ (z : Program). Delivers (judgedRun (length out) (length image) z) r out image out′ image′) e d
+
+module _ (text : List ℕ) (a b : ℕ) where
+  run-no : (q : Refusal) → readListing text ≡ no q → run text a b ≡ no q
+  unfolding run _>>=_
+  run-no q e = rw e
+
+  run-read : (p : Program) → readListing text ≡ ok p → run text a b ≡ judgedRun a b p
+  unfolding run judgedRun _>>=_ _>>_ roomed
+  run-read p e = rw e (on (judge p) refl)
+    where
+      on : (x : Judged (List ℕ)) → judge p ≡ x → (x >> require (fits a b (outputOf p)) (Room (length p)) (ok (outputOf p))) ≡ (x >> roomed (length p) a b (rewritten (anchor p)))
+      on (ok image) j = ap (λ o. roomed (length p) a b o) (sym (rewritten-output p (record { text = text; reads = e; image = image; assembles = j })))
+      on (no q) j = refl
+
+-- ---- the text
+
+module _ (text out image : List ℕ) where
+  pub answered-unread : (q : Refusal) → readListing text ≡ no q → Answered text out image (Refused q) out image
+  answered-unread q e =
+      let d = delivers-no (run text (length out) (length image)) q out image (run-no text (length out) (length image) q e) in
+      record { answers = d .answers; listing-is = d .listing-is; image-is = d .image-is }
+
+  pub answered-read : (p q : Program) {r : Answer} {out′ image′ : List ℕ} → readListing text ≡ ok p → q ≡ p
+      → Delivers (judgedRun (length out) (length image) q) r out image out′ image′ → Answered text out image r out′ image′
+  answered-read p q {r} {out′} {image′} e f h =
+      let z : judgedRun (length out) (length image) q ≡ run text (length out) (length image) = ap (judgedRun (length out) (length image)) f ∙ sym (run-read text (length out) (length image) p e) in
+      let d = subst (λ (x : Judged Output). Delivers x r out image out′ image′) z h in
+      record { answers = d .answers; listing-is = d .listing-is; image-is = d .image-is }

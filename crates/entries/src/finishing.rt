@@ -1,0 +1,130 @@
+// An end form is judged once more, and its listing and image are written if both rooms hold them.
+use asm::Verdict;
+use asm::judge;
+use image::image_length;
+use image::write_image;
+use output::text_length;
+use output::write_text;
+use rules::Answer;
+use rules::Refusal;
+use rules::Sizes;
+ghost use mathlib.Core.Path.{_≡_};
+ghost use mathlib.Core.Bool.{true};
+ghost use Rattle.rules.specs.Judging.{assembles};
+ghost use Rattle.slots.specs.Slots.{slots, programOf};
+ghost use Rattle.image.specs.Tables.{tables};
+ghost use Rattle.attempts.specs.Standing.{Standing};
+ghost use Rattle.entries.specs.Optimizing.{resultOf, Assembled, Fitted};
+
+// The listing and the image of slots that assemble, `rewrites` being how many rewrites led to them. Both rooms are judged before a byte is written.
+fn write_both(
+    frames: &[u8],
+    starts: &[u16; 1025],
+    count: usize,
+    forms: &[u8; 1024],
+    carry: &[u16; 1024],
+    owners: &[u16; 1024],
+    offsets: &[u16; 1024],
+    names: &[u32; 1024],
+    contexts: &[u16; 1024],
+    values: &[i32; 1024],
+    positions: &[u32; 1025],
+    rewrites: usize,
+    out: &mut [u8],
+    image: &mut [u8],
+) -> Answer
+    requires { ⌜ Assembled (tables (now frames) (now starts) count (now forms) (now carry) (now owners) (now offsets) (now names) (now contexts) (now values) (now positions)) ⌝ }
+    ensures { λ r. ⌜ Fitted count (resultOf (programOf (slots (now (frames .entry)) (now (starts .entry)) count (now (forms .entry)) (now (carry .entry)) (now (owners .entry)) (now (offsets .entry)))) rewrites) r (now (out .entry)) (now (image .entry)) (now (out .exit)) (now (image .exit)) ⌝ }
+{
+    let listing_size = text_length(frames, starts, count, forms, carry, owners);
+    let image_size = image_length(frames, starts, count, forms, positions);
+    if out.len() < listing_size {
+        return Answer::Refused(Refusal::Room(count));
+    }
+    if image.len() < image_size {
+        return Answer::Refused(Refusal::Room(count));
+    }
+    write_text(
+        frames,
+        starts,
+        count,
+        forms,
+        carry,
+        owners,
+        offsets,
+        positions,
+        out,
+    );
+    write_image(
+        frames,
+        starts,
+        count,
+        forms,
+        carry,
+        owners,
+        offsets,
+        names,
+        contexts,
+        values,
+        positions,
+        image,
+    );
+    Answer::Done(Sizes {
+        listing: listing_size,
+        rewrites: rewrites,
+        image: image_size,
+    })
+}
+
+// Names, positions and values of the end form are found once more: it assembles.
+pub fn judge_end(
+    frames: &[u8],
+    starts: &[u16; 1025],
+    count: usize,
+    forms: &[u8; 1024],
+    carry: &[u16; 1024],
+    owners: &[u16; 1024],
+    offsets: &[u16; 1024],
+    contexts: &[u16; 1024],
+    rewrites: usize,
+    out: &mut [u8],
+    image: &mut [u8],
+) -> Answer
+    requires { ⌜ Standing (slots (now frames) (now starts) count (now forms) (now carry) (now owners) (now offsets)) (now contexts) × (assembles (programOf (slots (now frames) (now starts) count (now forms) (now carry) (now owners) (now offsets))) ≡ true) ⌝ }
+    ensures { λ r. ⌜ Fitted count (resultOf (programOf (slots (now (frames .entry)) (now (starts .entry)) count (now (forms .entry)) (now (carry .entry)) (now (owners .entry)) (now (offsets .entry)))) rewrites) r (now (out .entry)) (now (image .entry)) (now (out .exit)) (now (image .exit)) ⌝ }
+{
+    let mut names = [65536u32; 1024];
+    let mut positions = [0u32; 1025];
+    let mut values = [0i32; 1024];
+    match judge(
+        frames,
+        starts,
+        count,
+        forms,
+        carry,
+        owners,
+        offsets,
+        contexts,
+        &mut names,
+        &mut positions,
+        &mut values,
+    ) {
+        Verdict::Refused(r) => Answer::Refused(r),
+        Verdict::Good => write_both(
+            frames,
+            starts,
+            count,
+            forms,
+            carry,
+            owners,
+            offsets,
+            &names,
+            contexts,
+            &values,
+            &positions,
+            rewrites,
+            out,
+            image,
+        ),
+    }
+}

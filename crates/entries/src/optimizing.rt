@@ -1,0 +1,241 @@
+// A listing is read, judged, anchored, rewritten and written. Each phase declares the tables that it fills and hands them on.
+use crate::finishing::judge_end;
+use anchors::anchor;
+use asm::Verdict;
+use asm::judge;
+use asm::start_carry;
+use asm::start_forms;
+use env::fill_contexts;
+use listing::Listed;
+use listing::read_listing;
+use optimize::optimize;
+use rules::Answer;
+ghost use mathlib.Core.Path.{_≡_};
+ghost use mathlib.Core.Bool.{true};
+ghost use lib.ListN.{length};
+ghost use Rattle.rules.specs.Judging.{assembles};
+ghost use Rattle.rules.specs.Rewriting as rewriting;
+ghost use Rattle.promises.specs.Demand2.{Answered};
+ghost use Rattle.listing.specs.Tables.{inputOf, Held};
+ghost use Rattle.env.specs.Tables.{Any};
+ghost use Rattle.slots.specs.Slots.{slots, programOf, Sound};
+ghost use Rattle.image.specs.Tables.{tables};
+ghost use Rattle.asm.specs.Assembling.{Placed};
+ghost use Rattle.attempts.specs.Standing.{Standing};
+ghost use Rattle.anchors.specs.Anchored.{AsRead};
+ghost use Rattle.entries.specs.Optimizing.{rewritten, judgedRun, Assembled, Delivers, Fitted};
+
+// Rewrites an anchored program to its end form, and writes it.
+fn rewrite_anchored(
+    frames: &[u8],
+    starts: &[u16; 1025],
+    count: usize,
+    forms: &mut [u8; 1024],
+    carry: &mut [u16; 1024],
+    owners: &[u16; 1024],
+    offsets: &[u16; 1024],
+    contexts: &[u16; 1024],
+    out: &mut [u8],
+    image: &mut [u8],
+) -> Answer
+    requires { ⌜ Standing (slots (now frames) (now starts) count (now forms) (now carry) (now owners) (now offsets)) (now contexts) × (assembles (programOf (slots (now frames) (now starts) count (now forms) (now carry) (now owners) (now offsets))) ≡ true) ⌝ }
+    ensures { λ r. ⌜ Fitted count (rewritten (programOf (slots (now (frames .entry)) (now (starts .entry)) count (now (forms .entry)) (now (carry .entry)) (now (owners .entry)) (now (offsets .entry))))) r (now (out .entry)) (now (image .entry)) (now (out .exit)) (now (image .exit)) ⌝ }
+{
+    let rewrites = optimize(
+        frames,
+        starts,
+        count,
+        forms,
+        carry,
+        owners,
+        offsets,
+        contexts,
+    );
+    judge_end(
+        frames,
+        starts,
+        count,
+        forms,
+        carry,
+        owners,
+        offsets,
+        contexts,
+        rewrites,
+        out,
+        image,
+    )
+}
+
+// Anchors the targets of a program that assembles: `bare` and `none` say that no target is an inner label yet.
+fn anchor_judged(
+    frames: &[u8],
+    starts: &[u16; 1025],
+    count: usize,
+    forms: &mut [u8; 1024],
+    carry: &mut [u16; 1024],
+    bare: &[u16; 1024],
+    none: &[u16; 1024],
+    names: &[u32; 1024],
+    contexts: &[u16; 1024],
+    values: &[i32; 1024],
+    positions: &[u32; 1025],
+    out: &mut [u8],
+    image: &mut [u8],
+) -> Answer
+    requires { ⌜ Assembled (tables (now frames) (now starts) count (now forms) (now carry) (now bare) (now none) (now names) (now contexts) (now values) (now positions)) × AsRead (slots (now frames) (now starts) count (now forms) (now carry) (now bare) (now none)) × (length (now forms) ≡ 1024) × (length (now carry) ≡ 1024) × Any (now frames) (now starts) count (now forms) (λ t. Placed t (now contexts)) ⌝ }
+    ensures { λ r. ⌜ Fitted count (rewritten (rewriting.anchor (programOf (slots (now (frames .entry)) (now (starts .entry)) count (now (forms .entry)) (now (carry .entry)) (now (bare .entry)) (now (none .entry)))))) r (now (out .entry)) (now (image .entry)) (now (out .exit)) (now (image .exit)) ⌝ }
+{
+    let mut owners = [1024u16; 1024];
+    let mut offsets = [0u16; 1024];
+    anchor(
+        frames,
+        starts,
+        count,
+        forms,
+        carry,
+        bare,
+        none,
+        names,
+        contexts,
+        values,
+        positions,
+        &mut owners,
+        &mut offsets,
+    );
+    rewrite_anchored(
+        frames,
+        starts,
+        count,
+        forms,
+        carry,
+        &owners,
+        &offsets,
+        contexts,
+        out,
+        image,
+    )
+}
+
+// Judges a program as read: what does not assemble is refused before anything else.
+fn judge_read(
+    frames: &[u8],
+    starts: &[u16; 1025],
+    count: usize,
+    forms: &mut [u8; 1024],
+    carry: &mut [u16; 1024],
+    bare: &[u16; 1024],
+    none: &[u16; 1024],
+    contexts: &[u16; 1024],
+    out: &mut [u8],
+    image: &mut [u8],
+) -> Answer
+    requires { ⌜ Sound (slots (now frames) (now starts) count (now forms) (now carry) (now bare) (now none)) × AsRead (slots (now frames) (now starts) count (now forms) (now carry) (now bare) (now none)) × (length (now forms) ≡ 1024) × (length (now carry) ≡ 1024) × Any (now frames) (now starts) count (now forms) (λ t. Placed t (now contexts)) ⌝ }
+    ensures { λ r. ⌜ Delivers (judgedRun (length (now (out .entry))) (length (now (image .entry))) (programOf (slots (now (frames .entry)) (now (starts .entry)) count (now (forms .entry)) (now (carry .entry)) (now (bare .entry)) (now (none .entry))))) r (now (out .entry)) (now (image .entry)) (now (out .exit)) (now (image .exit)) ⌝ }
+{
+    let mut names = [65536u32; 1024];
+    let mut positions = [0u32; 1025];
+    let mut values = [0i32; 1024];
+    match judge(
+        frames,
+        starts,
+        count,
+        forms,
+        carry,
+        bare,
+        none,
+        contexts,
+        &mut names,
+        &mut positions,
+        &mut values,
+    ) {
+        Verdict::Refused(r) => Answer::Refused(r),
+        Verdict::Good => anchor_judged(
+            frames,
+            starts,
+            count,
+            forms,
+            carry,
+            bare,
+            none,
+            &names,
+            contexts,
+            &values,
+            &positions,
+            out,
+            image,
+        ),
+    }
+}
+
+// The contexts are found first: they stay the same to the end.
+fn place_read(
+    frames: &[u8],
+    starts: &[u16; 1025],
+    count: usize,
+    forms: &mut [u8; 1024],
+    carry: &mut [u16; 1024],
+    bare: &[u16; 1024],
+    none: &[u16; 1024],
+    out: &mut [u8],
+    image: &mut [u8],
+) -> Answer
+    requires { ⌜ Sound (slots (now frames) (now starts) count (now forms) (now carry) (now bare) (now none)) × AsRead (slots (now frames) (now starts) count (now forms) (now carry) (now bare) (now none)) × (length (now forms) ≡ 1024) × (length (now carry) ≡ 1024) ⌝ }
+    ensures { λ r. ⌜ Delivers (judgedRun (length (now (out .entry))) (length (now (image .entry))) (programOf (slots (now (frames .entry)) (now (starts .entry)) count (now (forms .entry)) (now (carry .entry)) (now (bare .entry)) (now (none .entry))))) r (now (out .entry)) (now (image .entry)) (now (out .exit)) (now (image .exit)) ⌝ }
+{
+    let mut contexts = [0u16; 1024];
+    fill_contexts(frames, starts, count, forms, &mut contexts);
+    judge_read(
+        frames,
+        starts,
+        count,
+        forms,
+        carry,
+        bare,
+        none,
+        &contexts,
+        out,
+        image,
+    )
+}
+
+// The slots of a listing as read: no target is an inner label.
+fn optimize_read(
+    frames: &[u8],
+    starts: &[u16; 1025],
+    count: usize,
+    out: &mut [u8],
+    image: &mut [u8],
+) -> Answer
+    requires { ⌜ Held (now frames) (now starts) count ⌝ }
+    ensures { λ r. ⌜ Delivers (judgedRun (length (now (out .entry))) (length (now (image .entry))) (inputOf (now (frames .entry)) (now (starts .entry)) count)) r (now (out .entry)) (now (image .entry)) (now (out .exit)) (now (image .exit)) ⌝ }
+{
+    let mut forms = [0u8; 1024];
+    let mut carry = [0u16; 1024];
+    start_forms(frames, starts, count, &mut forms);
+    start_carry(count, &mut carry);
+    let bare = [1024u16; 1024];
+    let none = [0u16; 1024];
+    place_read(
+        frames,
+        starts,
+        count,
+        &mut forms,
+        &mut carry,
+        &bare,
+        &none,
+        out,
+        image,
+    )
+}
+
+// Reads a listing, judges it, rewrites it and writes the new listing and its image. On refusal no lent byte changes.
+pub fn optimize_jumps(listing: &[u8], out: &mut [u8], image: &mut [u8]) -> Answer
+    ensures { λ r. ⌜ Answered (now (listing .entry)) (now (out .entry)) (now (image .entry)) r (now (out .exit)) (now (image .exit)) ⌝ }
+{
+    let mut frames = [0u8; 24576];
+    let mut starts = [0u16; 1025];
+    match read_listing(listing, &mut frames, &mut starts) {
+        Listed::Refused(r) => Answer::Refused(r),
+        Listed::Read(count) => optimize_read(&frames, &starts, count, out, image),
+    }
+}

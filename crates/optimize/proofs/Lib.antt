@@ -1,0 +1,4 @@
+pub mod Tries
+pub mod Contexts
+pub mod Shorter
+pub mod Ends

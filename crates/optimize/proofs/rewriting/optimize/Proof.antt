@@ -1,0 +1,68 @@
+-- `optimize::rewriting::optimize` meets its contract. The loop's invariant: the rewrites that were counted led to the program at hand. The measure
+-- is the bytes of its instructions.
+use Prim.Native.Nat.{ℕ}
+use native.Mathlib.Omega.{arith}
+use Rattle.laws.specs.Lists.{total}
+use Rattle.rules.specs.Rewriting.{instrBytes}
+use Rattle.slots.specs.Slots.{Slots, slots, programOf}
+use Rattle.attempts.specs.Standing.{Standing}
+use Rattle.optimize.proofs.Ends.{Led, led-start, few-bytes, Went, went, stopped}
+use Rattle.optimize.proofs.rewriting.optimize.Statement.{statement}
+use Rattle.optimize.proofs.rewriting.optimize.Tie as tie
+
+abbrev Inv-loop : tie.InvT-loop
+Inv-loop frames starts count forms₀ carry₀ owners offsets contexts rewrites₀ forms carry rewrites =
+    Standing (slots frames starts count forms carry owners offsets) contexts
+    × Led (programOf (slots frames starts count forms₀ carry₀ owners offsets)) (programOf (slots frames starts count forms carry owners offsets)) rewrites
+
+abbrev μ-loop : tie.MeasureT-loop
+μ-loop frames starts count forms₀ carry₀ owners offsets contexts rewrites₀ forms carry rewrites =
+    total instrBytes (programOf (slots frames starts count forms carry owners offsets))
+
+abbrev here : (c : tie.Start Inv-loop μ-loop) → Slots
+here c =
+    slots (c .args .frames .now) (c .args .starts .now) (c .args .count) (c .args .forms .now) (c .args .carry .now) (c .args .owners .now) (c .args .offsets .now)
+
+loop-holds : tie.Need-loop-holds Inv-loop μ-loop
+loop-holds c = let s = c .before in (s .pre .0, led-start (programOf (here s)) (s .pre .1))
+
+rewrite-requires : tie.Need-rewrite-requires Inv-loop μ-loop
+rewrite-requires c κs = let l = c .before .before in (l .loop .inv .0, l .loop .inv .1 .good)
+
+add-rewrites : tie.Need-add-rewrites Inv-loop μ-loop
+add-rewrites c =
+    let l = c .before .before .before .before in
+    let s = l .before .before in
+    omega (arith, l .loop .inv .1 .few, few-bytes (here s) (s .pre .0))
+
+loop-less : tie.Need-loop-less Inv-loop μ-loop
+loop-less c =
+    let w = c .before in
+    let l = w .before .before .before in
+    went (here (l .before .before)) _ _ (l .loop .rewrites) (l .loop .inv .1) (w .rewrite .ensures) (c .if1 .taken) .less
+
+loop-again : tie.Need-loop-again Inv-loop μ-loop
+loop-again c =
+    let w = c .before in
+    let l = w .before .before .before in
+    (w .rewrite .ensures .stands, went (here (l .before .before)) _ _ (l .loop .rewrites) (l .loop .inv .1) (w .rewrite .ensures) (c .if1 .taken) .led)
+
+returns : tie.Need-returns Inv-loop μ-loop
+returns c =
+    let w = c .before in
+    let l = w .before .before .before in
+    let s = l .before .before in
+    stopped (here s) _ _ (l .loop .rewrites) (l .loop .inv .1) (w .rewrite .ensures) (s .pre .0) (c .if1 .left)
+
+pub optimize-spec : {M : Type 1} → statement M
+optimize-spec =
+    tie.close
+    (tie.spec
+    Inv-loop
+    μ-loop
+    loop-holds
+    rewrite-requires
+    add-rewrites
+    loop-less
+    loop-again
+    returns)

@@ -1,0 +1,92 @@
+-- `optimize::scanning::fold` meets its contract: over the list is by number.
+use mathlib.Core.Path.{_≡_, refl, sym, _∙_}
+use mathlib.Core.Option.{Option}
+use Prim.Native.Nat.{ℕ, _-_, _≤_}
+use native.Mathlib.Omega.{arith}
+use Rattle.laws.specs.Options.{firstFrom, firstOf}
+use Rattle.laws.proofs.Options.{first-starts, firstOf-places}
+use Rattle.rules.specs.Programs.{Program}
+use Rattle.rules.specs.Rewriting.{Pattern, trampoline, patterns, patternAt, anywhere}
+use Rattle.slots.specs.Slots.{Slots, slots, programOf}
+use Rattle.patterns.specs.Order.{patternAt as nth}
+use Rattle.optimize.proofs.Tries.{same-slots, tried-as, found, missed, ended, still-stands}
+use Rattle.optimize.proofs.scanning.fold.Statement.{statement}
+use Rattle.optimize.proofs.scanning.fold.Tie as tie
+
+-- what is tried
+abbrev tries : Slots → (k : ℕ) → Option Program
+tries t k = anywhere (patternAt (programOf t) (nth k)) (programOf t)
+
+abbrev Inv-loop : tie.InvT-loop
+Inv-loop frames starts count forms₀ carry₀ owners offsets contexts k₀ forms carry k =
+    (k ≤ 23)
+    × (slots frames starts count forms carry owners offsets ≡ slots frames starts count forms₀ carry₀ owners offsets)
+    × (firstFrom (tries (slots frames starts count forms₀ carry₀ owners offsets)) 23 0 ≡ firstFrom (tries (slots frames starts count forms₀ carry₀ owners offsets)) (23 - k) k)
+
+abbrev μ-loop : tie.MeasureT-loop
+μ-loop frames starts count forms₀ carry₀ owners offsets contexts k₀ forms carry k = 23 - k
+
+abbrev here : (c : tie.Start Inv-loop μ-loop) → Slots
+here c =
+    slots (c .args .frames .now) (c .args .starts .now) (c .args .count) (c .args .forms .now) (c .args .carry .now) (c .args .owners .now) (c .args .offsets .now)
+
+-- the first pattern
+abbrev first : Slots → Option Program
+first t = firstOf (λ x. anywhere (patternAt (programOf t) x) (programOf t)) patterns
+
+first-is : (t : Slots) → firstFrom (tries t) 23 0 ≡ first t
+first-is t = sym (firstOf-places (λ (x : Pattern). anywhere (patternAt (programOf t) x) (programOf t)) patterns (trampoline 0))
+
+loop-holds : tie.Need-loop-holds Inv-loop μ-loop
+loop-holds c = (omega arith, refl, first-starts (tries (here (c .before))) 23)
+
+fold-with-requires : tie.Need-fold-with-requires Inv-loop μ-loop
+fold-with-requires c κs =
+    let l = c .before .before .before in
+    let s = l .before .before in
+    (still-stands (l .loop .inv .1) (s .pre), c .before .before .loop-test .taken)
+
+returns : tie.Need-returns Inv-loop μ-loop
+returns c =
+    let p = c .before in
+    let l = p .before .before .before .before in
+    let s = l .before .before in
+    tried-as _ (first (here s)) (first-is (here s))
+    (found tries 23 (l .loop .k) (l .loop .inv .1) (l .loop .inv .2) (p .before .before .before .loop-test .taken) (p .fold-with .ensures) (c .if1 .taken))
+
+add-k : tie.Need-add-k Inv-loop μ-loop
+add-k c = omega arith
+
+loop-less : tie.Need-loop-less Inv-loop μ-loop
+loop-less c = omega arith
+
+loop-again : tie.Need-loop-again Inv-loop μ-loop
+loop-again c =
+    let p = c .before in
+    let l = p .before .before .before .before in
+    let e = p .fold-with .ensures in (
+      omega arith,
+      same-slots _ _ _ _ _ (e .forms-kept (c .if1 .left)) (e .carry-kept (c .if1 .left)) ∙ l .loop .inv .1,
+      missed tries 23 (l .loop .k) (l .loop .inv .1) (l .loop .inv .2) (p .before .before .before .loop-test .taken) e (c .if1 .left),
+    )
+
+returns-2 : tie.Need-returns-2 Inv-loop μ-loop
+returns-2 c =
+    let l = c .before in
+    let s = l .before .before in
+    tried-as _ (first (here s)) (first-is (here s))
+    (ended tries 23 (l .loop .k) (l .loop .inv .1) (l .loop .inv .2) (c .loop-test .left) (s .pre))
+
+pub fold-spec : {M : Type 1} → statement M
+fold-spec =
+    tie.close
+    (tie.spec
+    Inv-loop
+    μ-loop
+    loop-holds
+    fold-with-requires
+    returns
+    add-k
+    loop-less
+    loop-again
+    returns-2)

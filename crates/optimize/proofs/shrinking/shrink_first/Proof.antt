@@ -1,0 +1,99 @@
+-- `optimize::shrinking::shrink_first` meets its contract. The loop's invariant: the tables are what they were, and nothing was found so far.
+use mathlib.Core.Path.{_≡_, refl, sym, ap, _∙_, subst}
+use mathlib.Core.List.{List}
+use mathlib.Core.Option.{Option}
+use Prim.Native.Nat.{ℕ, _-_, _≤_}
+use native.Mathlib.Omega.{arith}
+use Rattle.laws.specs.Options.{firstFrom}
+use Rattle.laws.proofs.Options.{first-starts}
+use Rattle.rules.specs.Programs.{Placeℕ, Program}
+use Rattle.rules.specs.Names.{Entry}
+use Rattle.rules.specs.Judging.{namesOf}
+use Rattle.rules.specs.Rewriting.{shrinkAt, anywhere}
+use Rattle.slots.specs.Slots.{Slots, slots, programOf}
+use Rattle.image.specs.Tables.{Tables, Ready}
+use Rattle.optimize.proofs.Tries.{same-slots, tried-as, found, missed, ended, anywhere-is, still-stands}
+use Rattle.optimize.proofs.shrinking.shrink_first.Statement.{statement}
+use Rattle.optimize.proofs.shrinking.shrink_first.Tie as tie
+
+-- what is tried
+abbrev tries : Slots → (i : Placeℕ) → Option Program
+tries t i = shrinkAt (namesOf (programOf t)) (programOf t) i
+
+abbrev Inv-loop : tie.InvT-loop
+Inv-loop frames starts count forms₀ carry owners offsets names contexts values positions i₀ forms i =
+    (i ≤ count)
+    × (slots frames starts count forms carry owners offsets ≡ slots frames starts count forms₀ carry owners offsets)
+    × (firstFrom (tries (slots frames starts count forms₀ carry owners offsets)) count 0 ≡ firstFrom (tries (slots frames starts count forms₀ carry owners offsets)) (count - i) i)
+
+abbrev μ-loop : tie.MeasureT-loop
+μ-loop frames starts count forms₀ carry owners offsets names contexts values positions i₀ forms i = count - i
+
+abbrev here : (c : tie.Start Inv-loop μ-loop) → Slots
+here c =
+    slots (c .args .frames .now) (c .args .starts .now) (c .args .count) (c .args .forms .now) (c .args .carry .now) (c .args .owners .now) (c .args .offsets .now)
+
+-- the other tables are ready for the same slots
+abbrev beside : Slots → List Entry → (contexts positions : List ℕ) → Tables
+beside t names contexts positions = record { slots = t; entries = names; contexts = contexts; positions = positions }
+
+still-ready : {t t₀ : Slots} {names : List Entry} {contexts positions : List ℕ} → t ≡ t₀ → Ready (beside t₀ names contexts positions) → Ready (beside t names contexts positions)
+still-ready {t} {t₀} {names} {contexts} {positions} e h = subst (λ (z : Slots). Ready (beside z names contexts positions)) (sym e) h
+
+still-named : {t t₀ : Slots} {names : List Entry} → t ≡ t₀ → names ≡ namesOf (programOf t₀) → names ≡ namesOf (programOf t)
+still-named e h = h ∙ sym (ap (λ (z : Slots). namesOf (programOf z)) e)
+
+loop-holds : tie.Need-loop-holds Inv-loop μ-loop
+loop-holds c = let s = c .before in (omega arith, refl, first-starts (tries (here s)) (s .args .count))
+
+shrink-at-requires : tie.Need-shrink-at-requires Inv-loop μ-loop
+shrink-at-requires c κs =
+    let l = c .before .before in
+    let s = l .before .before in
+    (still-stands (l .loop .inv .1) (s .pre .0), still-ready (l .loop .inv .1) (s .pre .1), still-named (l .loop .inv .1) (s .pre .2), c .before .loop-test .taken)
+
+returns : tie.Need-returns Inv-loop μ-loop
+returns c =
+    let p = c .before in
+    let l = p .before .before .before in
+    let s = l .before .before in
+    tried-as _ (anywhere (tries (here s)) (programOf (here s))) (anywhere-is (tries (here s)) (here s))
+    (found tries (s .args .count) (l .loop .i) (l .loop .inv .1) (l .loop .inv .2) (p .before .before .loop-test .taken) (p .shrink-at .ensures) (c .if1 .taken))
+
+add-i : tie.Need-add-i Inv-loop μ-loop
+add-i c = omega arith
+
+loop-less : tie.Need-loop-less Inv-loop μ-loop
+loop-less c = omega arith
+
+loop-again : tie.Need-loop-again Inv-loop μ-loop
+loop-again c =
+    let p = c .before in
+    let l = p .before .before .before in
+    let s = l .before .before in
+    let e = p .shrink-at .ensures in (
+      omega arith,
+      same-slots _ _ _ _ _ (e .forms-kept (c .if1 .left)) (e .carry-kept (c .if1 .left)) ∙ l .loop .inv .1,
+      missed tries (s .args .count) (l .loop .i) (l .loop .inv .1) (l .loop .inv .2) (p .before .before .loop-test .taken) e (c .if1 .left),
+    )
+
+returns-2 : tie.Need-returns-2 Inv-loop μ-loop
+returns-2 c =
+    let l = c .before in
+    let s = l .before .before in
+    tried-as _ (anywhere (tries (here s)) (programOf (here s))) (anywhere-is (tries (here s)) (here s))
+    (ended tries (s .args .count) (l .loop .i) (l .loop .inv .1) (l .loop .inv .2) (c .loop-test .left) (s .pre .0))
+
+pub shrink-first-spec : {M : Type 1} → statement M
+shrink-first-spec =
+    tie.close
+    (tie.spec
+    Inv-loop
+    μ-loop
+    loop-holds
+    shrink-at-requires
+    returns
+    add-i
+    loop-less
+    loop-again
+    returns-2)

@@ -1,0 +1,2 @@
+-- What holds of a program under rewriting.
+pub mod Optimized

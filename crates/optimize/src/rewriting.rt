@@ -1,0 +1,81 @@
+// Rule 6: "Folds come before shrinks, and after each rewrite all starts again." Rewritten until no rewrite remains.
+use crate::scanning::fold;
+use crate::shrinking::shrink;
+ghost use mathlib.Core.Path.{_≡_};
+ghost use mathlib.Core.Bool.{true};
+ghost use Rattle.rules.specs.Judging.{assembles};
+ghost use Rattle.rules.specs.Rewriting.{step};
+ghost use Rattle.slots.specs.Slots.{slots, programOf};
+ghost use Rattle.attempts.specs.Standing.{Standing, Tried};
+ghost use Rattle.optimize.specs.Optimized.{Optimized};
+
+// One rewrite, if one remains.
+fn rewrite(
+    frames: &[u8],
+    starts: &[u16; 1025],
+    count: usize,
+    forms: &mut [u8; 1024],
+    carry: &mut [u16; 1024],
+    owners: &[u16; 1024],
+    offsets: &[u16; 1024],
+    contexts: &[u16; 1024],
+) -> bool
+    requires { ⌜ Standing (slots (now frames) (now starts) count (now forms) (now carry) (now owners) (now offsets)) (now contexts) × (assembles (programOf (slots (now frames) (now starts) count (now forms) (now carry) (now owners) (now offsets))) ≡ true) ⌝ }
+    ensures { λ r. ⌜ Tried (step (programOf (slots (now (frames .entry)) (now (starts .entry)) count (now (forms .entry)) (now (carry .entry)) (now (owners .entry)) (now (offsets .entry))))) (now (contexts .entry)) (slots (now (frames .entry)) (now (starts .entry)) count (now (forms .entry)) (now (carry .entry)) (now (owners .entry)) (now (offsets .entry))) (slots (now (frames .entry)) (now (starts .entry)) count (now (forms .exit)) (now (carry .exit)) (now (owners .entry)) (now (offsets .entry))) r ⌝ }
+{
+    if fold(
+        frames,
+        starts,
+        count,
+        forms,
+        carry,
+        owners,
+        offsets,
+        contexts,
+    ) {
+        return true;
+    }
+    shrink(
+        frames,
+        starts,
+        count,
+        forms,
+        carry,
+        owners,
+        offsets,
+        contexts,
+    )
+}
+
+// Rewrites until no rewrite remains, and counts them.
+pub fn optimize(
+    frames: &[u8],
+    starts: &[u16; 1025],
+    count: usize,
+    forms: &mut [u8; 1024],
+    carry: &mut [u16; 1024],
+    owners: &[u16; 1024],
+    offsets: &[u16; 1024],
+    contexts: &[u16; 1024],
+) -> usize
+    requires { ⌜ Standing (slots (now frames) (now starts) count (now forms) (now carry) (now owners) (now offsets)) (now contexts) × (assembles (programOf (slots (now frames) (now starts) count (now forms) (now carry) (now owners) (now offsets))) ≡ true) ⌝ }
+    ensures { λ r. ⌜ Optimized (slots (now (frames .entry)) (now (starts .entry)) count (now (forms .entry)) (now (carry .entry)) (now (owners .entry)) (now (offsets .entry))) (slots (now (frames .entry)) (now (starts .entry)) count (now (forms .exit)) (now (carry .exit)) (now (owners .entry)) (now (offsets .entry))) (now (contexts .entry)) r ⌝ }
+{
+    let mut rewrites = 0;
+    loop {
+        if rewrite(
+            frames,
+            starts,
+            count,
+            forms,
+            carry,
+            owners,
+            offsets,
+            contexts,
+        ) {
+            rewrites += 1;
+        } else {
+            return rewrites;
+        }
+    }
+}

@@ -1,0 +1,220 @@
+// Shrinks: "first place first: Jmpf not a change jump tries Br, then Jmp; Callf tries Call."
+use anchors::is_change_jump;
+use asm::name_and_lay;
+use attempts::try_form;
+use env::Checked;
+use instruction::tables::BR;
+use instruction::tables::CALL;
+use instruction::tables::CALLF;
+use instruction::tables::JMP;
+use instruction::tables::JMPF;
+use rules::Place;
+use slots::kind_at;
+ghost use mathlib.Core.Path.{_≡_};
+ghost use mathlib.Core.Bool.{true};
+ghost use Prim.Native.Nat.{_<_};
+ghost use lib.ListN.{getD};
+ghost use Rattle.laws.specs.Options.{orElse};
+ghost use Rattle.rules.specs.Forms.{jmpf, br, jmp};
+ghost use Rattle.rules.specs.Judging.{namesOf, assembles};
+ghost use Rattle.rules.specs.Rewriting.{shrinkAt, anywhere};
+ghost use Rattle.slots.specs.Slots.{slots, slotAt, kindOf, programOf};
+ghost use Rattle.image.specs.Tables.{tables, Ready};
+ghost use Rattle.attempts.specs.Standing.{Standing, Tried};
+ghost use Rattle.attempts.specs.Shrinks.{shrunk};
+
+// "tries Br, then Jmp"
+fn shrink_jump(
+    frames: &[u8],
+    starts: &[u16; 1025],
+    count: usize,
+    forms: &mut [u8; 1024],
+    carry: &[u16; 1024],
+    owners: &[u16; 1024],
+    offsets: &[u16; 1024],
+    contexts: &[u16; 1024],
+    at: Place,
+) -> bool
+    requires { ⌜ Standing (slots (now frames) (now starts) count (now forms) (now carry) (now owners) (now offsets)) (now contexts) × (at .0 < count) × (kindOf (slotAt (slots (now frames) (now starts) count (now forms) (now carry) (now owners) (now offsets)) (at .0)) ≡ 1) × (getD (now forms) (at .0) 0 ≡ jmpf) ⌝ }
+    ensures { λ r. ⌜ Tried (orElse (shrunk (slots (now (frames .entry)) (now (starts .entry)) count (now (forms .entry)) (now (carry .entry)) (now (owners .entry)) (now (offsets .entry))) (at .0) br) (shrunk (slots (now (frames .entry)) (now (starts .entry)) count (now (forms .entry)) (now (carry .entry)) (now (owners .entry)) (now (offsets .entry))) (at .0) jmp)) (now (contexts .entry)) (slots (now (frames .entry)) (now (starts .entry)) count (now (forms .entry)) (now (carry .entry)) (now (owners .entry)) (now (offsets .entry))) (slots (now (frames .entry)) (now (starts .entry)) count (now (forms .exit)) (now (carry .entry)) (now (owners .entry)) (now (offsets .entry))) r ⌝ }
+{
+    if try_form(
+        frames,
+        starts,
+        count,
+        forms,
+        carry,
+        owners,
+        offsets,
+        contexts,
+        BR,
+        at,
+    ) {
+        return true;
+    }
+    try_form(
+        frames,
+        starts,
+        count,
+        forms,
+        carry,
+        owners,
+        offsets,
+        contexts,
+        JMP,
+        at,
+    )
+}
+
+// The shorter forms of the instruction at a place.
+fn shrink_at(
+    frames: &[u8],
+    starts: &[u16; 1025],
+    count: usize,
+    forms: &mut [u8; 1024],
+    carry: &[u16; 1024],
+    owners: &[u16; 1024],
+    offsets: &[u16; 1024],
+    names: &[u32; 1024],
+    contexts: &[u16; 1024],
+    values: &[i32; 1024],
+    positions: &[u32; 1025],
+    at: Place,
+) -> bool
+    requires { ⌜ Standing (slots (now frames) (now starts) count (now forms) (now carry) (now owners) (now offsets)) (now contexts) × Ready (tables (now frames) (now starts) count (now forms) (now carry) (now owners) (now offsets) (now names) (now contexts) (now values) (now positions)) × ((tables (now frames) (now starts) count (now forms) (now carry) (now owners) (now offsets) (now names) (now contexts) (now values) (now positions)) .entries ≡ namesOf (programOf (slots (now frames) (now starts) count (now forms) (now carry) (now owners) (now offsets)))) × (at .0 < count) ⌝ }
+    ensures { λ r. ⌜ Tried (shrinkAt (namesOf (programOf (slots (now (frames .entry)) (now (starts .entry)) count (now (forms .entry)) (now (carry .entry)) (now (owners .entry)) (now (offsets .entry))))) (programOf (slots (now (frames .entry)) (now (starts .entry)) count (now (forms .entry)) (now (carry .entry)) (now (owners .entry)) (now (offsets .entry)))) (at .0)) (now (contexts .entry)) (slots (now (frames .entry)) (now (starts .entry)) count (now (forms .entry)) (now (carry .entry)) (now (owners .entry)) (now (offsets .entry))) (slots (now (frames .entry)) (now (starts .entry)) count (now (forms .exit)) (now (carry .entry)) (now (owners .entry)) (now (offsets .entry))) r ⌝ }
+{
+    if kind_at(frames, starts, count, forms, at) != 1 {
+        return false;
+    }
+    let i = at.0;
+    let form = forms[i];
+    if form == CALLF {
+        return try_form(
+            frames,
+            starts,
+            count,
+            forms,
+            carry,
+            owners,
+            offsets,
+            contexts,
+            CALL,
+            at,
+        );
+    }
+    if form != JMPF {
+        return false;
+    }
+    if is_change_jump(
+        frames,
+        starts,
+        count,
+        forms,
+        carry,
+        owners,
+        offsets,
+        names,
+        contexts,
+        values,
+        positions,
+        at,
+    ) {
+        return false;
+    }
+    shrink_jump(
+        frames,
+        starts,
+        count,
+        forms,
+        carry,
+        owners,
+        offsets,
+        contexts,
+        at,
+    )
+}
+
+// The shorter forms at the first place where one counts.
+fn shrink_first(
+    frames: &[u8],
+    starts: &[u16; 1025],
+    count: usize,
+    forms: &mut [u8; 1024],
+    carry: &[u16; 1024],
+    owners: &[u16; 1024],
+    offsets: &[u16; 1024],
+    names: &[u32; 1024],
+    contexts: &[u16; 1024],
+    values: &[i32; 1024],
+    positions: &[u32; 1025],
+) -> bool
+    requires { ⌜ Standing (slots (now frames) (now starts) count (now forms) (now carry) (now owners) (now offsets)) (now contexts) × Ready (tables (now frames) (now starts) count (now forms) (now carry) (now owners) (now offsets) (now names) (now contexts) (now values) (now positions)) × ((tables (now frames) (now starts) count (now forms) (now carry) (now owners) (now offsets) (now names) (now contexts) (now values) (now positions)) .entries ≡ namesOf (programOf (slots (now frames) (now starts) count (now forms) (now carry) (now owners) (now offsets)))) ⌝ }
+    ensures { λ r. ⌜ Tried (anywhere (shrinkAt (namesOf (programOf (slots (now (frames .entry)) (now (starts .entry)) count (now (forms .entry)) (now (carry .entry)) (now (owners .entry)) (now (offsets .entry))))) (programOf (slots (now (frames .entry)) (now (starts .entry)) count (now (forms .entry)) (now (carry .entry)) (now (owners .entry)) (now (offsets .entry))))) (programOf (slots (now (frames .entry)) (now (starts .entry)) count (now (forms .entry)) (now (carry .entry)) (now (owners .entry)) (now (offsets .entry))))) (now (contexts .entry)) (slots (now (frames .entry)) (now (starts .entry)) count (now (forms .entry)) (now (carry .entry)) (now (owners .entry)) (now (offsets .entry))) (slots (now (frames .entry)) (now (starts .entry)) count (now (forms .exit)) (now (carry .entry)) (now (owners .entry)) (now (offsets .entry))) r ⌝ }
+{
+    let mut i = 0;
+    while i < count {
+        if shrink_at(
+            frames,
+            starts,
+            count,
+            forms,
+            carry,
+            owners,
+            offsets,
+            names,
+            contexts,
+            values,
+            positions,
+            Place(i),
+        ) {
+            return true;
+        }
+        i += 1;
+    }
+    false
+}
+
+// The names of a program that assembles are found once: no shrink counts until one is done.
+pub fn shrink(
+    frames: &[u8],
+    starts: &[u16; 1025],
+    count: usize,
+    forms: &mut [u8; 1024],
+    carry: &[u16; 1024],
+    owners: &[u16; 1024],
+    offsets: &[u16; 1024],
+    contexts: &[u16; 1024],
+) -> bool
+    requires { ⌜ Standing (slots (now frames) (now starts) count (now forms) (now carry) (now owners) (now offsets)) (now contexts) × (assembles (programOf (slots (now frames) (now starts) count (now forms) (now carry) (now owners) (now offsets))) ≡ true) ⌝ }
+    ensures { λ r. ⌜ Tried (anywhere (shrinkAt (namesOf (programOf (slots (now (frames .entry)) (now (starts .entry)) count (now (forms .entry)) (now (carry .entry)) (now (owners .entry)) (now (offsets .entry))))) (programOf (slots (now (frames .entry)) (now (starts .entry)) count (now (forms .entry)) (now (carry .entry)) (now (owners .entry)) (now (offsets .entry))))) (programOf (slots (now (frames .entry)) (now (starts .entry)) count (now (forms .entry)) (now (carry .entry)) (now (owners .entry)) (now (offsets .entry))))) (now (contexts .entry)) (slots (now (frames .entry)) (now (starts .entry)) count (now (forms .entry)) (now (carry .entry)) (now (owners .entry)) (now (offsets .entry))) (slots (now (frames .entry)) (now (starts .entry)) count (now (forms .exit)) (now (carry .entry)) (now (owners .entry)) (now (offsets .entry))) r ⌝ }
+{
+    let mut names = [65536u32; 1024];
+    let mut positions = [0u32; 1025];
+    let mut values = [0i32; 1024];
+    match name_and_lay(
+        frames,
+        starts,
+        count,
+        forms,
+        contexts,
+        &mut names,
+        &mut positions,
+        &mut values,
+    ) {
+        Checked::Refused(_) => false,
+        Checked::Passes => shrink_first(
+            frames,
+            starts,
+            count,
+            forms,
+            carry,
+            owners,
+            offsets,
+            &names,
+            contexts,
+            &values,
+            &positions,
+        ),
+    }
+}
