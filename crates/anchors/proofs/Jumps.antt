@@ -3,7 +3,7 @@ use mathlib.Core.Path.{_≡_, refl, sym, ap, ap₂, _∙_}
 use mathlib.Core.List.{List, [], _∷_}
 use mathlib.Core.Option.{Option, none, some}
 use mathlib.Core.Bool.{Bool, true, false, _&&_, cond}
-use Prim.Native.Nat.{ℕ, zero, suc, _+_, _-_, _^_, _≤_, _<_}
+use Prim.Native.Nat.{ℕ, zero, suc, _-_, _^_, _≤_, _<_}
 use native.Mathlib.Omega.{arith}
 use lib.Dec.{eqb, ltb}
 use lib.IntN.{ℤ, pos, negsuc}
@@ -17,12 +17,12 @@ use Rattle.rules.specs.declared.Outcome.{Outcome}
 use Rattle.rules.specs.declared.Outcome.the-variants.{Is}
 use Rattle.rules.specs.Values.{isNumber}
 use Rattle.rules.specs.Forms.{formAt, operandsAt, jmpf, not1}
-use Rattle.rules.specs.Programs.{Operand, register, value, inner, Stmt, gone, instr, label, variable, comment, org, bytes, words, Program, at, isForm, argsOf}
+use Rattle.rules.specs.Programs.{Operand, register, Stmt, gone, instr, label, variable, comment, org, bytes, words, Program, at, isForm, argsOf}
 use Rattle.rules.specs.Layout.{after, position}
 use Rattle.rules.specs.Names.{Entry, contextAt}
 use Rattle.rules.specs.Judging.{worthOf}
 use Rattle.rules.specs.Rewriting.{skipped, nearest, valued10DAnd0, changesAt, isChangeJump}
-use Rattle.slots.specs.Slots.{Slots, goneForm, slotAt, kindOf, worthIn}
+use Rattle.slots.specs.Slots.{goneForm, slotAt, kindOf, worthIn}
 use Rattle.image.specs.Tables.{Tables, program, operandAt, Ready}
 use Rattle.image.proofs.Operands.{count-args}
 use Rattle.image.proofs.Placed.{position-after}
@@ -105,52 +105,53 @@ two-operands : length (operandsAt not1) ≡ 2
 unfolding formAt
 two-operands = refl
 
--- ---- the statement at j, and a jump at i
+-- ---- the Not1 at j: what its operands are worth, by the tables
 
-module _ (d : Tables) (h : Ready d) (i j : ℕ) (k : i < d .slots .count) (m : j < d .slots .count) where
-  -- what operand n of the statement at j is worth, by the tables
+module _ (d : Tables) (h : Ready d) (j : ℕ) (m : j < d .slots .count) (e : formIn (standsAt (d .slots) j) ≡ not1) where
   abbrev pub worthAt : (n : ℕ) → Outcome
   worthAt n = worthIn (d .entries) (d .positions) (getD (d .contexts) j 0) (operandAt (d .slots) j n)
 
-  abbrev pub meetAt : Bool
-  meetAt = eqb (getD (d .positions) (suc j) 0) (getD (d .positions) i 0)
+  pub not1-kind : kindOf (slotAt (d .slots) j) ≡ 1
+  not1-kind = ap kindOf (sym (at-program (d .slots) j m)) ∙ form-kind (at (program d) j) (λ g. omega arith)
 
+  not1-form : getD (d .slots .forms) j 0 ≡ not1
+  not1-form = sym (slot-form (d .slots) (h .sound .held) j m not1-kind) ∙ ap formIn (sym (at-program (d .slots) j m)) ∙ e
+
+  pub not1-operands : length (operandsAt (getD (d .slots .forms) j 0)) ≡ 2
+  not1-operands = ap (λ f. length (operandsAt f)) not1-form ∙ two-operands
+
+  not1-args : length (argsOf (slotAt (d .slots) j)) ≡ 2
+  not1-args = count-args (d .slots) (h .sound .held) j m not1-kind (h .sound .forms j m not1-kind) ∙ not1-operands
+
+  worth-is : (n : ℕ) → n < 2 → worthOf (d .entries) (program d) (contextAt (program d) j) (operandAt (d .slots) j n) ≡ worthAt n
+  worth-is n l = sym (worth-at d h j m not1-kind n (omega (arith, not1-operands)))
+
+  pub valued-is : valued10DAnd0 (worthOf (d .entries) (program d) (contextAt (program d) j)) (argsOf (at (program d) j)) ≡ isNumber 0x10D (worthAt 0) && isNumber 0 (worthAt 1)
+  valued-is =
+      ap (λ s. valued10DAnd0 (worthOf (d .entries) (program d) (contextAt (program d) j)) (argsOf s)) (at-program (d .slots) j m)
+      ∙ valued-two (worthOf (d .entries) (program d) (contextAt (program d) j)) (argsOf (slotAt (d .slots) j)) not1-args
+      ∙ ap₂ (λ (a b : Outcome). isNumber 0x10D a && isNumber 0 b) (worth-is 0 (omega arith)) (worth-is 1 (omega arith))
+
+-- ---- the statement at j, and a jump at i
+
+module _ (d : Tables) (h : Ready d) (i j : ℕ) (k : i < d .slots .count) (m : j < d .slots .count) where
   pub changes-not : (formIn (standsAt (d .slots) j) ≡ not1 → ⊥) → changesAt (d .entries) (program d) i (some j) ≡ false
   changes-not n = first-false (isForm not1 (at (program d) j)) _ (form-no not1 (omega arith) (at (program d) j) n)
 
-  module _ (e : formIn (standsAt (d .slots) j) ≡ not1) where
-    pub not1-kind : kindOf (slotAt (d .slots) j) ≡ 1
-    not1-kind = ap kindOf (sym (at-program (d .slots) j m)) ∙ form-kind (at (program d) j) (λ g. omega arith)
+  ends-is : eqb (after (position (program d) j) (at (program d) j)) (position (program d) i) ≡ eqb (getD (d .positions) (suc j) 0) (getD (d .positions) i 0)
+  ends-is =
+      ap₂ (λ (a b : ℕ). eqb a b)
+      (sym (position-after (program d) j (omega (arith, count-program (d .slots)))) ∙ sym (h .position (suc j) (omega arith)))
+      (sym (h .position i (omega arith)))
 
-    not1-form : getD (d .slots .forms) j 0 ≡ not1
-    not1-form = sym (slot-form (d .slots) (h .sound .held) j m not1-kind) ∙ ap formIn (sym (at-program (d .slots) j m)) ∙ e
-
-    pub not1-operands : length (operandsAt (getD (d .slots .forms) j 0)) ≡ 2
-    not1-operands = ap (λ f. length (operandsAt f)) not1-form ∙ two-operands
-
-    not1-args : length (argsOf (slotAt (d .slots) j)) ≡ 2
-    not1-args = count-args (d .slots) (h .sound .held) j m not1-kind (h .sound .forms j m not1-kind) ∙ not1-operands
-
-    worth-is : (n : ℕ) → n < 2 → worthOf (d .entries) (program d) (contextAt (program d) j) (operandAt (d .slots) j n) ≡ worthAt n
-    worth-is n l = sym (worth-at d h j m not1-kind n (omega (arith, not1-operands)))
-
-    valued-is : valued10DAnd0 (worthOf (d .entries) (program d) (contextAt (program d) j)) (argsOf (at (program d) j)) ≡ isNumber 0x10D (worthAt 0) && isNumber 0 (worthAt 1)
-    valued-is =
-        ap (λ s. valued10DAnd0 (worthOf (d .entries) (program d) (contextAt (program d) j)) (argsOf s)) (at-program (d .slots) j m)
-        ∙ valued-two (worthOf (d .entries) (program d) (contextAt (program d) j)) (argsOf (slotAt (d .slots) j)) not1-args
-        ∙ ap₂ (λ (a b : Outcome). isNumber 0x10D a && isNumber 0 b) (worth-is 0 (omega arith)) (worth-is 1 (omega arith))
-
-    ends-is : eqb (after (position (program d) j) (at (program d) j)) (position (program d) i) ≡ meetAt
-    ends-is =
-        ap₂ (λ (a b : ℕ). eqb a b)
-        (sym (position-after (program d) j (omega (arith, count-program (d .slots)))) ∙ sym (h .position (suc j) (omega arith)))
-        (sym (h .position i (omega arith)))
-
-    pub changes-is : changesAt (d .entries) (program d) i (some j) ≡ (isNumber 0x10D (worthAt 0) && isNumber 0 (worthAt 1)) && meetAt
-    changes-is =
-        ap (λ b. b && (valued10DAnd0 (worthOf (d .entries) (program d) (contextAt (program d) j)) (argsOf (at (program d) j)) && eqb (after (position (program d) j) (at (program d) j)) (position (program d) i)))
-        (form-yes not1 (omega arith) (at (program d) j) e)
-        ∙ ap₂ (λ (a b : Bool). a && b) valued-is ends-is
+  pub changes-is : formIn (standsAt (d .slots) j) ≡ not1
+      → changesAt (d .entries) (program d) i (some j)
+      ≡ valued10DAnd0 (worthOf (d .entries) (program d) (contextAt (program d) j)) (argsOf (at (program d) j)) && eqb (getD (d .positions) (suc j) 0) (getD (d .positions) i 0)
+  changes-is e =
+      let valued = valued10DAnd0 (worthOf (d .entries) (program d) (contextAt (program d) j)) (argsOf (at (program d) j)) in
+      ap (λ b. b && (valued && eqb (after (position (program d) j) (at (program d) j)) (position (program d) i)))
+      (form-yes not1 (omega arith) (at (program d) j) e)
+      ∙ ap (λ b. valued && b) ends-is
 
 -- ---- a change jump, by its form and the statement that decides
 

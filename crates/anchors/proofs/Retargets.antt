@@ -3,8 +3,8 @@ use mathlib.Core.Path.{_≡_, refl, sym, ap, ap₂, _∙_}
 use mathlib.Core.Logic.{_⊎_, inl, inr}
 use mathlib.Core.List.{List, [], _∷_, map}
 use mathlib.Core.Option.{Option, none, some}
-use mathlib.Core.Bool.{Bool, true, false, _&&_, not, cond}
-use Prim.Native.Nat.{ℕ, suc, _+_, _-_, _≤_, _<_}
+use mathlib.Core.Bool.{Bool, true, false, not, cond}
+use Prim.Native.Nat.{ℕ, _<_}
 use native.Mathlib.Omega.{arith}
 use lib.IntN.{pos, negsuc}
 use lib.ListN.{length, getD, length-map}
@@ -13,23 +13,21 @@ use Rattle.laws.proofs.Lists.{getD-map-in}
 use Rattle.laws.proofs.Counts.{tab-is}
 use Rattle.rules.specs.declared.Outcome.{Outcome}
 use Rattle.rules.specs.declared.Outcome.the-variants.{Is, Unknown, Nothing}
-use Rattle.rules.specs.Expressions.{Expr, evalTree, holdsName}
-use Rattle.rules.specs.Forms.{operandsAt, isTransfer}
-use Rattle.rules.specs.Programs.{Operand, register, value, inner, Stmt, gone, instr, label, variable, comment, org, bytes, words, onInstr, argsOf, lastOf, onLast, retarget, Program, at}
+use Rattle.rules.specs.Expressions.{evalTree, holdsName}
+use Rattle.rules.specs.Forms.{isTransfer}
+use Rattle.rules.specs.Programs.{Operand, register, value, inner, Stmt, gone, instr, label, variable, comment, org, bytes, words, argsOf, lastOf, onLast, retarget, Program, at}
 use Rattle.rules.specs.Layout.{Origin, origin}
-use Rattle.rules.specs.Names.{Entry, Placed, placed, placedFrom, contextAt}
+use Rattle.rules.specs.Names.{Entry, Placed, placed}
 use Rattle.rules.specs.Judging.{namesOf}
 use Rattle.rules.specs.Rewriting.{isChangeJump, innerAt, anchorTarget, isAnchored, anchorAt, anchor}
 use Rattle.rules.proofs.Laws.{length-placed, placed-at}
-use Rattle.instruction.proofs.Rows.{has-target}
-use Rattle.listing.specs.Tables.{frameAt, inputAt}
-use Rattle.slots.specs.Slots.{Slots, slots, goneForm, noOwner, written, targetOf, aimedAt, slotAt, programOf, kindOf, WroteTarget, Sound}
+use Rattle.slots.specs.Slots.{Slots, slots, goneForm, noOwner, written, targetOf, aimedAt, slotAt, programOf, kindOf, Sound}
 use Rattle.slots.proofs.Slots.{slot-gone, slot-other, kind-kept, not-gone}
 use Rattle.image.proofs.Operands.{slot-is}
 use Rattle.image.proofs.Placed.{placedAt}
 use Rattle.asm.proofs.OriginsBack.{origin-stems}
 use Rattle.patterns.proofs.Programs.{length-program, at-program}
-use Rattle.patterns.proofs.Instructions.{last-aimed, target-inner, target-written, own-some, last-target}
+use Rattle.patterns.proofs.Instructions.{target-inner, target-written, last-target}
 use Rattle.anchors.specs.Anchored.{bareValue, originAt, ownerOf, offsetOf, AsRead, Anchored}
 
 -- ---- one target

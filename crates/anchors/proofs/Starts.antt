@@ -1,7 +1,7 @@
 -- The tables of a listing as read, as they are filled at the start, are what anchoring asks for.
-use mathlib.Core.Path.{_≡_, refl}
+use mathlib.Core.Path.{_≡_}
 use mathlib.Core.List.{List, _++_}
-use Prim.Native.Nat.{ℕ, _≤_, _<_}
+use Prim.Native.Nat.{ℕ, _≤_}
 use native.Mathlib.Omega.{arith}
 use lib.ListN.{drop, replicate, getD-replicate}
 use Rattle.laws.specs.Counts.{tab}

@@ -1,19 +1,18 @@
 -- The target that is anchored at a place of a listing as read, its value, and the origin of a value.
-use mathlib.Core.Path.{_≡_, refl, sym, ap, ap₂, _∙_}
+use mathlib.Core.Path.{_≡_, refl, ap, _∙_}
 use mathlib.Core.List.{List}
-use mathlib.Core.Option.{Option, none, some}
+use mathlib.Core.Option.{none}
 use mathlib.Core.Bool.{Bool, true, false, _&&_, not, cond}
 use Prim.Native.Nat.{ℕ, _<_}
 use native.Mathlib.Omega.{arith}
 use lib.Dec.{T}
 use lib.IntN.{ℤ, pos, negsuc, natAbs}
-use lib.ListN.{getD}
 use lib.Signed.{ltZ, nonNeg}
 use mir.Syntax.{w32, w64}
 use mir.Val.{Fits, SFits}
 use mir.Facts.{fits-natAbs}
 use borrow.Author.Tests.{ltb-true}
-use Rattle.laws.proofs.Tests.{clash, true-false, first-false, second-false, and-both, cond-true, cond-false}
+use Rattle.laws.proofs.Tests.{clash, true-false, first-false, second-false, and-both}
 use Rattle.rules.specs.declared.Outcome.the-variants.{Is, Unknown}
 use Rattle.rules.specs.Values.{nat}
 use Rattle.rules.specs.Expressions.{Expr, evalTree}

@@ -2,7 +2,7 @@
 use mathlib.Core.Path.{_≡_}
 use mathlib.Core.Bool.{cond}
 use mathlib.Core.List.{List}
-use mathlib.Core.Option.{Option, none, some}
+use mathlib.Core.Option.{Option, none}
 use Prim.Native.Nat.{ℕ, _<_}
 use lib.ListN.{getD}
 use Rattle.rules.specs.declared.Outcome.{Outcome}
@@ -27,7 +27,7 @@ bareValue (inner i o) = Unknown
 unfoldable pub originAt : (names : List Entry) → Program → (i : Placeℕ) → Option Source
 originAt names p i = cond (isAnchored names p i (at p i)) (origin p (bareValue (lastOf (argsOf (at p i))))) none
 
--- the code's answer to an origin that there is or is not, as a statement of the tables
+-- what the code answers where the origin is o, or there is none: the same, and one of the bytes of a slot
 pub record Found (t : Slots) (o : Option Source) (r : Origin) : Type 0 where
   pub answer : r ≡ originAs o
   pub inside : OriginIn t r

@@ -14,11 +14,16 @@ ghost use Prim.Native.Nat.{ℕ, suc, _<_, _≤_};
 ghost use lib.Dec.{eqb};
 ghost use lib.ListN.{getD};
 ghost use Rattle.rules.specs.Values.{isNumber};
-ghost use Rattle.rules.specs.Rewriting.{skipped, changesAt, isChangeJump};
+ghost use Rattle.rules.specs.Forms.{not1};
+ghost use Rattle.rules.specs.Programs.{argsOf};
+ghost use Rattle.rules.specs.Names.{contextAt};
+ghost use Rattle.rules.specs.Judging.{worthOf};
+ghost use Rattle.rules.specs.Rewriting.{skipped, valued10DAnd0, changesAt, isChangeJump};
 ghost use Rattle.rules.specs.Rewriting.{nearest as nearestPlace};
 ghost use Rattle.listing.specs.Tables.{Held};
 ghost use Rattle.slots.specs.Slots.{slots, slotAt, programOf};
 ghost use Rattle.image.specs.Tables.{tables, program, Ready};
+ghost use Rattle.patterns.specs.Targets.{standsAt, formIn};
 ghost use Rattle.anchors.specs.Changes.{nearestAs};
 
 // "labels (inner ones too), variables and comments skipped". A slot that is gone holds no statement.
@@ -81,8 +86,8 @@ fn meets(positions: &[u32; 1025], j: Place, at: Place) -> bool
     positions[end] == positions[i]
 }
 
-// The statement at j is `Not1` "with operands valued 0x10D and 0, ending where the jump begins".
-fn changes_at(
+// The `Not1` at j has "operands valued 0x10D and 0".
+fn valued_at(
     frames: &[u8],
     starts: &[u16; 1025],
     count: usize,
@@ -94,15 +99,11 @@ fn changes_at(
     contexts: &[u16; 1024],
     values: &[i32; 1024],
     positions: &[u32; 1025],
-    at: Place,
     j: Place,
 ) -> bool
-    requires { ⌜ Ready (tables (now frames) (now starts) count (now forms) (now carry) (now owners) (now offsets) (now names) (now contexts) (now values) (now positions)) × (at .0 < count) × (j .0 < count) ⌝ }
-    ensures { λ r. ⌜ (let d = tables (now (frames .entry)) (now (starts .entry)) count (now (forms .entry)) (now (carry .entry)) (now (owners .entry)) (now (offsets .entry)) (now (names .entry)) (now (contexts .entry)) (now (values .entry)) (now (positions .entry)) in r ≡ changesAt (d .entries) (program d) (at .0) (some (j .0))) ⌝ }
+    requires { ⌜ Ready (tables (now frames) (now starts) count (now forms) (now carry) (now owners) (now offsets) (now names) (now contexts) (now values) (now positions)) × (j .0 < count) × (formIn (standsAt (slots (now frames) (now starts) count (now forms) (now carry) (now owners) (now offsets)) (j .0)) ≡ not1) ⌝ }
+    ensures { λ r. ⌜ (let d = tables (now (frames .entry)) (now (starts .entry)) count (now (forms .entry)) (now (carry .entry)) (now (owners .entry)) (now (offsets .entry)) (now (names .entry)) (now (contexts .entry)) (now (values .entry)) (now (positions .entry)) in r ≡ valued10DAnd0 (worthOf (d .entries) (program d) (contextAt (program d) (j .0))) (argsOf (standsAt (d .slots) (j .0)))) ⌝ }
 {
-    if form_at(frames, starts, count, forms, j) != NOT1 {
-        return false;
-    }
     let bank = argument_worth(
         frames,
         starts,
@@ -136,7 +137,45 @@ fn changes_at(
         j,
         1,
     );
-    if !is_number(bit, 0) {
+    is_number(bit, 0)
+}
+
+// The statement at j is `Not1` "with operands valued 0x10D and 0, ending where the jump begins".
+fn changes_at(
+    frames: &[u8],
+    starts: &[u16; 1025],
+    count: usize,
+    forms: &[u8; 1024],
+    carry: &[u16; 1024],
+    owners: &[u16; 1024],
+    offsets: &[u16; 1024],
+    names: &[u32; 1024],
+    contexts: &[u16; 1024],
+    values: &[i32; 1024],
+    positions: &[u32; 1025],
+    at: Place,
+    j: Place,
+) -> bool
+    requires { ⌜ Ready (tables (now frames) (now starts) count (now forms) (now carry) (now owners) (now offsets) (now names) (now contexts) (now values) (now positions)) × (at .0 < count) × (j .0 < count) ⌝ }
+    ensures { λ r. ⌜ (let d = tables (now (frames .entry)) (now (starts .entry)) count (now (forms .entry)) (now (carry .entry)) (now (owners .entry)) (now (offsets .entry)) (now (names .entry)) (now (contexts .entry)) (now (values .entry)) (now (positions .entry)) in r ≡ changesAt (d .entries) (program d) (at .0) (some (j .0))) ⌝ }
+{
+    if form_at(frames, starts, count, forms, j) != NOT1 {
+        return false;
+    }
+    if !valued_at(
+        frames,
+        starts,
+        count,
+        forms,
+        carry,
+        owners,
+        offsets,
+        names,
+        contexts,
+        values,
+        positions,
+        j,
+    ) {
         return false;
     }
     meets(positions, j, at)

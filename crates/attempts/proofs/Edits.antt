@@ -1,7 +1,7 @@
 -- One edit of the tables: a form and a carried place are set at one place. It sets that place of the program, and what is known of the tables stays.
 use mathlib.Core.Path.{_≡_, refl, sym, subst, ap, ap₂, _∙_}
 use mathlib.Core.List.{List, [], _∷_}
-use mathlib.Core.Option.{Option, none, some}
+use mathlib.Core.Option.{none, some}
 use mathlib.Core.Bool.{Bool, true, false, cond}
 use mathlib.Core.Logic.{_⊎_, inl, inr}
 use Prim.Native.Nat.{ℕ, suc, _<_}
@@ -10,7 +10,6 @@ use lib.Dec.{eqb}
 use lib.ListN.{length, getD, set, length-set}
 use lib.Seq.{getD-set-same, getD-set-other, set-getD}
 use borrow.Author.Tests.{eq-eqb, ne-eqb}
-use Rattle.laws.specs.Counts.{tab}
 use Rattle.laws.specs.Options.{isSome, given, bind}
 use Rattle.laws.proofs.Counts.{tab-ext, tab-set}
 use Rattle.laws.proofs.Tests.{false-true, cond-true, cond-false, eq-or-not}
@@ -21,8 +20,8 @@ use Rattle.rules.specs.Judging.{noNameTwice}
 use Rattle.rules.specs.Rewriting.{localLabel, aimed}
 use Rattle.listing.specs.Tables.{frameAt, inputAt}
 use Rattle.slots.specs.Slots.{Slots, slots, goneForm, written, targetOf, aimedAt, slotAt, programOf, kindOf, Agree, WroteTarget, Sound}
-use Rattle.slots.proofs.Slots.{slot-gone, slot-instr, not-gone}
-use Rattle.patterns.specs.Targets.{standsAt, instrAt}
+use Rattle.slots.proofs.Slots.{slot-gone, slot-instr}
+use Rattle.patterns.specs.Targets.{instrAt}
 use Rattle.patterns.specs.Matches.{Moves}
 use Rattle.patterns.proofs.Programs.{length-program, at-program}
 use Rattle.patterns.proofs.Instructions.{as-instr, own, slot-is, args-aimed, last-target}

@@ -3,13 +3,9 @@ use crate::accepting::acceptable;
 use patterns::labels::no_interior_label_at;
 use rules::Place;
 ghost use mathlib.Core.Path.{_≡_};
-ghost use mathlib.Core.Option.{some};
 ghost use Prim.Native.Nat.{_<_};
-ghost use lib.ListN.{getD, set};
-ghost use Rattle.laws.specs.Options.{given};
-ghost use Rattle.rules.specs.Programs.{instr, argsOf};
-ghost use Rattle.rules.specs.Rewriting.{candidate, noInteriorLabelAt};
-ghost use Rattle.slots.specs.Slots.{slots, slotAt, kindOf, programOf, Agree};
+ghost use lib.ListN.{getD};
+ghost use Rattle.slots.specs.Slots.{slots, slotAt, kindOf, Agree};
 ghost use Rattle.attempts.specs.Standing.{Standing, Tried};
 ghost use Rattle.attempts.specs.Shrinks.{shrunk};
 

@@ -3,3 +3,6 @@ pub mod Phases
 -- ---- the main entry
 pub mod Deliveries
 pub mod Results
+-- ---- what the program prints
+pub mod Places
+pub mod Pages

@@ -2,6 +2,11 @@
 mod assembling; // a listing to its image
 mod finishing; // an end form to its listing and its image
 mod optimizing; // a listing to its end form
+mod printing; // what the program prints
 
 pub use assembling::assemble;
 pub use optimizing::optimize_jumps;
+pub use printing::Fault;
+pub use printing::fault_of;
+pub use printing::page_length;
+pub use printing::print_run;

@@ -38,7 +38,7 @@ fn write_image(as_digits: bool) {
 }
 
 // At most as much as a room has.
-fn part(n: usize, room: &[u8]) -> usize
+pub fn part(n: usize, room: &[u8]) -> usize
     ensures { λ r. ⌜ Counts r (now (room .entry)) ⌝ }
 {
     if n < room.len() { n } else { room.len() }

@@ -3,6 +3,7 @@ mod checking; // reads a listing and says how many statements it has
 mod help; // the words, and each refusal explained
 mod imaging; // the image of a listing as it stands
 mod lines; // the text of a line
+mod optimizing; // the job of document 01
 mod refusals; // each refusal in a number and a sentence
 
 use check::same;
@@ -15,8 +16,11 @@ fn main() {
     job(&word[..n]);
 }
 
+// With no word the job is document 01's.
 fn job(word: &[u8]) {
-    if same(word, b"check") {
+    if word.len() == 0 {
+        optimizing::optimize();
+    } else if same(word, b"check") {
         checking::check_listing();
     } else if same(word, b"image") {
         imaging::image();

@@ -1,16 +1,15 @@
 -- Rule 4 over the slots: which shorter forms are tried at a place, and that each may stand there.
 use mathlib.Core.Path.{_≡_, refl, sym, ap, _∙_, subst}
-use mathlib.Core.List.{List, [], _∷_}
+use mathlib.Core.List.{List}
 use mathlib.Core.Option.{Option, none, some}
-use mathlib.Core.Bool.{Bool, true, false, cond}
+use mathlib.Core.Bool.{true, false}
 use Prim.Native.Nat.{ℕ, _<_}
 use native.Mathlib.Omega.{arith}
-use lib.Dec.{eqb}
 use lib.ListN.{getD, set}
-use borrow.Author.Tests.{eq-eqb, ne-eqb}
+use borrow.Author.Tests.{ne-eqb}
 use Rattle.laws.specs.Options.{orElse, given, firstOf, bind}
 use Rattle.rules.specs.Forms.{formAt, isTransfer, jmp, jmpf, br, call, callf}
-use Rattle.rules.specs.Programs.{Placeℕ, Stmt, gone, instr, label, variable, comment, org, bytes, words, Instruction, onInstr, asInstr, argsOf, Program, at}
+use Rattle.rules.specs.Programs.{Placeℕ, Stmt, gone, instr, label, variable, comment, org, bytes, words, onInstr, asInstr, argsOf, Program, at}
 use Rattle.rules.specs.Names.{Entry}
 use Rattle.rules.specs.Rewriting.{isChangeJump, noInteriorLabelAt, candidate, shorter, shrinkAt}
 use Rattle.slots.specs.Slots.{Slots, written, reformed, slotAt, programOf, kindOf, Agree}

@@ -1,10 +1,9 @@
 -- What a tried rewrite says of others: of a choice, of a search by place, and of what the tables are where it does not count.
 use mathlib.Core.Path.{_≡_, refl, sym, ap, ap₂, _∙_, subst}
-use mathlib.Core.List.{List, []}
+use mathlib.Core.List.{List}
 use mathlib.Core.Option.{Option, none, some}
 use mathlib.Core.Bool.{Bool, true, false}
 use Prim.Native.Nat.{ℕ, _+_, _-_, _≤_, _<_}
-use lib.ListN.{length}
 use Rattle.laws.specs.Options.{orElse, firstFrom, isSome, getOr}
 use Rattle.laws.proofs.Options.{said-none, orElse-first, orElse-second, first-hit, first-miss, first-end}
 use Rattle.laws.proofs.Tests.{true-false}

@@ -24,7 +24,7 @@ ghost use Rattle.attempts.specs.Standing.{Standing, Tried};
 ghost use Rattle.attempts.specs.Shrinks.{shrunk};
 
 // "tries Br, then Jmp"
-fn shrink_jump(
+fn try_br_then_jmp(
     frames: &[u8],
     starts: &[u16; 1025],
     count: usize,
@@ -66,6 +66,53 @@ fn shrink_jump(
     )
 }
 
+// "Jmpf not a change jump"
+fn shrink_jump(
+    frames: &[u8],
+    starts: &[u16; 1025],
+    count: usize,
+    forms: &mut [u8; 1024],
+    carry: &[u16; 1024],
+    owners: &[u16; 1024],
+    offsets: &[u16; 1024],
+    names: &[u32; 1024],
+    contexts: &[u16; 1024],
+    values: &[i32; 1024],
+    positions: &[u32; 1025],
+    at: Place,
+) -> bool
+    requires { ⌜ Standing (slots (now frames) (now starts) count (now forms) (now carry) (now owners) (now offsets)) (now contexts) × Ready (tables (now frames) (now starts) count (now forms) (now carry) (now owners) (now offsets) (now names) (now contexts) (now values) (now positions)) × ((tables (now frames) (now starts) count (now forms) (now carry) (now owners) (now offsets) (now names) (now contexts) (now values) (now positions)) .entries ≡ namesOf (programOf (slots (now frames) (now starts) count (now forms) (now carry) (now owners) (now offsets)))) × (at .0 < count) × (kindOf (slotAt (slots (now frames) (now starts) count (now forms) (now carry) (now owners) (now offsets)) (at .0)) ≡ 1) × (getD (now forms) (at .0) 0 ≡ jmpf) ⌝ }
+    ensures { λ r. ⌜ Tried (shrinkAt (namesOf (programOf (slots (now (frames .entry)) (now (starts .entry)) count (now (forms .entry)) (now (carry .entry)) (now (owners .entry)) (now (offsets .entry))))) (programOf (slots (now (frames .entry)) (now (starts .entry)) count (now (forms .entry)) (now (carry .entry)) (now (owners .entry)) (now (offsets .entry)))) (at .0)) (now (contexts .entry)) (slots (now (frames .entry)) (now (starts .entry)) count (now (forms .entry)) (now (carry .entry)) (now (owners .entry)) (now (offsets .entry))) (slots (now (frames .entry)) (now (starts .entry)) count (now (forms .exit)) (now (carry .entry)) (now (owners .entry)) (now (offsets .entry))) r ⌝ }
+{
+    if is_change_jump(
+        frames,
+        starts,
+        count,
+        forms,
+        carry,
+        owners,
+        offsets,
+        names,
+        contexts,
+        values,
+        positions,
+        at,
+    ) {
+        return false;
+    }
+    try_br_then_jmp(
+        frames,
+        starts,
+        count,
+        forms,
+        carry,
+        owners,
+        offsets,
+        contexts,
+        at,
+    )
+}
+
 // The shorter forms of the instruction at a place.
 fn shrink_at(
     frames: &[u8],
@@ -89,6 +136,22 @@ fn shrink_at(
     }
     let i = at.0;
     let form = forms[i];
+    if form == JMPF {
+        return shrink_jump(
+            frames,
+            starts,
+            count,
+            forms,
+            carry,
+            owners,
+            offsets,
+            names,
+            contexts,
+            values,
+            positions,
+            at,
+        );
+    }
     if form == CALLF {
         return try_form(
             frames,
@@ -103,36 +166,7 @@ fn shrink_at(
             at,
         );
     }
-    if form != JMPF {
-        return false;
-    }
-    if is_change_jump(
-        frames,
-        starts,
-        count,
-        forms,
-        carry,
-        owners,
-        offsets,
-        names,
-        contexts,
-        values,
-        positions,
-        at,
-    ) {
-        return false;
-    }
-    shrink_jump(
-        frames,
-        starts,
-        count,
-        forms,
-        carry,
-        owners,
-        offsets,
-        contexts,
-        at,
-    )
+    false
 }
 
 // The shorter forms at the first place where one counts.

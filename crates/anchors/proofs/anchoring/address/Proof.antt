@@ -1,5 +1,5 @@
 -- `anchors::anchoring::address` meets its contract.
-use mathlib.Core.Path.{_≡_, ap, _∙_}
+use mathlib.Core.Path.{ap, _∙_}
 use lib.IntN.{natAbs}
 use mir.Facts.{toZ-ofZ}
 use Rattle.anchors.proofs.Targets.{address-fits, address-is}

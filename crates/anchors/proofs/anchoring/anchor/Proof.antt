@@ -1,10 +1,9 @@
 -- `anchors::anchoring::anchor` meets its contract: the loop fills both tables from the front.
-use mathlib.Core.Path.{_≡_, refl, sym, ap, _∙_, subst}
+use mathlib.Core.Path.{_≡_, refl, ap, _∙_}
 use mathlib.Core.List.{List, _++_}
 use Prim.Native.Nat.{ℕ, _-_, _+_, _≤_, _<_}
 use native.Mathlib.Omega.{arith}
 use lib.ListN.{length, drop, set, length-set}
-use borrow.Author.Needs.{needs}
 use Rattle.laws.specs.Counts.{tab}
 use Rattle.laws.proofs.Counts.{tab-more}
 use Rattle.env.proofs.Filled.{get-filled}

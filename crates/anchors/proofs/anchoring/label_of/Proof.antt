@@ -1,5 +1,5 @@
 -- `anchors::anchoring::label_of` meets its contract: the numbers fit the tables.
-use mathlib.Core.Path.{_≡_, subst}
+use mathlib.Core.Path.{subst}
 use native.Mathlib.Omega.{arith}
 use borrow.Author.Needs.{needs}
 use Rattle.asm.specs.declared.Origin.the-variants.{At}

@@ -1,7 +1,5 @@
 -- `anchors::anchoring::target_value` meets its contract: the target reads where its frame says.
 use mathlib.Core.Path.{_≡_, sym, ap, _∙_}
-use mathlib.Core.List.{List}
-use Prim.Native.Nat.{ℕ}
 use borrow.Author.Needs.{needs}
 use Rattle.laws.proofs.Tests.{cond-true, cond-false}
 use Rattle.rules.specs.Expressions.{Expr, readExpr, got, holdsName}

@@ -8,7 +8,6 @@ use lib.Signed.{ltZ}
 use borrow.Author.Needs.{needs}
 use Rattle.rules.specs.Values.{nat}
 use Rattle.rules.specs.Layout.{originFrom, origin}
-use Rattle.rules.specs.declared.Outcome.the-variants.{Is}
 use Rattle.expression.proofs.Signed.{at32}
 use Rattle.slots.specs.Slots.{Slots, slots, programOf}
 use Rattle.asm.specs.Belonging.{originAs}

@@ -1,16 +1,14 @@
 -- `anchors::changing::is_change_jump` meets its contract: the form, then the nearest statement that is not skipped.
 use mathlib.Core.Path.{_≡_, sym, ap, _∙_}
-use mathlib.Core.Option.{Option, none, some}
-use Prim.Native.Nat.{ℕ, _<_}
+use mathlib.Core.Option.{some}
+use Prim.Native.Nat.{ℕ}
 use native.Mathlib.Omega.{arith}
 use borrow.Author.Needs.{needs}
 use Rattle.rules.specs.Programs.{at}
-use Rattle.rules.specs.Forms.{jmpf}
 use Rattle.rules.specs.Rewriting.{changesAt, isChangeJump}
 use Rattle.rules.specs.Rewriting.{nearest as nearestPlace}
 use Rattle.image.specs.Tables.{Tables, tables, program}
 use Rattle.patterns.specs.Targets.{standsAt, formIn}
-use Rattle.anchors.specs.declared.Nearest.the-variants.{At, Nothing}
 use Rattle.anchors.specs.Changes.{nearestAs}
 use Rattle.anchors.proofs.Jumps.{nearest-inside, found-at, found-none, jump-not, jump-is}
 use Rattle.anchors.proofs.changing.is_change_jump.Statement.{statement}

@@ -1,5 +1,4 @@
 -- `attempts::accepting::acceptable` meets its contract: the definition's two tests, in its order.
-use borrow.Author.Needs.{needs}
 use borrow.Author.Tests.{not-true, not-false}
 use Rattle.slots.specs.Slots.{Slots, slots, programOf}
 use Rattle.attempts.proofs.Attempts.{counts-not, counts-if}

@@ -1,12 +1,11 @@
 -- `optimize::rewriting::optimize` meets its contract. The loop's invariant: the rewrites that were counted led to the program at hand. The measure
 -- is the bytes of its instructions.
-use Prim.Native.Nat.{ℕ}
 use native.Mathlib.Omega.{arith}
 use Rattle.laws.specs.Lists.{total}
 use Rattle.rules.specs.Rewriting.{instrBytes}
 use Rattle.slots.specs.Slots.{Slots, slots, programOf}
 use Rattle.attempts.specs.Standing.{Standing}
-use Rattle.optimize.proofs.Ends.{Led, led-start, few-bytes, Went, went, stopped}
+use Rattle.optimize.proofs.Ends.{Led, led-start, few-bytes, went, stopped}
 use Rattle.optimize.proofs.rewriting.optimize.Statement.{statement}
 use Rattle.optimize.proofs.rewriting.optimize.Tie as tie
 

@@ -1,6 +1,5 @@
 -- `optimize::rewriting::rewrite` meets its contract: a fold, or, over the tables as they were, a shrink.
-use mathlib.Core.Path.{_≡_, ap, _∙_}
-use mathlib.Core.Bool.{true}
+use mathlib.Core.Path.{ap, _∙_}
 use mathlib.Core.Option.{Option}
 use borrow.Author.Needs.{needs}
 use Rattle.laws.specs.Options.{firstOf}

@@ -44,7 +44,7 @@ fold-with-requires : tie.Need-fold-with-requires Inv-loop μ-loop
 fold-with-requires c κs =
     let l = c .before .before .before in
     let s = l .before .before in
-    (still-stands (l .loop .inv .1) (s .pre), c .before .before .loop-test .taken)
+    (still-stands (l .loop .inv .1) (s .pre), omega (arith, c .before .before .loop-test .taken))
 
 returns : tie.Need-returns Inv-loop μ-loop
 returns c =
@@ -52,7 +52,7 @@ returns c =
     let l = p .before .before .before .before in
     let s = l .before .before in
     tried-as _ (first (here s)) (first-is (here s))
-    (found tries 23 (l .loop .k) (l .loop .inv .1) (l .loop .inv .2) (p .before .before .before .loop-test .taken) (p .fold-with .ensures) (c .if1 .taken))
+    (found tries 23 (l .loop .k) (l .loop .inv .1) (l .loop .inv .2) (omega (arith, p .before .before .before .loop-test .taken)) (p .fold-with .ensures) (c .if1 .taken))
 
 add-k : tie.Need-add-k Inv-loop μ-loop
 add-k c = omega arith
@@ -67,7 +67,7 @@ loop-again c =
     let e = p .fold-with .ensures in (
       omega arith,
       same-slots _ _ _ _ _ (e .forms-kept (c .if1 .left)) (e .carry-kept (c .if1 .left)) ∙ l .loop .inv .1,
-      missed tries 23 (l .loop .k) (l .loop .inv .1) (l .loop .inv .2) (p .before .before .before .loop-test .taken) e (c .if1 .left),
+      missed tries 23 (l .loop .k) (l .loop .inv .1) (l .loop .inv .2) (omega (arith, p .before .before .before .loop-test .taken)) e (c .if1 .left),
     )
 
 returns-2 : tie.Need-returns-2 Inv-loop μ-loop
@@ -75,7 +75,7 @@ returns-2 c =
     let l = c .before in
     let s = l .before .before in
     tried-as _ (first (here s)) (first-is (here s))
-    (ended tries 23 (l .loop .k) (l .loop .inv .1) (l .loop .inv .2) (c .loop-test .left) (s .pre))
+    (ended tries 23 (l .loop .k) (l .loop .inv .1) (l .loop .inv .2) (omega (arith, c .loop-test .left)) (s .pre))
 
 pub fold-spec : {M : Type 1} → statement M
 fold-spec =

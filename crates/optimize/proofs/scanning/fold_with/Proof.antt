@@ -1,6 +1,5 @@
 -- `optimize::scanning::fold_with` meets its contract. The loop's invariant: the tables are what they were, and nothing was found so far.
 use mathlib.Core.Path.{_≡_, refl, _∙_}
-use mathlib.Core.List.{List}
 use mathlib.Core.Option.{Option}
 use Prim.Native.Nat.{ℕ, _-_, _≤_}
 use native.Mathlib.Omega.{arith}

@@ -4,7 +4,7 @@ use mathlib.Core.Bool.{true}
 use Prim.Native.Nat.{ℕ}
 use borrow.Author.Needs.{needs}
 use Rattle.rules.specs.Forms.{isTransfer}
-use Rattle.rules.specs.Rewriting.{Pattern, inverted, trampoline, patternAt}
+use Rattle.rules.specs.Rewriting.{Pattern, patternAt}
 use Rattle.slots.specs.Slots.{Slots, slots, programOf, Agree}
 use Rattle.patterns.specs.declared.Pattern.{Pattern as Coded}
 use Rattle.patterns.specs.declared.Pattern.the-variants.{Inverted, Trampoline}

@@ -1,7 +1,5 @@
 -- `optimize::shrinking::shrink` meets its contract: a program that assembles has its names, and the tables hold them.
-use mathlib.Core.List.{List}
 use borrow.Author.Needs.{needs}
-use Prim.Native.Nat.{ℕ}
 use Rattle.slots.specs.Slots.{Slots, slots, programOf}
 use Rattle.asm.proofs.Ending.{ready-of}
 use Rattle.optimize.proofs.Contexts.{placed-any, names-are, never-refused}

@@ -1,13 +1,13 @@
--- `optimize::shrinking::shrink_at` meets its contract.
-use mathlib.Core.Path.{_≡_, sym, ap, _∙_}
+-- `optimize::shrinking::shrink_at` meets its contract: the form in the tables is the instruction's.
+use mathlib.Core.Path.{_≡_, sym, _∙_}
 use mathlib.Core.List.{List}
 use borrow.Author.Needs.{needs}
 use Rattle.rules.specs.Names.{Entry}
 use Rattle.rules.specs.Judging.{namesOf}
-use Rattle.rules.specs.Rewriting.{isChangeJump, shrinkAt}
+use Rattle.rules.specs.Rewriting.{shrinkAt}
 use Rattle.slots.specs.Slots.{Slots, slots, slotAt, programOf, kindOf}
 use Rattle.optimize.proofs.Tries.{tried-as, tried-none}
-use Rattle.optimize.proofs.Shorter.{call-for, shrink-other, shrink-none, shrink-call, shrink-change, shrink-plain}
+use Rattle.optimize.proofs.Shorter.{call-for, shrink-other, shrink-none, shrink-call}
 use Rattle.optimize.proofs.shrinking.shrink_at.Statement.{statement}
 use Rattle.optimize.proofs.shrinking.shrink_at.Tie as tie
 
@@ -26,13 +26,6 @@ kind c = let s = c .before .before .before in c .kind-at .ensures (s .args .carr
 instruction : (c : tie.Else1) → let s = c .before .before .before .before in kindOf (slotAt (here s) (s .args .at .0)) ≡ 1
 instruction c = sym (kind (c .before)) ∙ c .if1 .left
 
--- the change jump that was asked for, by the program's names
-asked : (c : tie.After-is-change-jump)
-    → let s = c .before .before .before .before .before .before .before .before .before in isChangeJump (its s) (programOf (here s)) (s .args .at .0) ≡ c .is-change-jump .result
-asked c =
-    let s = c .before .before .before .before .before .before .before .before .before in
-    sym (c .is-change-jump .ensures ∙ ap (λ (names : List Entry). isChangeJump names (programOf (here s)) (s .args .at .0)) (s .pre .2))
-
 kind-at-requires : tie.Need-kind-at-requires
 kind-at-requires c κs = search needs
 
@@ -46,57 +39,38 @@ returns c =
 element-copy-out-form : tie.Need-element-copy-out-form
 element-copy-out-form c = search needs
 
+shrink-jump-requires : tie.Need-shrink-jump-requires
+shrink-jump-requires c κs =
+    let i = c .before in
+    let o = i .before .before in
+    let s = o .before .before .before .before in
+    (s .pre .0, s .pre .1, s .pre .2, s .pre .3, instruction o, i .if2 .taken)
+
+returns-2 : tie.Need-returns-2
+returns-2 c = c .shrink-jump .ensures
+
 try-form-requires : tie.Need-try-form-requires
 try-form-requires c κs =
     let i = c .before in
-    let o = i .before .before in
+    let o = i .before .before .before in
     let s = o .before .before .before .before in
-    (s .pre .0, s .pre .3, instruction o, call-for _ (i .if2 .taken))
-
-returns-2 : tie.Need-returns-2
-returns-2 c =
-    let i = c .before .before in
-    let o = i .before .before in
-    let s = o .before .before .before .before in
-    tried-as _ (shrinkAt (its s) (programOf (here s)) (s .args .at .0))
-    (shrink-call (its s) (here s) (s .args .at .0) (s .pre .3) (instruction o) (i .if2 .taken)) (c .try-form .ensures)
+    (s .pre .0, s .pre .3, instruction o, call-for _ (i .if3 .taken))
 
 returns-3 : tie.Need-returns-3
 returns-3 c =
-    let i = c .before in
-    let o = i .before .before in
+    let i = c .before .before in
+    let o = i .before .before .before in
     let s = o .before .before .before .before in
-    tried-none (shrinkAt (its s) (programOf (here s)) (s .args .at .0))
-    (shrink-none (its s) (here s) (s .args .at .0) (s .pre .3) (instruction o) (c .if3 .taken) (i .if2 .left)) (s .pre .0)
-
-is-change-jump-requires : tie.Need-is-change-jump-requires
-is-change-jump-requires c κs = search needs
+    tried-as _ (shrinkAt (its s) (programOf (here s)) (s .args .at .0))
+    (shrink-call (its s) (here s) (s .args .at .0) (s .pre .3) (instruction o) (i .if3 .taken)) (c .try-form .ensures)
 
 returns-4 : tie.Need-returns-4
 returns-4 c =
     let j = c .before in
-    let e = j .before .before in
-    let o = e .before .before .before in
+    let o = j .before .before in
     let s = o .before .before .before .before in
     tried-none (shrinkAt (its s) (programOf (here s)) (s .args .at .0))
-    (shrink-change (its s) (here s) (s .args .at .0) (s .pre .3) (instruction o) (e .if3 .left) (asked j ∙ c .if4 .taken)) (s .pre .0)
-
-shrink-jump-requires : tie.Need-shrink-jump-requires
-shrink-jump-requires c κs =
-    let e = c .before .before .before .before in
-    let o = e .before .before .before in
-    let s = o .before .before .before .before in
-    (s .pre .0, s .pre .3, instruction o, e .if3 .left)
-
-returns-5 : tie.Need-returns-5
-returns-5 c =
-    let f = c .before .before in
-    let j = f .before in
-    let e = j .before .before in
-    let o = e .before .before .before in
-    let s = o .before .before .before .before in
-    tried-as _ (shrinkAt (its s) (programOf (here s)) (s .args .at .0))
-    (shrink-plain (its s) (here s) (s .args .at .0) (s .pre .3) (instruction o) (e .if3 .left) (asked j ∙ f .if4 .left)) (c .shrink-jump .ensures)
+    (shrink-none (its s) (here s) (s .args .at .0) (s .pre .3) (instruction o) (j .if2 .left) (c .if3 .left)) (s .pre .0)
 
 pub shrink-at-spec : {M : Type 1} → statement M
 shrink-at-spec =
@@ -105,10 +79,8 @@ shrink-at-spec =
     kind-at-requires
     returns
     element-copy-out-form
-    try-form-requires
-    returns-2
-    returns-3
-    is-change-jump-requires
-    returns-4
     shrink-jump-requires
-    returns-5)
+    returns-2
+    try-form-requires
+    returns-3
+    returns-4)

@@ -1,12 +1,12 @@
--- `optimize::shrinking::shrink_jump` meets its contract.
+-- `optimize::shrinking::shrink_jump` meets its contract: the change jump is judged by the program's own names.
 use mathlib.Core.Path.{_≡_, sym, ap, _∙_}
-use native.Mathlib.Omega.{arith}
-use lib.ListN.{getD}
-use Rattle.rules.specs.Forms.{br, jmp}
-use Rattle.slots.specs.Slots.{Slots, slots, slotAt, kindOf}
-use Rattle.attempts.specs.Shrinks.{shrunk}
-use Rattle.optimize.proofs.Tries.{same-slots, tried-first, tried-second, tried-missed}
-use Rattle.optimize.proofs.Shorter.{br-for, jmp-for}
+use mathlib.Core.List.{List}
+use Rattle.rules.specs.Names.{Entry}
+use Rattle.rules.specs.Judging.{namesOf}
+use Rattle.rules.specs.Rewriting.{isChangeJump, shrinkAt}
+use Rattle.slots.specs.Slots.{Slots, slots, programOf}
+use Rattle.optimize.proofs.Tries.{tried-as, tried-none}
+use Rattle.optimize.proofs.Shorter.{shrink-change, shrink-plain}
 use Rattle.optimize.proofs.shrinking.shrink_jump.Statement.{statement}
 use Rattle.optimize.proofs.shrinking.shrink_jump.Tie as tie
 
@@ -14,37 +14,35 @@ abbrev here : (c : tie.Start) → Slots
 here c =
     slots (c .args .frames .now) (c .args .starts .now) (c .args .count) (c .args .forms .now) (c .args .carry .now) (c .args .owners .now) (c .args .offsets .now)
 
-try-form-requires : tie.Need-try-form-requires
-try-form-requires c κs =
-    let s = c .before .before in
-    (s .pre .0, s .pre .1, s .pre .2, br-for _ (s .pre .3))
+abbrev its : (c : tie.Start) → List Entry
+its c = namesOf (programOf (here c))
+
+-- the change jump that was asked for
+asked : (c : tie.After-is-change-jump) → let s = c .before .before .before in isChangeJump (its s) (programOf (here s)) (s .args .at .0) ≡ c .is-change-jump .result
+asked c =
+    let s = c .before .before .before in
+    sym (c .is-change-jump .ensures ∙ ap (λ (names : List Entry). isChangeJump names (programOf (here s)) (s .args .at .0)) (s .pre .2))
+
+is-change-jump-requires : tie.Need-is-change-jump-requires
+is-change-jump-requires c κs = let s = c .before .before in (s .pre .1, s .pre .3)
 
 returns : tie.Need-returns
 returns c =
-    let s = c .before .before .before .before in
-    tried-first (shrunk (here s) (s .args .at .0) br) (shrunk (here s) (s .args .at .0) jmp) (c .before .try-form .ensures) (c .if1 .taken)
+    let j = c .before in
+    let s = j .before .before .before in
+    tried-none (shrinkAt (its s) (programOf (here s)) (s .args .at .0))
+    (shrink-change (its s) (here s) (s .args .at .0) (s .pre .3) (s .pre .4) (s .pre .5) (asked j ∙ c .if1 .taken)) (s .pre .0)
 
-try-form-requires-2 : tie.Need-try-form-requires-2
-try-form-requires-2 c κs =
-    let b = c .before .before in
-    let s = b .before .before .before in
-    let e = b .try-form .ensures in
-    let kept = e .forms-kept (c .before .if1 .left) in (
-      e .stands,
-      s .pre .1,
-      ap (λ (t : Slots). kindOf (slotAt t (s .args .at .0))) (same-slots _ _ _ _ _ kept (e .carry-kept (c .before .if1 .left))) ∙ s .pre .2,
-      jmp-for _ (ap (λ f. getD f (s .args .at .0) 0) kept ∙ s .pre .3),
-    )
+try-br-then-jmp-requires : tie.Need-try-br-then-jmp-requires
+try-br-then-jmp-requires c κs = let s = c .before .before .before .before .before in (s .pre .0, s .pre .3, s .pre .4, s .pre .5)
 
 returns-2 : tie.Need-returns-2
 returns-2 c =
     let i = c .before .before in
-    let b = i .before in
-    let s = b .before .before .before in
-    let e = b .try-form .ensures in
-    let x = shrunk (here s) (s .args .at .0) br in
-    tried-second x (λ t. shrunk t (s .args .at .0) jmp) (tried-missed x e (i .if1 .left))
-    (same-slots _ _ _ _ _ (e .forms-kept (i .if1 .left)) (e .carry-kept (i .if1 .left))) (c .try-form2 .ensures)
+    let j = i .before in
+    let s = j .before .before .before in
+    tried-as _ (shrinkAt (its s) (programOf (here s)) (s .args .at .0))
+    (shrink-plain (its s) (here s) (s .args .at .0) (s .pre .3) (s .pre .4) (s .pre .5) (asked j ∙ i .if1 .left)) (c .try-br-then-jmp .ensures)
 
 pub shrink-jump-spec : {M : Type 1} → statement M
-shrink-jump-spec = tie.close (tie.spec try-form-requires returns try-form-requires-2 returns-2)
+shrink-jump-spec = tie.close (tie.spec is-change-jump-requires returns try-br-then-jmp-requires returns-2)

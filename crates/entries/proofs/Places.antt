@@ -1,0 +1,212 @@
+-- The numbers of the last line: a refusal is about one of the first 1,025 places, and 3,072 rewrites are the most.
+use mathlib.Core.Path.{_≡_, refl}
+use mathlib.Core.List.{List, [], _∷_}
+use mathlib.Core.Bool.{Bool, true, _&&_, cond}
+use Prim.Native.Nat.{ℕ, zero, suc, _+_, _≤_, _<_}
+use native.Mathlib.Omega.{arith}
+use lib.Dec.{leb, ltb, eqb}
+use lib.ListN.{length}
+use borrow.Author.Tests.{ltb-true}
+use Rattle.laws.proofs.Tests.{and-true}
+use Rattle.laws.proofs.Lists.{total-bound}
+use Rattle.rules.specs.declared.Refusal.{Refusal}
+use Rattle.rules.specs.declared.Refusal.the-variants.{Broken, Limit}
+use Rattle.rules.specs.declared.Kind.{Kind}
+use Rattle.rules.specs.declared.Kind.the-variants.{Reg, I8, D9, Bit, Rel8, A12, A16, Rel16}
+use Rattle.rules.specs.Refusals.{faultOf}
+use Rattle.rules.specs.Answers.{atPlace, Judged, ok, no, require}
+use Rattle.rules.specs.Expressions.{Parsed, got, long, broken, readExpr}
+use Rattle.rules.specs.Forms.{operandsAt}
+use Rattle.rules.specs.Programs.{Placeℕ, register, Stmt, gone, instr, label, variable, comment, org, bytes, words, Program}
+use Rattle.rules.specs.Listing.{taken, Line, linesOf, takeByte, takePair, parsed, takeExpr, takeRegister, takeValue, takeOperand, takeOperands, takeExprs, takeItems, alone, readInstr, readLabel, readVariable, readOrg, readBytes, readWords, readFrame, unhex, withinLimits, wellFormed, readLines, readListing}
+use Rattle.rules.specs.Rewriting.{instrBytes}
+use Rattle.rules.specs.Run.{outputOf, run}
+use Rattle.promises.specs.Demand1.{Cause, reading, naming, laying, defining, encoding, room}
+use Rattle.promises.proofs.Says.{Says, says-no, says-require, says-cond, says-bind, Nothing-more}
+use Rattle.promises.proofs.Listings.{read-limits}
+use Rattle.promises.proofs.RefusedOnce.{refused-once}
+use Rattle.promises.proofs.RunEnds.{rewrites-bound}
+use Rattle.instruction.proofs.Numbers.{size-bound}
+
+abbrev Any : {A : Type 0} → A → Type 0
+Any a = Nothing-more a
+
+-- ---- each reader of a part of a frame refuses at the place that it is given
+module _ (i : Placeℕ) where
+  abbrev Here : Refusal → Type 0
+  Here r = faultOf r .place ≡ i
+
+  byte-here : (s : List ℕ) → Says Any Here (takeByte i s)
+  unfolding takeByte
+  byte-here [] = refl
+  byte-here (b ∷ s) = tt
+
+  pair-here : (s : List ℕ) → Says Any Here (takePair i s)
+  unfolding takePair
+  pair-here s =
+      says-bind Any Any Here (takeByte i s) _ (byte-here s) (λ high t. says-bind Any Any Here (takeByte i (high .rest)) _ (byte-here (high .rest)) (λ low u. tt))
+
+  expr-here : (s : List ℕ) → Says Any Here (takeExpr i s)
+  unfolding takeExpr
+  expr-here s = on (readExpr s)
+    where
+      on : (p : Parsed) → Says Any Here (parsed i s p)
+      on (got e n) = tt
+      on long = refl
+      on broken = refl
+
+  value-here : (s : List ℕ) → Says Any Here (takeValue i s)
+  unfolding takeValue
+  value-here s = says-bind Any Any Here (takeExpr i s) _ (expr-here s) (λ e t. tt)
+
+  operand-here : (k : Kind) (s : List ℕ) → Says Any Here (takeOperand i k s)
+  unfolding takeRegister
+  operand-here Reg s =
+      says-bind Any Any Here (takeByte i s) _ (byte-here s) (λ r t. says-require Any Here (leb (r .it) 3) (Broken (atPlace i)) (taken (register (r .it)) (r .rest)) refl (λ e. tt))
+  operand-here I8 s = value-here s
+  operand-here D9 s = value-here s
+  operand-here Bit s = value-here s
+  operand-here Rel8 s = value-here s
+  operand-here A12 s = value-here s
+  operand-here A16 s = value-here s
+  operand-here Rel16 s = value-here s
+
+  operands-here : (ks : List Kind) (s : List ℕ) → Says Any Here (takeOperands i ks s)
+  unfolding takeOperands
+  operands-here [] s = tt
+  operands-here (k ∷ ks) s =
+      says-bind Any Any Here (takeOperand i k s) _ (operand-here k s) (λ x t. says-bind Any Any Here (takeOperands i ks (x .rest)) _ (operands-here ks (x .rest)) (λ xs u. tt))
+
+  exprs-here : (n : ℕ) (s : List ℕ) → Says Any Here (takeExprs i n s)
+  unfolding takeExprs
+  exprs-here zero s = tt
+  exprs-here (suc n) s =
+      says-bind Any Any Here (takeExpr i s) _ (expr-here s) (λ e t. says-bind Any Any Here (takeExprs i n (e .rest)) _ (exprs-here n (e .rest)) (λ es u. tt))
+
+  items-here : (s : List ℕ) → Says Any Here (takeItems i s)
+  unfolding takeItems
+  items-here s =
+      says-bind Any Any Here (takeByte i s) _ (byte-here s) (λ n t.
+      says-require Any Here (leb 1 (n .it) && leb (n .it) 16) (Broken (atPlace i)) (takeExprs i (n .it) (n .rest)) refl (λ e. exprs-here (n .it) (n .rest)))
+
+  alone-here : (x : Stmt) (s : List ℕ) → Says Any Here (alone i x s)
+  alone-here x [] = tt
+  alone-here x (b ∷ s) = refl
+
+  -- ---- each kind of frame
+  instr-here : (s : List ℕ) → Says Any Here (readInstr i s)
+  unfolding readInstr
+  instr-here s =
+      says-bind Any Any Here (takeByte i s) _ (byte-here s) (λ f t.
+      says-bind Any Any Here _ _
+      (says-require Any Here (ltb (f .it) 70) (Broken (atPlace i)) (takeOperands i (operandsAt (f .it)) (f .rest)) refl (λ e. operands-here (operandsAt (f .it)) (f .rest)))
+      (λ xs u. alone-here (instr (f .it) (xs .it) i) (xs .rest)))
+
+  label-here : (s : List ℕ) → Says Any Here (readLabel i s)
+  unfolding readLabel
+  label-here s = says-bind Any Any Here (takePair i s) _ (pair-here s) (λ n t. alone-here (label (n .it)) (n .rest))
+
+  variable-here : (s : List ℕ) → Says Any Here (readVariable i s)
+  unfolding readVariable
+  variable-here s =
+      says-bind Any Any Here (takePair i s) _ (pair-here s) (λ n t.
+      says-bind Any Any Here _ _
+      (says-require Any Here (ltb (n .it) 0x8000) (Broken (atPlace i)) (takeExpr i (n .rest)) refl (λ e. expr-here (n .rest)))
+      (λ e u. alone-here (variable (n .it) (e .it)) (e .rest)))
+
+  org-here : (s : List ℕ) → Says Any Here (readOrg i s)
+  unfolding readOrg
+  org-here s = says-bind Any Any Here (takePair i s) _ (pair-here s) (λ n t. alone-here (org (n .it)) (n .rest))
+
+  bytes-here : (s : List ℕ) → Says Any Here (readBytes i s)
+  unfolding readBytes
+  bytes-here s = says-bind Any Any Here (takeItems i s) _ (items-here s) (λ es t. alone-here (bytes (es .it)) (es .rest))
+
+  words-here : (s : List ℕ) → Says Any Here (readWords i s)
+  unfolding readWords
+  words-here s = says-bind Any Any Here (takeItems i s) _ (items-here s) (λ es t. alone-here (words (es .it)) (es .rest))
+
+  frame-here : (s : List ℕ) → Says Any Here (readFrame i s)
+  unfolding readFrame
+  frame-here s = says-bind Any Any Here (takeByte i s) _ (byte-here s) (λ k t. kinds (k .it) (k .rest))
+    where
+      on : (b : Bool) (x y : Judged Stmt) → Says Any Here x → Says Any Here y → Says Any Here (cond b x y)
+      on b x y h j = says-cond Any Here b x y (λ t. h) (λ t. j)
+
+      kinds : (k : ℕ) (s : List ℕ)
+          → Says Any Here
+          (cond (eqb k 1) (readInstr i s)
+          (cond (eqb k 2) (readLabel i s)
+          (cond (eqb k 3) (readVariable i s)
+          (cond (eqb k 4) (ok (comment s))
+          (cond (eqb k 5) (readOrg i s)
+          (cond (eqb k 6) (readBytes i s)
+          (cond (eqb k 7) (readWords i s)
+          (no (Broken (atPlace i))))))))))
+      kinds k s =
+          on (eqb k 1) (readInstr i s) _ (instr-here s)
+          (on (eqb k 2) (readLabel i s) _ (label-here s)
+          (on (eqb k 3) (readVariable i s) _ (variable-here s)
+          (on (eqb k 4) (ok (comment s)) _ tt
+          (on (eqb k 5) (readOrg i s) _ (org-here s)
+          (on (eqb k 6) (readBytes i s) _ (bytes-here s)
+          (on (eqb k 7) (readWords i s) (no (Broken (atPlace i))) (words-here s) refl))))))
+
+-- ---- line by line: the 1,025th is refused
+abbrev Early : Refusal → Type 0
+Early r = faultOf r .place ≤ 1024
+
+early : (i sum : ℕ) (l : List ℕ) → withinLimits i sum l ≡ true → i < 1024
+unfolding withinLimits
+early i sum l t = ltb-true i 1024 (and-true (ltb i 1024) (leb (length l) 240 && leb (sum + length l) 49152) t .0)
+
+lines-early : (i sum : ℕ) (ls : List Line) → i ≤ 1024 → Says Any Early (readLines i sum ls)
+unfolding readLines
+lines-early i sum [] h = tt
+lines-early i sum (l ∷ ls) h =
+    let n : ℕ = length (l .chars) in
+    says-bind (λ s. i < 1024) Any Early _ _ first (λ s k. says-bind Any Any Early (readLines (suc i) (sum + n) ls) _ (lines-early (suc i) (sum + n) ls (omega arith)) (λ p u. tt))
+  where
+    frame : i < 1024 → (x : Judged Stmt) → Says Any (Here i) x → Says (λ s. i < 1024) Early x
+    frame k (ok s) u = k
+    frame k (no r) u = omega arith
+
+    first : Says (λ s. i < 1024) Early (require (withinLimits i sum (l .chars)) (Limit (atPlace i)) (require (wellFormed l) (Broken (atPlace i)) (readFrame i (unhex (l .chars)))))
+    first =
+        says-require (λ s. i < 1024) Early (withinLimits i sum (l .chars)) (Limit (atPlace i)) _ h (λ t.
+        says-require (λ s. i < 1024) Early (wellFormed l) (Broken (atPlace i)) _ h (λ u. frame (early i sum (l .chars) t) (readFrame i (unhex (l .chars))) (frame-here i (unhex (l .chars)))))
+
+read-early : (text : List ℕ) (r : Refusal) → readListing text ≡ no r → Early r
+unfolding readListing
+read-early text r e = says-no Any Early (readLines 0 0 (linesOf text)) r (lines-early 0 0 (linesOf text) (omega arith)) e
+
+-- every refusal of a run
+pub refused-early : (text : List ℕ) (listingRoom imageRoom : ℕ) (r : Refusal) → run text listingRoom imageRoom ≡ no r → faultOf r .place ≤ 1024
+refused-early text listingRoom imageRoom r e = on (refused-once text listingRoom imageRoom r .0 e)
+  where
+    few : (p : Program) → readListing text ≡ ok p → length p ≤ 1024
+    few p d = read-limits text p d .0
+
+    on : Cause text listingRoom imageRoom r → faultOf r .place ≤ 1024
+    on (reading d x) = read-early text r d
+    on (naming p d a x) = omega (arith, x .place, few p d)
+    on (laying p d a b x) = omega (arith, x .place, few p d)
+    on (defining p d a b c x) = omega (arith, x .place, few p d)
+    on (encoding p names d a b c f x) = omega (arith, x .place, few p d)
+    on (room p image d j f x) = rw x (few p d)
+
+-- ---- no instruction has more than three bytes
+instr-small : (s : Stmt) → instrBytes s ≤ 3
+instr-small gone = omega arith
+instr-small (instr f xs c) = size-bound f
+instr-small (label n) = omega arith
+instr-small (variable n e) = omega arith
+instr-small (comment x) = omega arith
+instr-small (org l) = omega arith
+instr-small (bytes es) = omega arith
+instr-small (words es) = omega arith
+
+pub few-rewrites : (text : List ℕ) (p : Program) → readListing text ≡ ok p → outputOf p .count ≤ 3072
+few-rewrites text p e =
+    let b = rewrites-bound p in
+    omega (arith, b .counted, b .bounded, total-bound instrBytes 3 p instr-small, read-limits text p e .0)

@@ -1,0 +1,90 @@
+-- `entries::printing::end_page` meets its contract.
+use mathlib.Core.Path.{sym, _∙_, ap, ap₂}
+use Prim.Native.Nat.{ℕ}
+use native.Mathlib.Omega.{arith}
+use lib.ListN.{length}
+use borrow.Author.Needs.{needs}
+use Rattle.rules.specs.declared.Answer.{Answer}
+use Rattle.rules.specs.Output.{doneLine, refusedLine}
+use Rattle.rules.specs.Run.{front}
+use Rattle.entries.specs.Printing.{LineFits, lastAfter}
+use Rattle.entries.proofs.Pages.{done-fits, refused-fits, part-room, line-behind}
+use Rattle.entries.proofs.printing.end_page.Statement.{statement}
+use Rattle.entries.proofs.printing.end_page.Tie as tie
+
+enum-known-answer : tie.Need-enum-known-answer
+enum-known-answer c = search needs
+
+-- the sizes of a run that was done, and what is asked of them
+fits : (c : tie.After-answer) → LineFits (c .answer .given .0 .0) (length (c .before .before .before .args .page .now))
+fits c = done-fits _ _ _ (c .answer .given .1) (c .before .before .before .pre)
+
+sub-done-line : tie.Need-sub-done-line
+sub-done-line c = omega (arith, fits (c .before) .listing)
+
+part-done-line-start : tie.Need-part-done-line-start
+part-done-line-start c = omega (arith, fits (c .before) .listing)
+
+part-done-line-end : tie.Need-part-done-line-end
+part-done-line-end c = search needs
+
+done-line-requires : tie.Need-done-line-requires
+done-line-requires c κs =
+    let a = c .before .before in
+    let f = fits a in
+    (f .rewrites, f .image, part-room (a .before .before .before .args .page .now) (a .answer .given .0 .0 .listing) 13 (f .listing))
+
+enum-known-answer-2 : tie.Need-enum-known-answer-2
+enum-known-answer-2 c = search needs
+
+fault-of-requires : tie.Need-fault-of-requires
+fault-of-requires c κs = search needs
+
+refused-line-requires : tie.Need-refused-line-requires
+refused-line-requires c κs =
+    let f = c .before in
+    let a = f .before .before in
+    let s = a .before .before .before in
+    let h = refused-fits _ _ (length (s .args .page .now)) (a .answer2 .given .1) (s .pre) in
+    (omega (arith, h .0, f .fault-of .ensures .1), h .1)
+
+same-length : tie.Need-same-length
+same-length c = search needs
+
+returns : tie.Need-returns
+returns c =
+    let d = c .before .before in
+    let a = d .before .before .before in
+    let page = a .before .before .before .args .page .now in
+    let z = a .answer .given .0 .0 in
+    line-behind (doneLine (z .rewrites) (z .image)) page _ (z .listing) (d .done-line .ensures) ∙ sym (ap (λ (x : Answer). lastAfter x page) (a .answer .given .1))
+
+same-length-2 : tie.Need-same-length-2
+same-length-2 c = search needs
+
+returns-2 : tie.Need-returns-2
+returns-2 c =
+    let l = c .before .before in
+    let f = l .before .before in
+    let a = f .before .before in
+    let page = a .before .before .before .args .page .now in
+    l .refused-line .ensures
+    ∙ ap₂ (λ (n i : ℕ). front (refusedLine n i) page) (f .fault-of .ensures .0) (f .fault-of .ensures .1)
+    ∙ sym (ap (λ (x : Answer). lastAfter x page) (a .answer2 .given .1))
+
+pub end-page-spec : {M : Type 1} → statement M
+end-page-spec =
+    tie.close
+    (tie.spec
+    enum-known-answer
+    sub-done-line
+    part-done-line-start
+    part-done-line-end
+    done-line-requires
+    enum-known-answer-2
+    fault-of-requires
+    refused-line-requires
+    same-length
+    returns
+    same-length-2
+    returns-2)

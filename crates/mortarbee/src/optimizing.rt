@@ -1,0 +1,30 @@
+// The job of document 01: a listing in, the new one and a last line out, or the 7E line of a refusal.
+use crate::refusals;
+use entries::page_length;
+use entries::print_run;
+use io::read_full;
+use io::write_all;
+use libc::STDIN_FILENO;
+use libc::STDOUT_FILENO;
+use rules::Answer;
+
+// A text that is longer than the buffer is refused within it: 49,152 characters and 1,024 line feeds are the most that is accepted.
+pub fn optimize() {
+    let mut text = io::large_buffer();
+    let n = read_full(STDIN_FILENO, &mut text);
+    let mut page = [0u8; 50189];
+    let mut image = [0u8; 65536];
+    let answer = print_run(&text[..n], &mut page, &mut image);
+    put_page(&page, page_length(answer));
+    match answer {
+        Answer::Done(_) => {}
+        Answer::Refused(r) => refusals::tell_person(r, &text[..n]),
+    }
+}
+
+// The front of the page: all that the program prints.
+fn put_page(page: &[u8; 50189], n: usize) {
+    let page: &[u8] = page;
+    let n = crate::imaging::part(n, page);
+    write_all(STDOUT_FILENO, &page[..n]);
+}

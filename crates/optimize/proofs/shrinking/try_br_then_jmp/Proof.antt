@@ -1,0 +1,49 @@
+-- `optimize::shrinking::try_br_then_jmp` meets its contract.
+use mathlib.Core.Path.{ap, _∙_}
+use lib.ListN.{getD}
+use Rattle.rules.specs.Forms.{br, jmp}
+use Rattle.slots.specs.Slots.{Slots, slots, slotAt, kindOf}
+use Rattle.attempts.specs.Shrinks.{shrunk}
+use Rattle.optimize.proofs.Tries.{same-slots, tried-first, tried-second, tried-missed}
+use Rattle.optimize.proofs.Shorter.{br-for, jmp-for}
+use Rattle.optimize.proofs.shrinking.try_br_then_jmp.Statement.{statement}
+use Rattle.optimize.proofs.shrinking.try_br_then_jmp.Tie as tie
+
+abbrev here : (c : tie.Start) → Slots
+here c =
+    slots (c .args .frames .now) (c .args .starts .now) (c .args .count) (c .args .forms .now) (c .args .carry .now) (c .args .owners .now) (c .args .offsets .now)
+
+try-form-requires : tie.Need-try-form-requires
+try-form-requires c κs =
+    let s = c .before .before in
+    (s .pre .0, s .pre .1, s .pre .2, br-for _ (s .pre .3))
+
+returns : tie.Need-returns
+returns c =
+    let s = c .before .before .before .before in
+    tried-first (shrunk (here s) (s .args .at .0) br) (shrunk (here s) (s .args .at .0) jmp) (c .before .try-form .ensures) (c .if1 .taken)
+
+try-form-requires-2 : tie.Need-try-form-requires-2
+try-form-requires-2 c κs =
+    let b = c .before .before in
+    let s = b .before .before .before in
+    let e = b .try-form .ensures in
+    let kept = e .forms-kept (c .before .if1 .left) in (
+      e .stands,
+      s .pre .1,
+      ap (λ (t : Slots). kindOf (slotAt t (s .args .at .0))) (same-slots _ _ _ _ _ kept (e .carry-kept (c .before .if1 .left))) ∙ s .pre .2,
+      jmp-for _ (ap (λ f. getD f (s .args .at .0) 0) kept ∙ s .pre .3),
+    )
+
+returns-2 : tie.Need-returns-2
+returns-2 c =
+    let i = c .before .before in
+    let b = i .before in
+    let s = b .before .before .before in
+    let e = b .try-form .ensures in
+    let x = shrunk (here s) (s .args .at .0) br in
+    tried-second x (λ t. shrunk t (s .args .at .0) jmp) (tried-missed x e (i .if1 .left))
+    (same-slots _ _ _ _ _ (e .forms-kept (i .if1 .left)) (e .carry-kept (i .if1 .left))) (c .try-form2 .ensures)
+
+pub try-br-then-jmp-spec : {M : Type 1} → statement M
+try-br-then-jmp-spec = tie.close (tie.spec try-form-requires returns try-form-requires-2 returns-2)
