@@ -4,7 +4,11 @@ use libc::STDERR_FILENO;
 use libc::STDOUT_FILENO;
 
 pub fn words(fd: i32) {
-    write_all(fd, b"mortarbee WORD < LISTING\n");
+    write_all(fd, b"mortarbee [WORD] < LISTING\n");
+    write_all(
+        fd,
+        b"  (no word)    writes the new listing and a last line: 7F, rewrites, image length; or 7E, number, place\n",
+    );
     write_all(
         fd,
         b"  check        says good and the statement count, or the 7E line of a refusal\n",
@@ -16,6 +20,10 @@ pub fn words(fd: i32) {
     write_all(
         fd,
         b"  explain N    what refusal N (1 to 12) means and what to look at\n",
+    );
+    write_all(
+        fd,
+        b"  batch        answers many listings, each ended by a line ==\n",
     );
     write_all(fd, b"  help         this text\n");
 }

@@ -1,6 +1,8 @@
 // `image`: the image of a listing as it stands, nothing rewritten; `image hex` writes it in digit pairs, sixteen to a line.
 use crate::refusals;
 use check::same;
+use desk::part;
+use desk::put_pair;
 use entries::assemble;
 use io::read_full;
 use io::write_all;
@@ -8,7 +10,6 @@ use libc::STDERR_FILENO;
 use libc::STDIN_FILENO;
 use libc::STDOUT_FILENO;
 use rules::Answer;
-ghost use Rattle.io.specs.Counts.{Counts};
 
 pub fn image() {
     let mut word = io::buffer();
@@ -37,13 +38,6 @@ fn write_image(as_digits: bool) {
     }
 }
 
-// At most as much as a room has.
-pub fn part(n: usize, room: &[u8]) -> usize
-    ensures { λ r. ⌜ Counts r (now (room .entry)) ⌝ }
-{
-    if n < room.len() { n } else { room.len() }
-}
-
 // The first n bytes of the room.
 fn put(room: &[u8], n: usize, as_digits: bool) {
     let n = part(n, room);
@@ -58,39 +52,22 @@ fn put_bytes(bytes: &[u8], as_digits: bool) {
     }
 }
 
-// A digit of the sixteen.
-fn digit(x: u8) -> u8 {
-    if x < 10 {
-        48 + x
-    } else if x < 16 {
-        55 + x
-    } else {
-        63
-    }
-}
-
-fn put_pair(b: u8, end: u8) {
-    let pair = [digit(b / 16), digit(b % 16), end];
-    write_all(STDOUT_FILENO, &pair);
-}
-
 // What follows the pair at i of n: a line ends after sixteen, and after the last.
-fn parting(i: usize, n: usize) -> u8 {
+fn put_parting(i: usize, n: usize) {
     if i % 16 == 15 {
-        return 10;
+        write_all(STDOUT_FILENO, b"\n");
+    } else if i + 1 < n {
+        write_all(STDOUT_FILENO, b" ");
+    } else {
+        write_all(STDOUT_FILENO, b"\n");
     }
-    if i < n {
-        if n - i > 1 {
-            return 32;
-        }
-    }
-    10
 }
 
 fn put_digits(bytes: &[u8]) {
     let mut i = 0;
     while i < bytes.len() {
-        put_pair(bytes[i], parting(i, bytes.len()));
+        put_pair(bytes[i]);
+        put_parting(i, bytes.len());
         i += 1;
     }
 }

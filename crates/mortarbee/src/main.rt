@@ -24,6 +24,8 @@ fn job(word: &[u8]) {
         checking::check_listing();
     } else if same(word, b"image") {
         imaging::image();
+    } else if same(word, b"batch") {
+        desk::answer_all(false);
     } else if same(word, b"explain") {
         help::explain();
     } else if same(word, b"help") {

@@ -1,5 +1,6 @@
 // The job of document 01: a listing in, the new one and a last line out, or the 7E line of a refusal.
 use crate::refusals;
+use desk::part;
 use entries::page_length;
 use entries::print_run;
 use io::read_full;
@@ -25,6 +26,6 @@ pub fn optimize() {
 // The front of the page: all that the program prints.
 fn put_page(page: &[u8; 50189], n: usize) {
     let page: &[u8] = page;
-    let n = crate::imaging::part(n, page);
+    let n = part(n, page);
     write_all(STDOUT_FILENO, &page[..n]);
 }

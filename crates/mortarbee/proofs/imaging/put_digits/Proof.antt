@@ -18,11 +18,11 @@ loop-holds c = omega arith
 shared-slice-read-put-pair : tie.Need-shared-slice-read-put-pair Inv-loop μ-loop
 shared-slice-read-put-pair c = search needs
 
-parting-requires : tie.Need-parting-requires Inv-loop μ-loop
-parting-requires c κs = search needs
-
 put-pair-requires : tie.Need-put-pair-requires Inv-loop μ-loop
 put-pair-requires c κs = search needs
+
+put-parting-requires : tie.Need-put-parting-requires Inv-loop μ-loop
+put-parting-requires c κs = search needs
 
 add-i : tie.Need-add-i Inv-loop μ-loop
 add-i c = search needs
@@ -38,4 +38,4 @@ returns c = tt
 
 pub put-digits-spec : {M : Type 1} → statement M
 put-digits-spec =
-    tie.close (tie.spec Inv-loop μ-loop loop-holds shared-slice-read-put-pair parting-requires put-pair-requires add-i loop-less loop-again returns)
+    tie.close (tie.spec Inv-loop μ-loop loop-holds shared-slice-read-put-pair put-pair-requires put-parting-requires add-i loop-less loop-again returns)

@@ -1,9 +1,9 @@
--- `mortarbee::imaging::part` meets its contract.
+-- `desk::rooms::part` meets its contract.
 use mathlib.Core.Path.{sym}
 use native.Mathlib.Omega.{arith}
 use lib.Seq.{length-take-le}
-use Rattle.mortarbee.proofs.imaging.part.Statement.{statement}
-use Rattle.mortarbee.proofs.imaging.part.Tie as tie
+use Rattle.desk.proofs.rooms.part.Statement.{statement}
+use Rattle.desk.proofs.rooms.part.Tie as tie
 
 returns : tie.Need-returns
 returns c = (omega arith, sym (length-take-le _ _ (omega arith)))

@@ -1,0 +1,129 @@
+// One listing of many: what the program prints for it and its image in digits; and, where asked, the same with rooms that are too short.
+use crate::rooms::part;
+use crate::rooms::put_pair;
+use entries::fault_of;
+use entries::optimize_jumps;
+use entries::page_length;
+use entries::print_run;
+use io::print_hex;
+use io::write_all;
+use libc::STDOUT_FILENO;
+use output::refused_line;
+use rules::Answer;
+use rules::Refusal;
+use rules::Sizes;
+ghost use Rattle.io.specs.Counts.{Counts};
+
+// The answer to a listing, and a line `==`.
+pub fn put_answer(text: &[u8], with_rooms: bool) {
+    let mut page = [0u8; 50189];
+    let mut image = [0u8; 65536];
+    let answer = print_run(text, &mut page, &mut image);
+    put_page(&page, page_length(answer));
+    match answer {
+        Answer::Done(sizes) => {
+            put_image(&image, sizes.image);
+            if with_rooms {
+                put_rooms(text, sizes);
+            }
+        }
+        Answer::Refused(_) => {}
+    }
+    write_all(STDOUT_FILENO, b"==\n");
+}
+
+fn put_page(page: &[u8; 50189], n: usize) {
+    let page: &[u8] = page;
+    let n = part(n, page);
+    write_all(STDOUT_FILENO, &page[..n]);
+}
+
+// How many zeros the bytes begin with.
+fn zeros(bytes: &[u8]) -> usize
+    ensures { λ r. ⌜ Counts r (now (bytes .entry)) ⌝ }
+{
+    let mut i = 0;
+    while i < bytes.len() {
+        if bytes[i] != 0 {
+            return i;
+        }
+        i += 1;
+    }
+    i
+}
+
+// IMAGE, how many zeros it begins with in hexadecimal, and the rest in digit pairs.
+fn put_image(image: &[u8; 65536], n: usize) {
+    let image: &[u8] = image;
+    let n = part(n, image);
+    put_bytes(&image[..n]);
+}
+
+fn put_bytes(bytes: &[u8]) {
+    let k = zeros(bytes);
+    write_all(STDOUT_FILENO, b"IMAGE ");
+    print_hex(STDOUT_FILENO, k as u64, 1);
+    write_all(STDOUT_FILENO, b" ");
+    put_digits(&bytes[k..]);
+    write_all(STDOUT_FILENO, b"\n");
+}
+
+fn put_digits(bytes: &[u8]) {
+    let mut i = 0;
+    while i < bytes.len() {
+        put_pair(bytes[i]);
+        i += 1;
+    }
+}
+
+// With a listing room one byte too short, an image room one byte too short, and both exact.
+fn put_rooms(text: &[u8], sizes: Sizes) {
+    if sizes.listing > 0 {
+        put_run(text, sizes.listing - 1, sizes.image);
+    }
+    if sizes.image > 0 {
+        put_run(text, sizes.listing, sizes.image - 1);
+    }
+    put_run(text, sizes.listing, sizes.image);
+}
+
+// A run with rooms of these lengths.
+fn put_run(text: &[u8], listing: usize, image: usize) {
+    let mut page = io::large_buffer();
+    let mut bytes = io::large_buffer();
+    let n = part(listing, &page);
+    let m = part(image, &bytes);
+    put_lent(text, &mut page[..n], &mut bytes[..m]);
+}
+
+// A line ROOMS with 7F, or with the refusal, and one more where a refusal changed a byte of a room.
+fn put_lent(text: &[u8], page: &mut [u8], image: &mut [u8]) {
+    write_all(STDOUT_FILENO, b"ROOMS ");
+    match optimize_jumps(text, page, image) {
+        Answer::Done(_) => {
+            write_all(STDOUT_FILENO, b"7F\n");
+        }
+        Answer::Refused(r) => {
+            put_fault(r);
+            put_kept(page);
+            put_kept(image);
+        }
+    }
+}
+
+// As the program says it.
+fn put_fault(r: Refusal) {
+    let f = fault_of(r);
+    if f.place < 65536 {
+        let mut line = [0u8; 9];
+        refused_line(f.number, f.place, &mut line);
+        write_all(STDOUT_FILENO, &line);
+    }
+}
+
+// The rooms held zeros.
+fn put_kept(room: &[u8]) {
+    if zeros(room) < room.len() {
+        write_all(STDOUT_FILENO, b"ROOMS CHANGED\n");
+    }
+}

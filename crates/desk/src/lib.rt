@@ -1,0 +1,46 @@
+// Many listings in one run: blocks of standard input that a line `==` ends, and the answer to each.
+mod answers; // one listing
+mod blocks; // where a block ends
+mod rooms; // what the words of the program share
+
+use answers::put_answer;
+use blocks::behind;
+use blocks::block_end;
+use io::read_full;
+use io::write_all;
+use libc::STDERR_FILENO;
+use libc::STDIN_FILENO;
+pub use rooms::part;
+pub use rooms::put_pair;
+ghost use mathlib.Core.Path.{_≡_};
+ghost use lib.ListN.{length};
+
+// As io's buffers: the contract gives the length alone, which lending it needs.
+fn room_for_all() -> [u8; 262144]
+    ensures { λ r. ⌜ 262144 ≡ length r ⌝ }
+{
+    [0; 262144]
+}
+
+// Answers all of standard input, up to 262,144 characters. `with_rooms` tries each listing with rooms that are too short as well.
+pub fn answer_all(with_rooms: bool) {
+    let mut text = room_for_all();
+    let n = read_full(STDIN_FILENO, &mut text);
+    if n == 262144 {
+        write_all(
+            STDERR_FILENO,
+            b"mortarbee: the input is longer than 262,144 characters; what is beyond is not read\n",
+        );
+    }
+    answer_blocks(&text[..n], with_rooms);
+}
+
+fn answer_blocks(text: &[u8], with_rooms: bool) {
+    let mut at = 0;
+    while at < text.len() {
+        let rest = &text[at..];
+        let n = block_end(rest);
+        put_answer(&rest[..n], with_rooms);
+        at = behind(at, n, text.len());
+    }
+}
