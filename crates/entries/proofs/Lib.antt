@@ -6,3 +6,5 @@ pub mod Results
 -- ---- what the program prints
 pub mod Places
 pub mod Pages
+-- ---- the entries for C
+pub mod Replies

@@ -2,3 +2,4 @@
 pub mod Assembling
 pub mod Optimizing
 pub mod Printing
+pub mod Exported

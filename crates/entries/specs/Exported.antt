@@ -1,0 +1,35 @@
+-- What the functions for C answer: an answer as five numbers, the first 0 where nothing is refused.
+use mathlib.Core.Path.{_≡_}
+use Prim.Native.Nat.{ℕ}
+use Rattle.rules.specs.declared.Answer.{Answer}
+use Rattle.rules.specs.declared.Answer.the-variants.{Done, Refused}
+use Rattle.rules.specs.Refusals.{faultOf}
+use Rattle.entries.specs.declared.exported.Reply.{Reply}
+
+-- "Each returns its number and the statement's place from 0; 12 returns the statement count"
+abbrev pub numberOf : Answer → ℕ
+numberOf (Done s) = 0
+numberOf (Refused r) = faultOf r .number
+
+abbrev pub placeOf : Answer → ℕ
+placeOf (Done s) = 0
+placeOf (Refused r) = faultOf r .place
+
+abbrev pub listingOf : Answer → ℕ
+listingOf (Done s) = s .listing
+listingOf (Refused r) = 0
+
+abbrev pub rewritesOf : Answer → ℕ
+rewritesOf (Done s) = s .rewrites
+rewritesOf (Refused r) = 0
+
+abbrev pub imageOf : Answer → ℕ
+imageOf (Done s) = s .image
+imageOf (Refused r) = 0
+
+pub record Says (r : Reply) (a : Answer) : Type 0 where
+  pub number : r .number ≡ numberOf a
+  pub place : r .place ≡ placeOf a
+  pub listing : r .listing ≡ listingOf a
+  pub rewrites : r .rewrites ≡ rewritesOf a
+  pub image : r .image ≡ imageOf a

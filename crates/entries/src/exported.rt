@@ -1,0 +1,73 @@
+// The entries for C and Rust, under names of their own: an enum cannot cross that border, so the answer is five numbers.
+use crate::assembling::assemble;
+use crate::optimizing::optimize_jumps;
+use crate::printing::fault_of;
+use rules::Answer;
+use rules::Refusal;
+ghost use mathlib.Core.Path.{_≡_};
+ghost use lib.ListN.{length};
+ghost use Rattle.rules.specs.Run.{assembled, run, answerOf, listingAfter, imageAfter};
+ghost use Rattle.rules.specs.declared.Answer.the-variants.{Refused};
+ghost use Rattle.entries.specs.Assembling.{answerAs, roomAs};
+ghost use Rattle.entries.specs.Exported.{Says};
+
+// An answer: number 0 and what is in the lent rooms, or a refusal's number and place.
+#[repr(C)]
+pub struct Reply {
+    pub number: u64,
+    pub place: u64,
+    pub listing: u64,
+    pub rewrites: u64,
+    pub image: u64,
+}
+
+fn refused(r: Refusal) -> Reply
+    ensures { λ a. ⌜ Says a (Refused r) ⌝ }
+{
+    let f = fault_of(r);
+    Reply {
+        number: f.number as u64,
+        place: f.place as u64,
+        listing: 0,
+        rewrites: 0,
+        image: 0,
+    }
+}
+
+fn reply_of(answer: Answer) -> Reply
+    ensures { λ r. ⌜ Says r answer ⌝ }
+{
+    match answer {
+        Answer::Refused(r) => refused(r),
+        Answer::Done(s) => Reply {
+            number: 0,
+            place: 0,
+            listing: s.listing as u64,
+            rewrites: s.rewrites as u64,
+            image: s.image as u64,
+        },
+    }
+}
+
+// `assemble`, for C.
+#[no_mangle]
+pub extern "C" fn mortarbee_assemble(listing: &[u8], image: &mut [u8]) -> Reply
+    ensures { λ r. ⌜ Says r (answerAs (assembled (now (listing .entry)) (length (now (image .entry))))) ⌝ }
+    ensures { λ _. ⌜ now (image .exit) ≡ roomAs (assembled (now (listing .entry)) (length (now (image .entry)))) (now (image .entry)) ⌝ }
+{
+    reply_of(assemble(listing, image))
+}
+
+// `optimize_jumps`, for C.
+#[no_mangle]
+pub extern "C" fn mortarbee_optimize_jumps(
+    listing: &[u8],
+    out: &mut [u8],
+    image: &mut [u8],
+) -> Reply
+    ensures { λ r. ⌜ Says r (answerOf (run (now (listing .entry)) (length (now (out .entry))) (length (now (image .entry))))) ⌝ }
+    ensures { λ _. ⌜ now (out .exit) ≡ listingAfter (run (now (listing .entry)) (length (now (out .entry))) (length (now (image .entry)))) (now (out .entry)) ⌝ }
+    ensures { λ _. ⌜ now (image .exit) ≡ imageAfter (run (now (listing .entry)) (length (now (out .entry))) (length (now (image .entry)))) (now (image .entry)) ⌝ }
+{
+    reply_of(optimize_jumps(listing, out, image))
+}
