@@ -1,4 +1,4 @@
 pub mod Tries
-pub mod Contexts
+pub mod Names
 pub mod Shorter
 pub mod Ends

@@ -2,7 +2,7 @@
 use borrow.Author.Needs.{needs}
 use Rattle.slots.specs.Slots.{Slots, slots, programOf}
 use Rattle.asm.proofs.Ending.{ready-of}
-use Rattle.optimize.proofs.Contexts.{placed-any, names-are, never-refused}
+use Rattle.optimize.proofs.Names.{standing-placed, names-are, never-refused}
 use Rattle.optimize.proofs.shrinking.shrink.Statement.{statement}
 use Rattle.optimize.proofs.shrinking.shrink.Tie as tie
 
@@ -13,7 +13,7 @@ here c =
 name-and-lay-requires : tie.Need-name-and-lay-requires
 name-and-lay-requires c κs =
     let s = c .before .before .before .before .before in
-    (s .pre .0 .sound .held, search needs, search needs, search needs, placed-any _ _ _ _ _ _ _ _ (s .pre .0))
+    (s .pre .0 .sound .held, search needs, search needs, search needs, standing-placed _ _ _ _ _ _ _ _ (s .pre .0))
 
 enum-told : tie.Need-enum-told
 enum-told c = search needs
@@ -29,7 +29,7 @@ shrink-first-requires c κs =
     let t = here s in
     let f = n .name-and-lay .ensures (s .args .carry .now) (s .args .owners .now) (s .args .offsets .now) .filled (e .enum-told2 .given .1) in (
       s .pre .0,
-      ready-of t _ _ _ _ (s .pre .0 .sound) (placed-any _ _ _ _ _ _ _ _ (s .pre .0) (s .args .carry .now) (s .args .owners .now) (s .args .offsets .now)) f,
+      ready-of t _ _ _ _ (s .pre .0 .sound) (standing-placed _ _ _ _ _ _ _ _ (s .pre .0) (s .args .carry .now) (s .args .owners .now) (s .args .offsets .now)) f,
       names-are (programOf t) _ (f .entries),
     )
 
