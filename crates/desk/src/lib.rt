@@ -22,15 +22,16 @@ fn room_for_all() -> [u8; 262144]
     [0; 262144]
 }
 
-// Answers all of standard input, up to 262,144 characters. `with_rooms` tries each listing with rooms that are too short as well.
+// Answers all of standard input, up to 262,143 characters: of a longer one none, so that no listing is cut. `with_rooms` tries each listing with rooms that are too short as well.
 pub fn answer_all(with_rooms: bool) {
     let mut text = room_for_all();
     let n = read_full(STDIN_FILENO, &mut text);
     if n == 262144 {
         write_all(
             STDERR_FILENO,
-            b"mortarbee: the input is longer than 262,144 characters; what is beyond is not read\n",
+            b"mortarbee: a batch is at most 262,143 characters; nothing was answered\n",
         );
+        return;
     }
     answer_blocks(&text[..n], with_rooms);
 }

@@ -3,8 +3,8 @@ pub mod Phases
 -- ---- the main entry
 pub mod Deliveries
 pub mod Results
--- ---- what the program prints
-pub mod Places
-pub mod Pages
 -- ---- the entries for C
 pub mod Replies
+-- ---- what the contracts say: two results coincide, and the demands
+pub mod Coincide
+pub mod Demands

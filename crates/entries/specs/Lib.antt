@@ -1,5 +1,4 @@
 -- What the entries answer and leave in the lent rooms.
 pub mod Assembling
 pub mod Optimizing
-pub mod Printing
 pub mod Exported

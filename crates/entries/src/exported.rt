@@ -1,7 +1,7 @@
 // The entries for C and Rust, under names of their own: an enum cannot cross that border, so the answer is five numbers.
 use crate::assembling::assemble;
+use crate::faults::fault_of;
 use crate::optimizing::optimize_jumps;
-use crate::printing::fault_of;
 use rules::Answer;
 use rules::Refusal;
 ghost use mathlib.Core.Path.{_≡_};

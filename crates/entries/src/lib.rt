@@ -1,16 +1,14 @@
 // The public entries: nothing is asked of the caller, and every lent byte is accounted for.
 mod assembling; // a listing to its image
 mod exported; // the entries for C
+mod faults; // each refusal by its number and place
 mod finishing; // an end form to its listing and its image
 mod optimizing; // a listing to its end form
-mod printing; // what the program prints
 
 pub use assembling::assemble;
 pub use exported::Reply;
 pub use exported::mortarbee_assemble;
 pub use exported::mortarbee_optimize_jumps;
+pub use faults::Fault;
+pub use faults::fault_of;
 pub use optimizing::optimize_jumps;
-pub use printing::Fault;
-pub use printing::fault_of;
-pub use printing::page_length;
-pub use printing::print_run;

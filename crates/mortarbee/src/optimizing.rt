@@ -1,12 +1,12 @@
 // The job of document 01: a listing in, the new one and a last line out, or the 7E line of a refusal.
 use crate::refusals;
 use desk::part;
-use entries::page_length;
-use entries::print_run;
 use io::read_full;
 use io::write_all;
 use libc::STDIN_FILENO;
 use libc::STDOUT_FILENO;
+use printing::page_length;
+use printing::print_run;
 use rules::Answer;
 
 // A text that is longer than the buffer is refused within it: 49,152 characters and 1,024 line feeds are the most that is accepted.

@@ -9,16 +9,20 @@ use Rattle.laws.specs.Lists.{total}
 use Rattle.laws.proofs.Tests.{clash}
 use Rattle.rules.specs.declared.Refusal.{Refusal}
 use Rattle.rules.specs.declared.Refusal.the-variants.{Broken, Limit, Again}
+use Rattle.rules.specs.Refusals.{faultOf}
 use Rattle.rules.specs.Answers.{atPlace, Judged, ok, no, Check, _>>=_, _>>_, checkEach, require, orD}
-use Rattle.rules.specs.Programs.{Placeℕ, Stmt, gone, Program, asName}
+use Rattle.rules.specs.Programs.{Placeℕ, Stmt, gone, Program, at, asName}
 use Rattle.rules.specs.Listing.{Line, linesOf, unhex, readFrame, withinLimits, wellFormed, readLines, readListing}
-use Rattle.rules.specs.Names.{Key, Entry, Placed, placed}
+use Rattle.rules.specs.Names.{Key, Entry, Placed, placed, contextAt}
 use Rattle.rules.specs.Layout.{position}
 use Rattle.rules.specs.Judging.{keysIn, areNew, noNameTwice, settles, positionsFit, define, defineAll, encode, encodeAll}
 use Rattle.rules.specs.Run.{run}
 use Rattle.rules.proofs.Laws.{length-placed, placed-at}
 use Rattle.promises.specs.Demand1.{Cause, reading, naming, laying, defining, encoding, room}
-use Rattle.promises.specs.Faults.{FirstRefused, lineIn, charactersIn, lineAt, keysOf, nameAt, settleAt, defineAt, encodeAt, FirstFault, line, named, laid, defined, encoded, room as no-room}
+use Rattle.promises.specs.Faults.{FirstRefused, AtFault, lineIn, charactersIn, lineAt, keysOf, nameAt, settleAt, defineAt, encodeAt, FirstFault, line, named, laid, defined, encoded, room as no-room}
+use Rattle.promises.proofs.Says.{Nothing-more, says-no, says-require}
+use Rattle.promises.proofs.Listings.{line-names}
+use Rattle.promises.proofs.Numbers.{Tells, settles-says, define-says, encode-says}
 use Rattle.promises.proofs.RefusedOnce.{refused-once}
 
 -- ---- the first of a list: here, or later
@@ -184,14 +188,40 @@ line-first text r e =
     first-same (length ls) (length ls) (λ j. readLine (0 + j) (0 + charactersIn (take j ls)) (lineIn ls j)) (lineAt ls) r refl
     (λ j l. let y : 0 + j ≡ j = omega arith in let z : 0 + charactersIn (take j ls) ≡ charactersIn (take j ls) = omega arith in rw (y, z)) (lines-first 0 0 ls r e)
 
--- first-fault: a refusal is that of the first statement, or line, that its check refuses
+-- ---- each check refuses with the place that it is asked of
+
+at-fault : {A : Type 0} (n : ℕ) (check : Placeℕ → Judged A) (r : Refusal) → ((i : Placeℕ) → check i ≡ no r → faultOf r .place ≡ i) → FirstRefused n check r → AtFault n check r
+at-fault n check r h f = record { first = f; names = h (f .place) (f .refused) }
+
+module _ (r : Refusal) (i : Placeℕ) where
+  abbrev Here : Placeℕ → Type 0
+  Here j = j ≡ i
+
+  name-names : (p : Program) → nameAt p i ≡ no r → faultOf r .place ≡ i
+  name-names p e =
+      says-no Nothing-more (λ s. faultOf s .place ≡ i) (nameAt p i) r
+      (says-require Nothing-more (λ s. faultOf s .place ≡ i) (areNew (keysOf [] (take i (placed p))) (keysIn (contextAt p i) (asName (at p i)))) (Again (atPlace i)) (ok tt) refl (λ t. tt)) e
+
+  settle-names : (p : Program) → settleAt p i ≡ no r → faultOf r .place ≡ i
+  settle-names p e = says-no Nothing-more (λ s. Tells (5 ∷ 6 ∷ []) Here s) (settleAt p i) r (settles-says Here i (position p i) (at p i) refl) e .place
+
+  define-names : (p : Program) → defineAt p i ≡ no r → faultOf r .place ≡ i
+  define-names p e =
+      says-no Nothing-more (λ s. Tells (4 ∷ 7 ∷ []) Here s) (defineAt p i) r
+      (define-says Here (orD (defineAll [] (take i (placed p))) []) i (contextAt p i) (position p i) (at p i) refl) e .place
+
+  encode-names : (names : List Entry) (p : Program) → encodeAt names p i ≡ no r → faultOf r .place ≡ i
+  encode-names names p e =
+      says-no Nothing-more (λ s. Tells (4 ∷ 7 ∷ 8 ∷ 9 ∷ 10 ∷ 11 ∷ []) Here s) (encodeAt names p i) r (encode-says Here names p i (contextAt p i) (position p i) (at p i) refl) e .place
+
+-- first-fault: a refusal is that of the first statement, or line, that its check refuses, and names its place
 pub first-fault : (text : List ℕ) (listingRoom imageRoom : ℕ) (r : Refusal) → run text listingRoom imageRoom ≡ no r → FirstFault text r
 first-fault text listingRoom imageRoom r e = on (refused-once text listingRoom imageRoom r .0 e)
   where
     on : Cause text listingRoom imageRoom r → FirstFault text r
-    on (reading d x) = line (line-first text r d)
-    on (naming p d a x) = named p d (named-first p r a)
-    on (laying p d a b x) = laid p d (laid-first p r b)
-    on (defining p d a b c x) = defined p d (defined-first p r c)
-    on (encoding p names d a b c f x) = encoded p names d c (encoded-first p r names f)
+    on (reading d x) = line (at-fault _ _ r (λ i. line-names i (charactersIn (take i (linesOf text))) (lineIn (linesOf text) i) r) (line-first text r d))
+    on (naming p d a x) = named p d (at-fault _ _ r (λ i. name-names r i p) (named-first p r a))
+    on (laying p d a b x) = laid p d (at-fault _ _ r (λ i. settle-names r i p) (laid-first p r b))
+    on (defining p d a b c x) = defined p d (at-fault _ _ r (λ i. define-names r i p) (defined-first p r c))
+    on (encoding p names d a b c f x) = encoded p names d c (at-fault _ _ r (λ i. encode-names r i names p) (encoded-first p r names f))
     on (room p image d j f x) = no-room p d x

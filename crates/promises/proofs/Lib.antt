@@ -1,5 +1,5 @@
 -- The promises and what they rest on, each file named after what it says. The promises: Accepted, OneResult, RefusedOnce, FirstFault, Shorter, RunEnds,
--- Acceptable, ImageOfOutput, TargetKept, Demand3, OutputRoom, ReadsBack.
+-- Acceptable, ImageOfOutput, TargetKept, Demand3, OutputRoom, ReadsBack, Entry.
 pub mod General
 pub mod Says
 -- ---- what reading says
@@ -48,3 +48,5 @@ pub mod SoundEnd
 pub mod FramesBack
 pub mod TextBack
 pub mod ReadsBack
+-- ---- all of it, down to the entry
+pub mod Entry

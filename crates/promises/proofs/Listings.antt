@@ -12,12 +12,14 @@ use Rattle.laws.specs.Lists.{total, every}
 use Rattle.laws.proofs.Tests.{and-true, or-true}
 use Rattle.rules.specs.declared.Refusal.{Refusal}
 use Rattle.rules.specs.declared.Refusal.the-variants.{Broken, Limit}
-use Rattle.rules.specs.Answers.{atPlace, ok, no, require}
+use Rattle.rules.specs.Refusals.{faultOf}
+use Rattle.rules.specs.Answers.{atPlace, Judged, ok, no, require}
 use Rattle.rules.specs.Programs.{Placeℕ, Operand, Stmt, instr, Program, at}
 use Rattle.rules.specs.Listing.{Line, ontoLine, linesOf, isDigit, digit, unhex, readFrame, withinLimits, wellFormed, readLines, readListing}
 use Rattle.rules.specs.Output.{frameOf}
+use Rattle.promises.specs.Demand1.{hasNumber}
 use Rattle.promises.specs.Room.{frameBytes}
-use Rattle.promises.proofs.Says.{Says, says-ok, says-no, says-with, says-require, says-bind}
+use Rattle.promises.proofs.Says.{Says, says-ok, says-no, says-less, says-with, says-require, says-bind}
 use Rattle.promises.proofs.Parses.{Bytes}
 use Rattle.promises.proofs.Sounds.{SoundStmt}
 use Rattle.promises.proofs.Frames.{OfReading, madeAt, isPlain, Framed, frame-read}
@@ -116,31 +118,44 @@ line-ok i sum l h k =
     let e = unhex-length (l .chars) (eqb-true (n % 2) 0 (d .0)) in
     record { early = ltb-true i 1024 (a .0); narrow = leb-true n 240 (b .0); digits = c .0; short = leb-true (sum + n) 49152 (b .1); even = e; full = rw (d .1) (omega arith) }
 
-lines-read : (i sum : ℕ) (ls : List Line) → i ≤ 1024 → sum ≤ 49152 → Says (Listed i sum ls) OfReading (readLines i sum ls)
+-- one line of a listing, at place i
+abbrev readLine : (i sum : ℕ) → Line → Judged Stmt
+readLine i sum l = require (withinLimits i sum (l .chars)) (Limit (atPlace i)) (require (wellFormed l) (Broken (atPlace i)) (readFrame i (unhex (l .chars))))
+
+abbrev LineRead : (i sum : ℕ) → Line → Stmt → Type 0
+LineRead i sum l s = Line-ok i sum l × Framed i (length (unhex (l .chars))) (Bytes (unhex (l .chars))) s
+
+line-says : (i sum : ℕ) (l : Line) → Says (LineRead i sum l) (OfReading i) (readLine i sum l)
+line-says i sum l =
+    let frame : Stmt → Type 0 = Framed i (length (unhex (l .chars))) (Bytes (unhex (l .chars))) in
+    says-require (LineRead i sum l) (OfReading i) (withinLimits i sum (l .chars)) (Limit (atPlace i)) _ (refl, refl) (λ a.
+    says-require (LineRead i sum l) (OfReading i) (wellFormed l) (Broken (atPlace i)) (readFrame i (unhex (l .chars))) (refl, refl) (λ b.
+    says-with frame (OfReading i) (line-ok i sum l a b) (readFrame i (unhex (l .chars))) (frame-read i (unhex (l .chars)))))
+
+-- a line that is refused is named
+pub line-names : (i sum : ℕ) (l : Line) (r : Refusal) → readLine i sum l ≡ no r → faultOf r .place ≡ i
+line-names i sum l r e = says-no (LineRead i sum l) (OfReading i) (readLine i sum l) r (line-says i sum l) e .1
+
+-- whichever line it was
+abbrev OneOrTwo : Refusal → Type 0
+OneOrTwo r = hasNumber (1 ∷ 2 ∷ []) r ≡ true
+
+lines-read : (i sum : ℕ) (ls : List Line) → i ≤ 1024 → sum ≤ 49152 → Says (Listed i sum ls) OneOrTwo (readLines i sum ls)
 unfolding readLines
 lines-read i sum [] h k = listed-nil i sum h k
 lines-read i sum (l ∷ ls) h k =
     let n : ℕ = length (l .chars) in
-    says-bind (λ s. Line-ok i sum l × Framed i (length (unhex (l .chars))) (Bytes (unhex (l .chars))) s) (Listed i sum (l ∷ ls)) OfReading _ _ first
-    (λ s x. says-bind (Listed (suc i) (sum + n) ls) (Listed i sum (l ∷ ls)) OfReading (readLines (suc i) (sum + n) ls) _
+    says-bind (LineRead i sum l) (Listed i sum (l ∷ ls)) OneOrTwo (readLine i sum l) _
+    (says-less (LineRead i sum l) (OfReading i) OneOrTwo (λ r h. h .0) (readLine i sum l) (line-says i sum l))
+    (λ s x. says-bind (Listed (suc i) (sum + n) ls) (Listed i sum (l ∷ ls)) OneOrTwo (readLines (suc i) (sum + n) ls) _
     (lines-read (suc i) (sum + n) ls (omega (arith, x .0 .early)) (x .0 .short))
     (λ p y. listed-cons i sum (length (unhex (l .chars))) l ls s p (x .0 .full) (omega (arith, x .0 .narrow, x .0 .even))
     (record { made = x .1 .made; as-long = x .1 .as-long; sound = λ t. x .1 .sound (unhex-bytes (l .chars) (x .0 .digits)) })
     (rw (x .0 .even) y)))
-  where
-    frame : Stmt → Type 0
-    frame s = Framed i (length (unhex (l .chars))) (Bytes (unhex (l .chars))) s
-
-    first : Says (λ s. Line-ok i sum l × frame s) OfReading
-        (require (withinLimits i sum (l .chars)) (Limit (atPlace i)) (require (wellFormed l) (Broken (atPlace i)) (readFrame i (unhex (l .chars)))))
-    first =
-        says-require _ OfReading (withinLimits i sum (l .chars)) (Limit (atPlace i)) _ refl (λ a.
-        says-require _ OfReading (wellFormed l) (Broken (atPlace i)) (readFrame i (unhex (l .chars))) refl (λ b.
-        says-with frame OfReading (line-ok i sum l a b) (readFrame i (unhex (l .chars))) (frame-read i (unhex (l .chars)))))
 
 -- ---- the whole
 
-listing-says : (text : List ℕ) → Says (Listed 0 0 (linesOf text)) OfReading (readListing text)
+listing-says : (text : List ℕ) → Says (Listed 0 0 (linesOf text)) OneOrTwo (readListing text)
 unfolding readListing
 listing-says text = lines-read 0 0 (linesOf text) (omega arith) (omega arith)
 
@@ -153,24 +168,24 @@ pub record WellMade (p : Program) : Type 0 where
 -- a program that was read is so
 pub read-made : (text : List ℕ) (p : Program) → readListing text ≡ ok p → WellMade p
 read-made text p e =
-    let h = says-ok (Listed 0 0 (linesOf text)) OfReading (readListing text) p (listing-says text) e in
+    let h = says-ok (Listed 0 0 (linesOf text)) OneOrTwo (readListing text) p (listing-says text) e in
     record { made = λ i. let z : 0 + i ≡ i = omega arith in rw z at (h .made i); sound = h .sound; short = h .short }
 
 -- "At most 1,024 statements, .. 24,576 frame bytes in all", by the frames that writing gives back
 pub read-limits : (text : List ℕ) (p : Program) → readListing text ≡ ok p → (length p ≤ 1024) × (total frameBytes p ≤ 24576)
 read-limits text p e =
-    let h = says-ok (Listed 0 0 (linesOf text)) OfReading (readListing text) p (listing-says text) e in
+    let h = says-ok (Listed 0 0 (linesOf text)) OneOrTwo (readListing text) p (listing-says text) e in
     (omega (arith, h .count), omega (arith, h .room))
 
 -- two characters a byte and a line feed a statement are the whole text
 pub read-whole : (text : List ℕ) (p : Program) → readListing text ≡ ok p → length text ≡ 2 * total frameBytes p + length p
 read-whole text p e =
-    let h = says-ok (Listed 0 0 (linesOf text)) OfReading (readListing text) p (listing-says text) e in
+    let h = says-ok (Listed 0 0 (linesOf text)) OneOrTwo (readListing text) p (listing-says text) e in
     omega (arith, h .whole, lines-length text)
 
 -- only 1 and 2 are reading's
-pub read-refuses : (text : List ℕ) (r : Refusal) → readListing text ≡ no r → OfReading r
-read-refuses text r e = says-no (Listed 0 0 (linesOf text)) OfReading (readListing text) r (listing-says text) e
+pub read-refuses : (text : List ℕ) (r : Refusal) → readListing text ≡ no r → hasNumber (1 ∷ 2 ∷ []) r ≡ true
+read-refuses text r e = says-no (Listed 0 0 (linesOf text)) OneOrTwo (readListing text) r (listing-says text) e
 
 -- what a made instruction has: its own place, and no inner label
 pub made-instr : (p : Program) → WellMade p → (i : Placeℕ) (f : ℕ) (xs : List Operand) (c : Placeℕ) → at p i ≡ instr f xs c → (c ≡ i) × (every isPlain xs ≡ true)

@@ -118,16 +118,18 @@ unfolding ownFrom
 length-own i [] = refl
 length-own i (s ∷ p) = ap suc (length-own (suc i) p)
 
-at-own : (i : Placeℕ) (p : Program) (j : Placeℕ) → at (ownFrom i p) j ≡ own (i + j) (at p j)
+pub at-own : (i : Placeℕ) (p : Program) (j : Placeℕ) → at (ownFrom i p) j ≡ own (i + j) (at p j)
 unfolding ownFrom
 at-own i [] j = refl
 at-own i (s ∷ p) zero = let z : i + 0 ≡ i = omega arith in rw z
 at-own i (s ∷ p) (suc j) = let z : i + suc j ≡ suc i + j = omega arith in rw z (at-own (suc i) p j)
 
+pub own-same : (p : Program) → AllSameRoom p (ownFrom 0 p)
+own-same p = (length-own 0 p, λ i. rw (at-own 0 p i) (own-room (0 + i) (at p i)))
+
 judge-own : (p : Program) → judge (ownFrom 0 p) ≡ judge p
 judge-own p =
-    let room : AllSameRoom p (ownFrom 0 p) = (length-own 0 p, λ i. rw (at-own 0 p i) (own-room (0 + i) (at p i))) in
-    let kept : Kept p (ownFrom 0 p) = positions-kept p (ownFrom 0 p) (position-same p (ownFrom 0 p) room) in
+    let kept : Kept p (ownFrom 0 p) = positions-kept p (ownFrom 0 p) (position-same p (ownFrom 0 p) (own-same p)) in
     judge-alike p (ownFrom 0 p) (length-own 0 p, λ i h. rw (at-own 0 p i) (own-alike p (ownFrom 0 p) kept (0 + i) (at p i)))
 
 -- reads-back: the output's listing reads as the output's statements, and assembles to the image that is handed out

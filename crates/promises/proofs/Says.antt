@@ -20,6 +20,11 @@ module _ {A : Type 0} where
     pub says-no : (x : Judged A) (r : Refusal) → Says P Q x → x ≡ no r → Q r
     says-no x r h e = subst (Says P Q) e h
 
+    -- less of a refusal
+    pub says-less : (R : Refusal → Type 0) → ((r : Refusal) → Q r → R r) → (x : Judged A) → Says P Q x → Says P R x
+    says-less R h (ok a) k = k
+    says-less R h (no r) k = h r k
+
     -- beside a fact
     pub says-with : {X : Type 0} → X → (x : Judged A) → Says P Q x → Says (λ a. X × P a) Q x
     says-with f (ok a) h = (f, h)

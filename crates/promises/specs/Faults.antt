@@ -7,6 +7,7 @@ use lib.ListN.{length, getD, take}
 use Rattle.laws.specs.Lists.{total}
 use Rattle.rules.specs.declared.Refusal.{Refusal}
 use Rattle.rules.specs.declared.Refusal.the-variants.{Broken, Limit, Again, Room}
+use Rattle.rules.specs.Refusals.{faultOf}
 use Rattle.rules.specs.Answers.{atPlace, Judged, ok, no, Check, require, orD}
 use Rattle.rules.specs.Programs.{Placeℕ, Stmt, Program, at, asName}
 use Rattle.rules.specs.Layout.{position}
@@ -20,6 +21,11 @@ pub record FirstRefused {A : Type 0} (n : ℕ) (check : Placeℕ → Judged A) (
   pub within : place < n
   pub refused : check place ≡ no r
   pub earlier : (j : Placeℕ) → j < place → (a : A) × (check j ≡ ok a)
+
+-- and r names that place: "Each returns its number and the statement's place from 0"
+pub record AtFault {A : Type 0} (n : ℕ) (check : Placeℕ → Judged A) (r : Refusal) : Type 0 where
+  pub first : FirstRefused n check r
+  pub names : faultOf r .place ≡ first .place
 
 -- ---- the checks
 
@@ -55,11 +61,11 @@ defineAt p i = define (orD (defineAll [] (take i (placed p))) []) i (contextAt p
 abbrev pub encodeAt : (names : List Entry) → Program → (i : Placeℕ) → Judged (List ℕ)
 encodeAt names p i = encode names p i (contextAt p i) (position p i) (at p i)
 
--- ---- the statement at fault, by the check that refuses it; 12 is about no statement
+-- ---- the statement at fault, by the check that refuses it; 12 is about no statement, and returns the statement count
 pub data FirstFault (text : List ℕ) (r : Refusal) : Type 0 where
-  line : FirstRefused (length (linesOf text)) (lineAt (linesOf text)) r → FirstFault text r
-  named : (p : Program) → readListing text ≡ ok p → FirstRefused (length p) (nameAt p) r → FirstFault text r
-  laid : (p : Program) → readListing text ≡ ok p → FirstRefused (length p) (settleAt p) r → FirstFault text r
-  defined : (p : Program) → readListing text ≡ ok p → FirstRefused (length p) (defineAt p) r → FirstFault text r
-  encoded : (p : Program) (names : List Entry) → readListing text ≡ ok p → defineAll [] (placed p) ≡ ok names → FirstRefused (length p) (encodeAt names p) r → FirstFault text r
+  line : AtFault (length (linesOf text)) (lineAt (linesOf text)) r → FirstFault text r
+  named : (p : Program) → readListing text ≡ ok p → AtFault (length p) (nameAt p) r → FirstFault text r
+  laid : (p : Program) → readListing text ≡ ok p → AtFault (length p) (settleAt p) r → FirstFault text r
+  defined : (p : Program) → readListing text ≡ ok p → AtFault (length p) (defineAt p) r → FirstFault text r
+  encoded : (p : Program) (names : List Entry) → readListing text ≡ ok p → defineAll [] (placed p) ≡ ok names → AtFault (length p) (encodeAt names p) r → FirstFault text r
   room : (p : Program) → readListing text ≡ ok p → r ≡ Room (length p) → FirstFault text r

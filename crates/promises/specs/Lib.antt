@@ -4,3 +4,5 @@ pub mod Faults
 pub mod Demand2
 pub mod Demand3
 pub mod Room
+-- ---- all of it, down to the entry
+pub mod Entry

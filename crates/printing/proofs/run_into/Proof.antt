@@ -1,10 +1,10 @@
--- `entries::printing::run_into` meets its contract: a listing in the page's front is one in the page.
+-- `printing::run_into` meets its contract: a listing in the page's front is one in the page.
 use native.Mathlib.Omega.{arith}
 use lib.ListN.{length-take}
 use borrow.Author.Needs.{needs}
-use Rattle.entries.proofs.Pages.{lent-front}
-use Rattle.entries.proofs.printing.run_into.Statement.{statement}
-use Rattle.entries.proofs.printing.run_into.Tie as tie
+use Rattle.printing.proofs.Pages.{lent-front}
+use Rattle.printing.proofs.run_into.Statement.{statement}
+use Rattle.printing.proofs.run_into.Tie as tie
 
 slice-relend-prefix-optimize-jumps : tie.Need-slice-relend-prefix-optimize-jumps
 slice-relend-prefix-optimize-jumps c = search needs

@@ -1,4 +1,4 @@
--- `entries::printing::page_length` meets its contract.
+-- `printing::page_length` meets its contract.
 use mathlib.Core.Path.{sym, _∙_, ap}
 use Prim.Native.Nat.{_+_}
 use native.Mathlib.Omega.{arith}
@@ -6,9 +6,9 @@ use lib.Dec.{leb}
 use borrow.Author.Needs.{needs}
 use borrow.Author.Tests.{le-leb, lt-leb}
 use Rattle.laws.proofs.Tests.{cond-true, cond-false}
-use Rattle.entries.specs.Printing.{pageLength}
-use Rattle.entries.proofs.printing.page_length.Statement.{statement}
-use Rattle.entries.proofs.printing.page_length.Tie as tie
+use Rattle.printing.specs.Page.{pageLength}
+use Rattle.printing.proofs.page_length.Statement.{statement}
+use Rattle.printing.proofs.page_length.Tie as tie
 
 enum-known-answer : tie.Need-enum-known-answer
 enum-known-answer c = search needs

@@ -8,6 +8,7 @@ use lib.ListN.{length, take, drop}
 use Rattle.rules.specs.declared.Answer.{Answer}
 use Rattle.rules.specs.declared.Answer.the-variants.{Done, Refused}
 use Rattle.rules.specs.declared.Sizes.{Sizes}
+use Rattle.rules.specs.declared.Refusal.{Refusal}
 use Rattle.rules.specs.Refusals.{faultOf}
 use Rattle.rules.specs.Output.{doneLine, refusedLine}
 use Rattle.rules.specs.Run.{run, answerOf, front, listingAfter, imageAfter, listingRoomOfProgram, imageRoomOfProgram, program}
@@ -45,3 +46,9 @@ pub record PrintedRun (text page image : List ℕ) (r : Answer) (page′ image�
   pub page-is : page′ ≡ front (program text) page
   pub image-is : image′ ≡ imageAfter (run text listingRoomOfProgram imageRoomOfProgram) image
   pub page-length : pageLength r ≡ length (program text)
+
+-- so the first `page_length` bytes of the page are what the program prints, and the program never gives 12
+pub record Prints (text page : List ℕ) (r : Answer) (page′ : List ℕ) : Type 0 where
+  pub printed : take (pageLength r) page′ ≡ program text
+  pub beyond : drop (pageLength r) page′ ≡ drop (pageLength r) page
+  pub never-12 : (s : Refusal) → r ≡ Refused s → faultOf s .number ≡ 12 → ⊥

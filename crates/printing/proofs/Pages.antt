@@ -21,8 +21,8 @@ use Rattle.rules.specs.Run.{Output, run, answerOf, front, listingAfter, imageAf
 use Rattle.promises.specs.Demand2.{Answered}
 use Rattle.promises.proofs.Accepted.{accepted-iff}
 use Rattle.output.proofs.Rooms.{length-line}
-use Rattle.entries.specs.Printing.{Lent, LineFits, Printable, lastAfter, pageLength, PrintedRun}
-use Rattle.entries.proofs.Places.{refused-early, few-rewrites}
+use Rattle.printing.specs.Page.{Lent, LineFits, Printable, lastAfter, pageLength, PrintedRun}
+use Rattle.printing.proofs.Places.{refused-early, few-rewrites}
 
 -- ---- the last line
 

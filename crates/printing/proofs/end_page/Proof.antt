@@ -1,4 +1,4 @@
--- `entries::printing::end_page` meets its contract.
+-- `printing::end_page` meets its contract.
 use mathlib.Core.Path.{sym, _∙_, ap, ap₂}
 use Prim.Native.Nat.{ℕ}
 use native.Mathlib.Omega.{arith}
@@ -7,10 +7,10 @@ use borrow.Author.Needs.{needs}
 use Rattle.rules.specs.declared.Answer.{Answer}
 use Rattle.rules.specs.Output.{doneLine, refusedLine}
 use Rattle.rules.specs.Run.{front}
-use Rattle.entries.specs.Printing.{LineFits, lastAfter}
-use Rattle.entries.proofs.Pages.{done-fits, refused-fits, part-room, line-behind}
-use Rattle.entries.proofs.printing.end_page.Statement.{statement}
-use Rattle.entries.proofs.printing.end_page.Tie as tie
+use Rattle.printing.specs.Page.{LineFits, lastAfter}
+use Rattle.printing.proofs.Pages.{done-fits, refused-fits, part-room, line-behind}
+use Rattle.printing.proofs.end_page.Statement.{statement}
+use Rattle.printing.proofs.end_page.Tie as tie
 
 enum-known-answer : tie.Need-enum-known-answer
 enum-known-answer c = search needs

@@ -1,8 +1,8 @@
--- `entries::printing::print_run` meets its contract, on every input.
+-- `printing::print_run` meets its contract, on every input.
 use borrow.Author.Needs.{needs}
-use Rattle.entries.proofs.Pages.{lent-printable, lent-printed}
-use Rattle.entries.proofs.printing.print_run.Statement.{statement}
-use Rattle.entries.proofs.printing.print_run.Tie as tie
+use Rattle.printing.proofs.Pages.{lent-printable, lent-printed}
+use Rattle.printing.proofs.print_run.Statement.{statement}
+use Rattle.printing.proofs.print_run.Tie as tie
 
 run-into-requires : tie.Need-run-into-requires
 run-into-requires c κs = search needs

@@ -1,0 +1,90 @@
+-- The demands, of whatever `print_run` answers and writes: each starts from its contract.
+use mathlib.Core.Path.{_≡_, refl, sym, _∙_, ap}
+use mathlib.Core.List.{List, _++_, append-assoc}
+use Prim.Native.Nat.{ℕ}
+use native.Mathlib.Omega.{arith}
+use lib.Dec.{leb}
+use lib.ListN.{length, take, drop}
+use lib.Seq.{take-at}
+use borrow.Author.Tests.{leb-true}
+use Rattle.laws.proofs.Tests.{clash}
+use Rattle.laws.proofs.Stores.{front-take, front-drop}
+use Rattle.rules.specs.declared.Answer.{Answer}
+use Rattle.rules.specs.declared.Answer.the-variants.{Done, Refused}
+use Rattle.rules.specs.declared.Sizes.{Sizes}
+use Rattle.rules.specs.declared.Refusal.{Refusal}
+use Rattle.rules.specs.declared.Refusal.the-variants.{Broken, Limit, Again, NoName, Back, Beyond, NoValue, Range, Outside, Far, Page, Room}
+use Rattle.rules.specs.Refusals.{faultOf}
+use Rattle.rules.specs.Answers.{Judged, ok, no}
+use Rattle.rules.specs.Programs.{Program}
+use Rattle.rules.specs.Listing.{readListing}
+use Rattle.rules.specs.Judging.{judge}
+use Rattle.rules.specs.Output.{doneLine, refusedLine}
+use Rattle.rules.specs.Run.{Output, run, assembled, answerOf, front, imageAfter, printed, listingRoomOfProgram, imageRoomOfProgram, program}
+use Rattle.rules.proofs.Laws.{then-ok, require-ok}
+use Rattle.promises.specs.Entry.{Promised}
+use Rattle.promises.proofs.Entry.{promised}
+use Rattle.promises.proofs.OutputRoom.{never-room}
+use Rattle.entries.proofs.Demands.{in-front}
+use Rattle.printing.specs.Page.{pageLength, PrintedRun, Prints}
+
+-- ---- `print_run`
+module _ (text page image page′ image′ : List ℕ) where
+  abbrev whole : Judged Output
+  whole = run text listingRoomOfProgram imageRoomOfProgram
+
+  -- 12 is only the rooms'
+  not-twelve : (s : Refusal) → whole ≡ no s → faultOf s .number ≡ 12 → ⊥
+  not-twelve (Broken i) e n = absurd (omega (arith, n))
+  not-twelve (Limit i) e n = absurd (omega (arith, n))
+  not-twelve (Again i) e n = absurd (omega (arith, n))
+  not-twelve (NoName i) e n = absurd (omega (arith, n))
+  not-twelve (Back i) e n = absurd (omega (arith, n))
+  not-twelve (Beyond i) e n = absurd (omega (arith, n))
+  not-twelve (NoValue i) e n = absurd (omega (arith, n))
+  not-twelve (Range i j v) e n = absurd (omega (arith, n))
+  not-twelve (Outside i j v) e n = absurd (omega (arith, n))
+  not-twelve (Far i j v) e n = absurd (omega (arith, n))
+  not-twelve (Page i j v) e n = absurd (omega (arith, n))
+  not-twelve (Room m) e n = never-room text m e
+
+  refused-so : (s : Refusal) (j : Judged Output) → Refused s ≡ answerOf j → j ≡ no s
+  refused-so s (ok o) e = clash (cc)
+  refused-so s (no r) e = cc
+
+  -- prints: the front of the page is what the program prints, the rest of it is what it was, and 12 is never printed
+  pub prints : (r : Answer) → PrintedRun text page image r page′ image′ → Prints text page r page′
+  prints r x =
+      let page-is = in-front (program text) page page′ (pageLength r) (x .page-length) (x .page-is) in
+      record {
+        printed = page-is .0;
+        beyond = page-is .1;
+        never-12 = λ s e. not-twelve s (refused-so s whole (sym e ∙ x .answers));
+      }
+
+  -- printed-promised: the demands hold of the listing that is printed, of the image and of the count
+  pub printed-promised : (sizes : Sizes) → PrintedRun text page image (Done sizes) page′ image′ → Promised text (take (sizes .listing) page′) (take (sizes .image) image′) (sizes .rewrites)
+  unfolding program
+  printed-promised sizes x = on whole refl (x .answers) (x .page-is) (x .image-is)
+    where
+      on : (j : Judged Output) → whole ≡ j → Done sizes ≡ answerOf j → page′ ≡ printed j ++ drop (length (printed j)) page → image′ ≡ imageAfter j image
+          → Promised text (take (sizes .listing) page′) (take (sizes .image) image′) (sizes .rewrites)
+      on (ok o) e d f g =
+          let z : sizes ≡ record { listing = length (o .listing); rewrites = o .count; image = length (o .image) } = cc in
+          let line : List ℕ = doneLine (o .count) (length (o .image)) in
+          let rest : List ℕ = drop (length (o .listing ++ line)) page in
+          let written : take (sizes .listing) page′ ≡ o .listing =
+          ap (take (sizes .listing)) (f ∙ append-assoc (o .listing) line rest) ∙ take-at (o .listing) (line ++ rest) (sizes .listing) (sym (ap (λ (s : Sizes). s .listing) z)) in
+          let bytes : take (sizes .image) image′ ≡ o .image = in-front (o .image) image image′ (sizes .image) (ap (λ (s : Sizes). s .image) z) g .0 in
+          let count : sizes .rewrites ≡ o .count = ap (λ (s : Sizes). s .rewrites) z in
+          rw (written, bytes, count) (promised text listingRoomOfProgram imageRoomOfProgram o e)
+      on (no s) e d f g = clash (cc)
+
+  -- printed-refused: "On refusal it writes only 7E, number, place in two bytes": the rest of the page and the image's room are what they were
+  pub printed-refused : (s : Refusal) → PrintedRun text page image (Refused s) page′ image′
+      → (take 9 page′ ≡ refusedLine (faultOf s .number) (faultOf s .place)) × (drop 9 page′ ≡ drop 9 page) × (image′ ≡ image)
+  unfolding program
+  printed-refused s x =
+      let e = refused-so s whole (x .answers) in
+      let p = prints (Refused s) x in
+      (p .printed ∙ ap printed e, p .beyond, x .image-is ∙ ap (λ (j : Judged Output). imageAfter j image) e)

@@ -1,0 +1,5 @@
+pub mod Places
+pub mod Pages
+-- ---- what the contracts say
+pub mod Coincide
+pub mod Demands
