@@ -7,23 +7,23 @@ pub fn words(fd: i32) {
     write_all(fd, b"mortarbee [WORD] < LISTING\n");
     write_all(
         fd,
-        b"  (no word)    writes the new listing and a last line: 7F, rewrites, image length; or 7E, number, place\n",
+        b"  (no word)    writes the new listing and a last line: 7F, rewrites, image length; or only 7E, number, place\n",
     );
     write_all(
         fd,
-        b"  check        says good and the statement count, or the 7E line of a refusal\n",
+        b"  check        whether the form is kept (1 and 2 only): good and the statement count, or the 7E line\n",
     );
     write_all(
         fd,
-        b"  image        writes the image's bytes, nothing rewritten; image hex writes digit pairs\n",
+        b"  image        writes the image's bytes, nothing rewritten, or the 7E line; image hex writes digit pairs\n",
+    );
+    write_all(
+        fd,
+        b"  batch        answers many listings, each ended by a line ==; a line IMAGE has the new image\n",
     );
     write_all(
         fd,
         b"  explain N    what refusal N (1 to 12) means and what to look at\n",
-    );
-    write_all(
-        fd,
-        b"  batch        answers many listings, each ended by a line ==\n",
     );
     write_all(fd, b"  help         this text\n");
 }
@@ -83,40 +83,40 @@ fn say(text: &[u8]) {
 fn explain_number(k: u8) {
     match k {
         1 => say(
-            b"1: the line or its frame breaks the form of a listing.\nLook at: digit pairs in upper case, the line feed at its end, the frame's kind and count, the form number, the expressions.\nExample: 01FF (there is no form FF)\n",
+            b"1: the line or its frame breaks the form of a listing.\nLook at: upper-case digit pairs; one line feed at the end and no carriage return; the kind, 01 to 07; the form number, 00 to 45; a count, 1 to 16; a register, 0 to 3; a variable's name, below 8000; an expression that is cut short; bytes after the last operand.\nExample: 01FF (there is no form FF)\n",
         ),
         2 => say(
-            b"2: a limit is passed: 1,024 statements, 120 bytes a frame, 24,576 frame bytes in all, 16 data items, 32 bytes an expression.\nLook at: the length of the line, or how many lines stand before it.\nExample: a line of 242 characters\n",
+            b"2: a limit is passed: 1,024 statements, 120 bytes (240 characters) a frame, 24,576 frame bytes in all, 32 bytes an expression.\nLook at: the length of the line and of its expressions, and how much stands above it.\nExample: 04 and 240 more digits (a comment of 121 bytes)\n",
         ),
         3 => say(
-            b"3: the name is defined a second time; a local name (8000 and up) counts once a context.\nLook at: the first definition, above this one.\nExample: 020001 and again 020001\n",
+            b"3: the name is defined a second time. Labels and variables share the names below 8000; a local name, 8000 and up, is defined once in a context.\nLook at: the first definition, above this one.\nExample: 020001, then 020001 again\n",
         ),
         4 => say(
-            b"4: a name is not found, or a variable names something that stands below it.\nLook at: the name's number, and for a local name the global label above.\nExample: 012B010001 with no label 0001\n",
+            b"4: a name is not found. A local name is found only in its own context, from a global label to the next; a variable sees only what stands above it.\nLook at: the name's number, and where its label or variable stands.\nExample: 012B010001 with no label 0001\n",
         ),
         5 => say(
-            b"5: an org is below the position that the statements before it reached.\nLook at: the org's address and the bytes before it.\nExample: 0143 and then 050000\n",
+            b"5: an org is below the position that the statements before it reached.\nLook at: the org's location, and the bytes before it.\nExample: 0143, then 050000\n",
         ),
         6 => say(
-            b"6: the position would pass 65,536.\nLook at: the last org and what comes after it.\nExample: 05FFFF, then two Nops\n",
+            b"6: the position would pass 65,536.\nLook at: the last org, and the bytes after it.\nExample: 05FFFF, then 0143, then 0143\n",
         ),
         7 => say(
-            b"7: a node of an expression has no value: it leaves the 32-bit range, or divides by zero.\nLook at: each operator of the expression, not only its result.\nExample: 060113 1 0 (1 divided by 0)\n",
+            b"7: a node of an expression has no value: it leaves -2,147,483,648 to 2,147,483,647, or divides by zero.\nLook at: each operator of the expression, not only its result.\nExample: 06011300000000010000000000 (1 divided by 0)\n",
         ),
         8 => say(
-            b"8: an operand or a data item is out of its range.\nLook at: the argument's value: bytes 0 to 255, words 0 to 65,535, bits 0 to 7.\nExample: 010000FFFFFFFF (Add_i8 of -1)\n",
+            b"8: an operand or a data item is out of its range: i8 and bytes 0 to 255, d9 0 to 511, a bit 0 to 7, 16-bit addresses and words 0 to 65,535.\nLook at: the values of the operands; a negative one is never in range.\nExample: 010000FFFFFFFF (Add_i8 of -1)\n",
         ),
         9 => say(
-            b"9: a relative target is outside 0 to 65,535.\nLook at: the value of the target.\nExample: a Brf to -1\n",
+            b"9: the target of Br, Brf, Callr or a conditional branch is outside 0 to 65,535.\nLook at: the value of the target.\nExample: 012D00FFFFFFFF (Brf to -1)\n",
         ),
         10 => say(
-            b"10: a relative target is too far away: -128 to 127 bytes from the instruction's end.\nLook at: a longer form, or a label nearer by.\nExample: 012C0000000082 (Br at 0 to 130)\n",
+            b"10: the target of Br or a conditional branch is too far away: more than 128 bytes back or 127 ahead, counted from the address after the instruction.\nLook at: Jmp or Jmpf for a Br; for a branch, the opposite branch around a Jmpf.\nExample: 012C0000000082 (Br at 0 to 130; it reaches 129)\n",
         ),
         11 => say(
-            b"11: the target is in another page of 4,096 bytes than the end of the instruction.\nLook at: the far form (Jmpf, Callf).\nExample: 050FFE, then 012A0000000345\n",
+            b"11: the target of Jmp or Call is in another page of 4,096 bytes than the address after the instruction.\nLook at: the far form, Jmpf or Callf; it is shortened where that is possible.\nExample: 050FFE, then 012A0000000345\n",
         ),
         _ => say(
-            b"12: a lent room is too short for the result. The program's own rooms never are; a caller of the library lends more.\n",
+            b"12: a lent room is too short for the result.\nLook at: the rooms that the caller of the library lends; 50,176 bytes for the listing and 65,536 for the image always hold it.\nExample: none, the program lends as much and never gives 12\n",
         ),
     }
 }

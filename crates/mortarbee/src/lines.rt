@@ -38,6 +38,27 @@ fn line_length(rest: &[u8]) -> usize
     i
 }
 
+// A character as a terminal can show it: `?` for a control character and for what is no ASCII.
+fn shown(c: u8) -> u8 {
+    if c < 32 {
+        return 63;
+    }
+    if c > 126 { 63 } else { c }
+}
+
+fn put_shown(text: &[u8]) {
+    let mut i = 0;
+    while i < text.len() {
+        put_character(shown(text[i]));
+        i += 1;
+    }
+}
+
+fn put_character(c: u8) {
+    let one = [c];
+    write_all(STDERR_FILENO, &one);
+}
+
 // A line of standard error: the text at fault, if there is such a line.
 pub fn quote(text: &[u8], place: usize) {
     let start = line_start(text, place);
@@ -45,7 +66,7 @@ pub fn quote(text: &[u8], place: usize) {
     let n = line_length(rest);
     if n > 0 {
         write_all(STDERR_FILENO, b"  ");
-        write_all(STDERR_FILENO, &rest[..n]);
+        put_shown(&rest[..n]);
         write_all(STDERR_FILENO, b"\n");
     }
 }

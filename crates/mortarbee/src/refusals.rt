@@ -30,6 +30,15 @@ fn tell(text: &[u8]) {
     write_all(STDERR_FILENO, text);
 }
 
+// The line's number as an editor counts, from 1.
+fn tell_line(place: usize) {
+    if place < 65536 {
+        tell(b" (line ");
+        print_decimal(STDERR_FILENO, place as u64 + 1);
+        tell(b")");
+    }
+}
+
 // For a person, on standard error: the number, the place, the sentence and the line's text.
 pub fn tell_person(r: Refusal, text: &[u8]) {
     let f = fault_of(r);
@@ -37,6 +46,7 @@ pub fn tell_person(r: Refusal, text: &[u8]) {
     print_decimal(STDERR_FILENO, f.number as u64);
     tell(b", statement ");
     print_decimal(STDERR_FILENO, f.place as u64);
+    tell_line(f.place);
     tell(b": ");
     sentence(f.number);
     tell(b"\n");
