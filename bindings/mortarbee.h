@@ -1,5 +1,5 @@
 /* The entries of Mortarbee for C, as the archive of `rt staticlib entries` has them (x86-64 Linux, the C calling convention).
-   The toolchain writes no header: this one was written from its rules (below) and is held to the archive by fuzz/fuzz.c and by the tests of rust/. */
+   The toolchain writes no header: this one says its rules, and fuzz/fuzz.c and the tests of rust/ hold it to the archive. */
 #ifndef MORTARBEE_H
 #define MORTARBEE_H
 

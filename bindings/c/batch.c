@@ -14,12 +14,7 @@ static void answer(const uint8_t *listing, size_t n, int assemble) {
     if (assemble) {
         r = mortarbee_assemble(listing, n, image, sizeof image);
     } else {
-#ifdef ASSEMBLE_ONLY
-        fprintf(stderr, "batch: the archive has no mortarbee_optimize_jumps; use --assemble\n");
-        exit(2);
-#else
         r = mortarbee_optimize_jumps(listing, n, out, sizeof out, image, sizeof image);
-#endif
     }
     if (r.number != 0) {
         printf("7E%02X%04X\n", (unsigned)r.number, (unsigned)r.place);

@@ -48,7 +48,8 @@ static const char *const FORMS[70] = {
 };
 static const uint8_t JUMPY[] = {0x2A, 0x2B, 0x2B, 0x2B, 0x2C, 0x2E, 0x2F, 0x30, 0x31, 0x32, 0x33, 0x34, 0x35, 0x36,
                                 0x37, 0x38, 0x39, 0x3A, 0x3B, 0x3C, 0x3C, 0x3D, 0x42, 0x43, 0x43};
-static const int32_t EDGES[] = {0, 1, 2, 3, 7, 8, 127, 128, 255, 256, 0x10D, 511, 512, 0xFFF, 0x1000, 65535, 65536, -1, -128, 2147483647, -2147483647 - 1};
+static const int32_t EDGES[] = {0,   1,     2,      3,     7,     8,  127,  128,        255,            256, 0x10D,
+                                511, 0xFFF, 0x1000, 65535, 65536, -1, -128, 2147483647, -2147483647 - 1};
 
 static void put_number(struct text *t, uint32_t v) {
     put_byte(t, 0);

@@ -34,8 +34,8 @@ def mixed(n):
         here += 2
         k = name(rng.choice(labels))
         part = [quiet(rng)] if rng.random() < 0.7 else rng.choice([
-            lambda: [instr("Jmpf", k)], lambda: [instr("Callf", k)], lambda: inverted(rng, here, [here], [here]),
-            lambda: tramp(rng, here, here + 1, [here + 1], [here + 1])])()
+            lambda: [instr("Jmpf", k)], lambda: [instr("Callf", k)], lambda: inverted(rng, here, [here]),
+            lambda: tramp(rng, here, here + 1, [here + 1])])()
         result += part if len(result) + len(every) + len(part) <= n else nops(n - len(result) - len(every))
     for s in every:
         result.insert(rng.randint(0, len(result)), s)
@@ -44,12 +44,15 @@ def mixed(n):
 
 def all_shrink(n):
     """All jumps shrink"""
-    return [instr("Jmpf", name(0x8000)) for _ in range((n - 1) // 2)] + [label(0x8000)] + [instr("Jmpf", name(0x8000)) for _ in range(n - 1 - (n - 1) // 2)]
+    result = [instr("Jmpf", name(0x8000)) for _ in range(n - 1)]
+    result.insert(n // 2, label(0x8000))
+    return result
 
 
 def half_stuck(n):
     """Half the jumps cannot shrink, before half that can"""
-    return [instr("Jmpf", number(0xF000)) for _ in range(n // 2)] + [label(0x8000)] + [instr("Jmpf", name(0x8000)) for _ in range(n - n // 2 - 1)]
+    stuck = [instr("Jmpf", number(0xF000)) for _ in range(n // 2)]
+    return stuck + [label(0x8000)] + [instr("Jmpf", name(0x8000)) for _ in range(n - n // 2 - 1)]
 
 
 CASES = [nops, mixed, all_shrink, half_stuck]
@@ -118,7 +121,8 @@ def main():
     emulated = "" if platform.machine() == "x86_64" else " Ours is compiled for x86-64 and runs emulated here, beside a native Rust."
     print("%s, %s, %s, %d processors.%s" % ("`assemble` alone" if options.assemble else "`optimize_jumps`", version, platform.machine(),
                                           os.cpu_count(), emulated))
-    print("\n| Listing | Statements | Rewrites | Ours | The Rust | Ours / the Rust | Ours grows | The Rust grows |\n|---|---|---|---|---|---|---|---|")
+    print("\n| Listing | Statements | Rewrites | Ours | The Rust | Ours / the Rust | Ours grows | The Rust grows |")
+    print("|---|---|---|---|---|---|---|---|")
     for case in CASES:
         for cells in rows(case, programs, options.limit, counter(programs[0], options.limit)):
             print("| " + " | ".join(cells) + " |")

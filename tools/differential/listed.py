@@ -25,11 +25,16 @@ def check(comparison):
     """Runs them and says which do not show what they are there for."""
     texts = listings()
     numbers = [n for n in sorted(texts) if not comparison.assemble or n not in PATTERNS and n not in CANDIDATES]
-    failed = [n for n in RULES if n not in texts] + [n for n in texts if n not in RULES]
+    failed = sorted(set(RULES) ^ set(texts))
+    for number in failed:
+        print("DIFF-%d has no %s" % (number, "rule" if number in texts else "entry in docs/DIFFERENCES.md"))
+    shown = 0
     for number, (mine, theirs) in zip(numbers, comparison.answers([texts[n] for n in numbers])):
         found, odd = comparison.judge(texts[number], mine, theirs)
         if odd or found != {number}:
             failed.append(number)
             print("DIFF-%d shows %s%s" % (number, sorted(found), ", not explained against " + odd if odd else ""))
-    print("%d of the %d listings of docs/DIFFERENCES.md show their own difference" % (len(numbers) - len(failed), len(numbers)))
+        else:
+            shown += 1
+    print("%d of the %d listings of docs/DIFFERENCES.md show their own difference" % (shown, len(numbers)))
     return failed

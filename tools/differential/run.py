@@ -24,10 +24,10 @@ from rules import RULES
 class Comparison:
     def __init__(self, options):
         self.assemble, self.limit = options.assemble, options.limit
-        self.ours = Model(self.assemble) if options.model else OneByOne(options.program) if options.program is not None else ours(self.assemble)
+        self.ours = our_side(options)
         self.rusts = rusts(build_oracle(options.sources), self.assemble)
         self.families, self.kinds, self.rules, self.odd = Counter(), Counter(), Counter(), []
-        self.equal, self.form_only, self.not_parted, self.rust_runs = 0, 0, 0, 0
+        self.equal, self.form_only, self.rust_runs = 0, 0, 0
 
     def answers(self, texts):
         """For each text ours, and each of the Rust's or None where the Rust cannot be asked."""
@@ -84,6 +84,12 @@ class Comparison:
         return self.judge(text, mine, theirs)[1] is not None
 
 
+def our_side(options):
+    if options.model:
+        return Model(options.assemble)
+    return ours(options.assemble) if options.program is None else OneByOne(options.program)
+
+
 def beyond_limits(text):
     try:
         read_listing(text)
@@ -120,8 +126,9 @@ def summary(c, seconds, options):
     total = sum(c.families.values())
     print("\n%d listings in %d s, %s, seed %s%s" % (total, seconds, "assembled alone" if c.assemble else "rewritten", options.seed,
                                                     ", the model in our place" if options.model else ""))
-    print("the Rust was run %d times; %d listings alike in every build, %d about the text alone (1 and 2: the Rust is not asked), %d with listed "
-          "differences, %d not explained" % (c.rust_runs, c.equal, c.form_only, total - c.equal - c.form_only - len(c.odd), len(c.odd)))
+    listed_ones = total - c.equal - c.form_only - len(c.odd)
+    print("the Rust was run %d times; %d listings alike in every build, %d about the text alone (the Rust is not asked), "
+          "%d with listed differences, %d not explained" % (c.rust_runs, c.equal, c.form_only, listed_ones, len(c.odd)))
     print("our answers: " + ", ".join("%s %d" % (kind, n) for kind, n in sorted(c.kinds.items(), key=lambda x: (len(x[0]), x[0]))))
     print("families: " + ", ".join("%s %d" % item for item in sorted(c.families.items())))
     print("\n| Rule | Listings | |\n|---|---|---|")

@@ -50,7 +50,6 @@ struct Reply {
 // that the archive asks.
 extern "C" {
     fn mortarbee_assemble(listing: *const u8, listing_len: usize, image: *mut u8, image_len: usize) -> Reply;
-    #[cfg(optimize_jumps)]
     fn mortarbee_optimize_jumps(
         listing: *const u8,
         listing_len: usize,
@@ -74,7 +73,6 @@ pub fn assemble(listing: &[u8], image: &mut [u8]) -> Result<Done, Refusal> {
 }
 
 /// Rewrites a listing until nothing can be folded or shrunk, and writes the new listing and its image.
-#[cfg(optimize_jumps)]
 pub fn optimize_jumps(listing: &[u8], out: &mut [u8], image: &mut [u8]) -> Result<Done, Refusal> {
     answer(unsafe {
         mortarbee_optimize_jumps(

@@ -40,8 +40,8 @@ fn xorshift(state: &mut u64) -> u64 {
 }
 
 const LINES: [&str; 12] = [
-    "0143", "012B018000", "012C018001", "012E018002", "028000", "028001", "028002", "04", "06020000000001018000", "0701018001", "013C0000000004",
-    "050020",
+    "0143", "012B018000", "012C018001", "012E018002", "028000", "028001", "028002", "04", "06020000000001018000", "0701018001",
+    "013C0000000004", "050020",
 ];
 
 /// A text of any bytes, of digits and line feeds, or of sound lines.
@@ -112,7 +112,6 @@ fn any_bytes_for_assemble() {
     assert!(accepted > 100, "only {accepted} texts were accepted");
 }
 
-#[cfg(optimize_jumps)]
 mod rewriting {
     use super::*;
     use mortarbee::{optimize_jumps, Done, LISTING_ROOM};

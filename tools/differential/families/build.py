@@ -8,6 +8,11 @@ OPERATORS = ["plus", "minus", "times", "divide", "xor", "and", "or"]
 QUIET = [f.name for f in FORMS if not f.is_transfer]
 
 
+def one_of(rng, *makers):
+    """What one of the makers makes."""
+    return rng.choice(makers)()
+
+
 def number(v):
     return ("number", v)
 
@@ -60,7 +65,8 @@ def operand(rng, kind):
     v = rng.choice([0, 1, high, rng.randint(0, high)])
     if rng.random() < 0.15:
         w = rng.randint(-50, 50)
-        return rng.choice([("plus", number(v - w), number(w)), ("minus", number(v + w), number(w)), ("xor", number(v ^ 5), number(5))])
+        sums = [("plus", number(v - w), number(w)), ("minus", number(v + w), number(w)), ("xor", number(v ^ 5), number(5))]
+        return rng.choice(sums)
     return number(v)
 
 

@@ -1,6 +1,7 @@
 """Families about positions: orgs and gaps, the reach of a relative branch, pages of 4,096 bytes, the end at 65,536."""
-from .build import address, branch, comment, data, filler, instr, jump, label, name, number, org, size_of, text_of, with_target
-from .code import TRANSFERS
+from .build import (address, branch, comment, data, filler, instr, jump, label, name, number, one_of, org, retargeted, size_of, text_of,
+                    with_target)
+from .code import TRANSFERS, shuffled
 
 
 def orgs(rng):
@@ -9,9 +10,15 @@ def orgs(rng):
     for _ in range(rng.randint(1, 5)):
         at = max(0, at + rng.choice([0, 0, 1, 2, 10, 50, 200, rng.choice([-1, -5, 5])]))
         result.append(org(min(at, 65535)))
-        result += filler(rng, rng.choice([0, 1, 5])) + rng.choice([[], [jump(rng, name(0x8000), ["Jmpf", "Jmp"])], [instr("Callf", address(rng, result))]])
+        result += filler(rng, rng.choice([0, 1, 5]))
+        result += one_of(rng, list, lambda: [jump(rng, name(0x8000), ["Jmpf", "Jmp"])], lambda: [instr("Callf", address(rng, result))])
         at = size_of(result)
     return text_of(result + rng.choice([[], [], [org(min(65535, at + rng.randint(0, 9)))], [label(0x8001)]]))
+
+
+def edge(rng, to):
+    """A transfer of short reach, or one that may become so."""
+    return one_of(rng, lambda: branch(rng, to), lambda: jump(rng, to), lambda: instr("Br", to), lambda: instr("Jmpf", to))
 
 
 def reach(rng):
@@ -21,47 +28,45 @@ def reach(rng):
     gap = filler(rng, max(0, distance - 3 * len(middle)))
     for s in middle:
         gap.insert(rng.randint(0, len(gap)), s)
-    edge = [rng.choice([lambda t: branch(rng, t), lambda t: jump(rng, t), lambda t: instr("Br", t), lambda t: instr("Jmpf", t)])]
-    ahead, behind = edge[0](name(0x8001)), rng.choice([lambda t: branch(rng, t), lambda t: instr("Jmpf", t), lambda t: instr("Br", t)])(name(0x8000))
-    result = rng.choice([[label(0x8000), ahead] + gap + [label(0x8001)], [label(0x8000), label(0x8001)] + gap + [behind],
-                         [ahead, label(0x8000)] + gap + [label(0x8001), behind]])
-    if not any(s.kind == "label" and s.name == 0x8000 for s in result):
-        result.insert(0, label(0x8000))
-    if rng.random() < 0.2:
-        result = [s.with_form(s.form, address(rng, result)) if s.kind == "instr" and s.form.is_transfer and rng.random() < 0.5 else s for s in result]
-    return text_of(result)
+    ahead, back = edge(rng, name(0x8001)), edge(rng, name(0x8000))
+    result = rng.choice([[label(0x8000), ahead] + gap + [label(0x8001)], [label(0x8000), label(0x8001)] + gap + [back],
+                         [ahead, label(0x8000)] + gap + [label(0x8001), back]])
+    return text_of(retargeted(rng, result, 0.5) if rng.random() < 0.2 else result)
 
 
 def pages(rng):
     """Jumps and calls about an edge of 4,096 bytes: one that shrinks may push another over it."""
-    edge = 0x1000 * rng.randint(1, 15)
+    page = 0x1000 * rng.randint(1, 15)
     labels = [0x8000, 0x8001, 0x8002]
     parts = [[label(k)] for k in labels]
     for _ in range(rng.randint(2, 7)):
-        to = rng.choice([name(rng.choice(labels)), name(rng.choice(labels)), number(edge + rng.randint(-20, 20))])
+        to = rng.choice([name(rng.choice(labels)), name(rng.choice(labels)), number(page + rng.randint(-20, 20))])
         parts.append([instr(rng.choice(["Jmp", "Call", "Jmpf", "Callf", "Jmpf", "Br"]), to)])
     parts += [filler(rng, rng.randint(1, 4)) for _ in range(rng.randint(0, 3))]
     if rng.random() < 0.4:
         parts.append(filler(rng, 130))
-    rng.shuffle(parts)
-    body = [s for part in parts for s in part]
-    return text_of([org(edge - rng.randint(0, 24))] + body)
+    return text_of([org(page - rng.randint(0, 24))] + shuffled(rng, parts))
+
+
+def routine(rng, here, there):
+    forms = ["Jmpf", "Callf", "Jmp", "Call", "Brf", "Callr"]
+    return [label(here)] + [instr(rng.choice(forms), name(rng.choice([here, there, here]))) for _ in range(rng.randint(1, 4))]
 
 
 def far_pages(rng):
     """Two places in different pages, with jumps both ways."""
     first, second = sorted(rng.sample(range(16), 2))
-    def routine(here, there):
-        return [label(here)] + [instr(rng.choice(["Jmpf", "Callf", "Jmp", "Call", "Brf", "Callr"]), name(rng.choice([here, there, here])))
-                                for _ in range(rng.randint(1, 4))]
-    return text_of([org(first * 0x1000 + rng.choice([0, 1, 0xFF0]))] + routine(1, 2) + [org(second * 0x1000 + rng.choice([0x10, 0x20, 0xFF2]))]
-                   + routine(2, 1) + filler(rng, rng.randint(0, 3)))
+    return text_of([org(first * 0x1000 + rng.choice([0, 1, 0xFF0]))] + routine(rng, 1, 2)
+                   + [org(second * 0x1000 + rng.choice([0x10, 0x20, 0xFF2]))] + routine(rng, 2, 1) + filler(rng, rng.randint(0, 3)))
 
 
 def ends(rng):
     """About position 65,536."""
-    body = [label(0x8000)] + [with_target(rng, rng.choice(TRANSFERS), rng.choice([name(0x8000), name(0x8001), number(rng.choice([0, 0x345, 0xFFF, 0xFFFF, 65536]))]))
-                              for _ in range(rng.randint(1, 4))] + rng.choice([[], [data("words", number(1))], [instr("Nop")], [comment()]])
+    body = [label(0x8000)]
+    for _ in range(rng.randint(1, 4)):
+        to = rng.choice([name(0x8000), name(0x8001), number(rng.choice([0, 0x345, 0xFFF, 0xFFFF, 65536]))])
+        body.append(with_target(rng, rng.choice(TRANSFERS), to))
+    body += rng.choice([[], [data("words", number(1))], [instr("Nop")], [comment()]])
     at = 65536 - size_of(body) + rng.choice([0, 0, 0, 0, 1, 2, -1, -3])
     tail = rng.choice([[], [], [org(65535)], [instr("Nop")], [label(1)]])
     return text_of([label(0x8001)] + filler(rng, rng.choice([0, 2])) + [org(min(65535, at))] + body + tail)

@@ -1,7 +1,7 @@
 """Families about the text itself: damage of all kinds, and the limits."""
 from model.reading import put
 from . import code, names, places, values
-from .build import comment, data, instr, label, name, number, org, quiet, text_of, tree, variable
+from .build import comment, data, instr, label, name, number, one_of, org, quiet, text_of, tree, variable
 
 SOUND = code.FAMILIES + names.FAMILIES + places.FAMILIES + values.FAMILIES
 
@@ -29,8 +29,9 @@ def swap_byte(rng, text):
     """Another pair of good digits."""
     lines = text.split(b"\n")
     at = rng.randrange(len(lines))
-    if len(lines[at]) >= 2:
-        pair = 2 * rng.randrange(len(lines[at]) // 2) if rng.random() < 0.5 else rng.choice([0, 2 if len(lines[at]) > 2 else 0])
+    pairs = len(lines[at]) // 2
+    if pairs:
+        pair = 2 * rng.randrange(pairs if rng.random() < 0.5 else min(2, pairs))
         byte = rng.choice([0, 1, 2, 3, 4, 5, 6, 7, 8, 16, 17, 32, 0x45, 0x46, 0x80, 0xFF, rng.randrange(256)])
         lines[at] = lines[at][:pair] + b"%02X" % byte + lines[at][pair + 2:]
     return b"\n".join(lines)
@@ -58,16 +59,19 @@ def deep(rng, size):
     return inner
 
 
+def long_frame(rng):
+    """An expression about 32 bytes, or a frame about 120."""
+    some = lambda: deep(rng, rng.randint(31, 33))
+    return one_of(
+        rng, lambda: data("bytes", some()), lambda: variable(5, some()), lambda: instr("Bp", some(), number(1), some()),
+        lambda: comment(bytes(rng.randint(116, 121))), lambda: data("words", *[number(i) for i in range(16)]),
+        lambda: data("bytes", *[deep(rng, rng.randint(5, 9)) for _ in range(16)]),
+        lambda: data("words", deep(rng, 32), deep(rng, 32), deep(rng, 32), deep(rng, rng.randint(18, 23))))
+
+
 def long_frames(rng):
-    """Expressions about 32 bytes, frames about 120 bytes."""
-    result = []
-    for _ in range(rng.randint(1, 3)):
-        result.append(rng.choice([
-            lambda: data("bytes", deep(rng, rng.randint(31, 33))), lambda: variable(5, deep(rng, rng.randint(31, 33))),
-            lambda: instr("Bp", deep(rng, rng.randint(31, 33)), number(1), deep(rng, rng.randint(31, 33))), lambda: comment(bytes(rng.randint(116, 121))),
-            lambda: data("words", *[number(i) for i in range(16)]), lambda: data("bytes", *[deep(rng, rng.randint(5, 9)) for _ in range(16)]),
-            lambda: data("words", deep(rng, 32), deep(rng, 32), deep(rng, 32), deep(rng, rng.randint(18, 23)))])())
-    text = text_of(result)
+    """Expressions about 32 bytes, frames about 120 bytes, whole and cut."""
+    text = text_of([long_frame(rng) for _ in range(rng.randint(1, 3))])
     return cut(rng, text) + b"\n" if rng.random() < 0.15 else text
 
 
@@ -76,7 +80,8 @@ def many_statements(rng):
     count = rng.choice([1000, 1023, 1024, 1025, 1026])
     result = [rng.choice([instr("Nop"), instr("Nop"), quiet(rng), comment(b"z")]) for _ in range(count)]
     for _ in range(rng.randint(0, 3)):
-        result[rng.randrange(count)] = rng.choice([instr("Jmpf", number(rng.randint(0, 900))), label(0x8000 + rng.randrange(9999)), instr("Callf", number(3))])
+        other = [instr("Jmpf", number(rng.randint(0, 900))), label(0x8000 + rng.randrange(9999)), instr("Callf", number(3))]
+        result[rng.randrange(count)] = rng.choice(other)
     text = text_of(result)
     return text[:-1] if rng.random() < 0.1 else text
 
@@ -98,9 +103,9 @@ def large(rng):
     while len(result) < length:
         here += 2
         k = name(rng.choice(labels))
-        result += [quiet(rng)] if rng.random() < 0.9 else rng.choice([
-            lambda: [instr("Jmpf", k)], lambda: [instr("Callf", k)], lambda: code.inverted(rng, here, [here], [here]),
-            lambda: code.tramp(rng, here, here + 1, [here + 1], [here + 1]), lambda: [instr("Jmpf", number(rng.randint(0, 2 * length)))]])()
+        result += [quiet(rng)] if rng.random() < 0.9 else one_of(
+            rng, lambda: [instr("Jmpf", k)], lambda: [instr("Callf", k)], lambda: code.inverted(rng, here, [here]),
+            lambda: code.tramp(rng, here, here + 1, [here + 1]), lambda: [instr("Jmpf", number(rng.randint(0, 2 * length)))])
     for k in labels:
         result.insert(rng.randint(0, len(result)), label(k))
     return text_of([org(rng.choice([0, 0, 0xF80, 0xF000]))] + result)

@@ -91,7 +91,8 @@ class Rewriter:
 
     def references(self, place, name):
         contexts = self.judged.contexts
-        return sum(count_name(a, name) for i, s in enumerate(self.slots) if s is not None and contexts[i] == contexts[place] for a in s.args)
+        same = [s for i, s in enumerate(self.slots) if s is not None and contexts[i] == contexts[place]]
+        return sum(count_name(a, name) for s in same for a in s.args)
 
     def trampoline(self, at):
         places = self.following(at, 4)
@@ -100,9 +101,10 @@ class Rewriter:
         skip, to, last, end = places
         if not is_form(self.slots[skip], UNCONDITIONAL) or not is_form(self.slots[last], UNCONDITIONAL):
             return None
-        if None in (self.local(to), self.local(end)) or bare(self.target(at)) != self.local(to) or bare(self.target(skip)) != self.local(end):
+        true, false = self.local(to), self.local(end)
+        if None in (true, false) or bare(self.target(at)) != true or bare(self.target(skip)) != false:
             return None
-        if self.references(to, self.local(to)) != 1:
+        if self.references(to, true) != 1:
             return None
         return self.target(last), [skip, to, last]
 
