@@ -2,7 +2,7 @@
 use mathlib.Core.Path.{_≡_, refl, sym, subst, ap, _∙_}
 use mathlib.Core.List.{List}
 use mathlib.Core.Option.{Option, none, some}
-use mathlib.Core.Bool.{Bool, true, false}
+use mathlib.Core.Bool.{Bool, true, false, _&&_}
 use Prim.Native.Nat.{ℕ, _<_}
 use native.Mathlib.Omega.{arith}
 use lib.Dec.{ltb}
@@ -10,7 +10,7 @@ use lib.ListN.{getD, set}
 use lib.Seq.{set-set, set-comm, set-getD}
 use Rattle.laws.specs.Options.{isSome, getOr}
 use Rattle.laws.proofs.Options.{given-true, given-false}
-use Rattle.laws.proofs.Tests.{false-true, first-false, and-left}
+use Rattle.laws.proofs.Tests.{false-true, second-false}
 use Rattle.rules.specs.Programs.{Program, gone, instr, argsOf, at, byteCount}
 use Rattle.rules.specs.Names.{enter}
 use Rattle.rules.specs.Judging.{assembles}
@@ -41,15 +41,19 @@ candidate-not : (q : Program) (b : Bool) → b ≡ acceptable q → b ≡ false 
 unfolding candidate
 candidate-not q b e h = given-false (acceptable q) (some q) (sym e ∙ h)
 
--- "A candidate counts only if every inner label's offset is below its owner's size and the whole assembles": the first fails, or both are known
-module _ (p : Program) (fit : Bool) (f : fit ≡ everyInnerLabel (λ owner o. ltb o (byteCount (at p owner))) p) where
-  pub counts-not : fit ≡ false → false ≡ acceptable p
-  unfolding acceptable
-  counts-not h = sym (first-false (everyInnerLabel (λ owner o. ltb o (byteCount (at p owner))) p) (assembles p) (sym f ∙ h))
+and-right : (a b : Bool) → b ≡ true → a && b ≡ a
+and-right true b e = e
+and-right false b e = refl
 
-  pub counts-if : (b : Bool) → fit ≡ true → b ≡ assembles p → b ≡ acceptable p
+-- "A candidate counts only if every inner label's offset is below its owner's size and the whole assembles": the second fails, or both are known
+module _ (p : Program) (whole : Bool) (w : whole ≡ assembles p) where
+  pub counts-not : whole ≡ false → false ≡ acceptable p
   unfolding acceptable
-  counts-if b h e = e ∙ sym (and-left (everyInnerLabel (λ owner o. ltb o (byteCount (at p owner))) p) (assembles p) (sym f ∙ h))
+  counts-not h = sym (second-false (everyInnerLabel (λ owner o. ltb o (byteCount (at p owner))) p) (assembles p) (sym w ∙ h))
+
+  pub counts-if : (b : Bool) → whole ≡ true → b ≡ everyInnerLabel (λ owner o. ltb o (byteCount (at p owner))) p → b ≡ acceptable p
+  unfolding acceptable
+  counts-if b h e = e ∙ sym (and-right (everyInnerLabel (λ owner o. ltb o (byteCount (at p owner))) p) (assembles p) (sym w ∙ h))
 
 -- an attempt at what x comes to is one at x
 pub tried-as : (x y : Option Program) (contexts : List ℕ) (t u : Slots) (r : Bool) → x ≡ y → Tried y contexts t u r → Tried x contexts t u r

@@ -3,3 +3,4 @@ pub mod Quiet
 pub mod Edits
 pub mod Attempts
 pub mod Found
+pub mod Depths

@@ -1,4 +1,5 @@
 -- What holds of a program under rewriting.
 pub mod Standing
+pub mod Deepest
 pub mod Shrinks
 pub mod Folds

@@ -8,7 +8,7 @@ ghost use Rattle.rules.specs.Rewriting.{acceptable as Acceptable};
 ghost use Rattle.slots.specs.Slots.{slots, programOf};
 ghost use Rattle.attempts.specs.Standing.{Standing};
 
-// Whether the program counts as a candidate. `hint` is the place that a rewrite changed: the test looks there first.
+// Whether the program counts as a candidate. `hint` is the place that a rewrite changed: the test looks there first, where most candidates fail.
 pub fn acceptable(
     frames: &[u8],
     starts: &[u16; 1025],
@@ -23,10 +23,7 @@ pub fn acceptable(
     requires { ⌜ Standing (slots (now frames) (now starts) count (now forms) (now carry) (now owners) (now offsets)) (now contexts) × (hint .0 < count) ⌝ }
     ensures { λ r. ⌜ r ≡ Acceptable (programOf (slots (now (frames .entry)) (now (starts .entry)) count (now (forms .entry)) (now (carry .entry)) (now (owners .entry)) (now (offsets .entry)))) ⌝ }
 {
-    if !offsets_fit(frames, starts, count, forms, carry, owners, offsets) {
-        return false;
-    }
-    assembles(
+    if assembles(
         frames,
         starts,
         count,
@@ -36,5 +33,8 @@ pub fn acceptable(
         offsets,
         contexts,
         hint,
-    )
+    ) {
+        return offsets_fit(frames, starts, count, forms, carry, owners, offsets);
+    }
+    false
 }

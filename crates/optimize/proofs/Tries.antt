@@ -12,6 +12,7 @@ use Rattle.rules.specs.Rewriting.{anywhere}
 use Rattle.slots.specs.Slots.{Slots, slots, programOf}
 use Rattle.env.proofs.Programs.{length-program}
 use Rattle.attempts.specs.Standing.{Standing, Tried}
+use Rattle.attempts.specs.Deepest.{Deepest}
 
 -- the tables are the same where what rewriting changes is the same
 pub same-slots : (frames starts : List ℕ) (n : ℕ) (owners offsets : List ℕ) {f g c d : List ℕ} → f ≡ g → c ≡ d
@@ -85,3 +86,7 @@ anywhere-is f t = sym (ap (λ (n : ℕ). firstFrom f n 0) (length-program t))
 -- the same tables stand
 pub still-stands : {contexts : List ℕ} {t₀ t : Slots} → t ≡ t₀ → Standing t₀ contexts → Standing t contexts
 still-stands {contexts} same s = subst (λ (z : Slots). Standing z contexts) (sym same) s
+
+-- and their inner labels reach as deep
+pub still-deep : {deepest : List ℕ} {t₀ t : Slots} → t ≡ t₀ → Deepest t₀ deepest → Deepest t deepest
+still-deep {deepest} same d = subst (λ (z : Slots). Deepest z deepest) (sym same) d

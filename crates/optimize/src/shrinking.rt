@@ -1,6 +1,7 @@
 // Shrinks: "first place first: Jmpf not a change jump tries Br, then Jmp; Callf tries Call."
 use anchors::is_change_jump;
 use asm::name_and_lay;
+use attempts::fill_deepest;
 use attempts::try_form;
 use env::Checked;
 use instruction::tables::BR;
@@ -21,6 +22,7 @@ ghost use Rattle.rules.specs.Rewriting.{shrinkAt, anywhere};
 ghost use Rattle.slots.specs.Slots.{slots, slotAt, kindOf, programOf};
 ghost use Rattle.image.specs.Tables.{tables, Ready};
 ghost use Rattle.attempts.specs.Standing.{Standing, Tried};
+ghost use Rattle.attempts.specs.Deepest.{Deepest};
 ghost use Rattle.attempts.specs.Shrinks.{shrunk};
 
 // "tries Br, then Jmp"
@@ -33,9 +35,10 @@ fn try_br_then_jmp(
     owners: &[u16; 1024],
     offsets: &[u16; 1024],
     contexts: &[u16; 1024],
+    deepest: &[u32; 1024],
     at: Place,
 ) -> bool
-    requires { ⌜ Standing (slots (now frames) (now starts) count (now forms) (now carry) (now owners) (now offsets)) (now contexts) × (at .0 < count) × (kindOf (slotAt (slots (now frames) (now starts) count (now forms) (now carry) (now owners) (now offsets)) (at .0)) ≡ 1) × (getD (now forms) (at .0) 0 ≡ jmpf) ⌝ }
+    requires { ⌜ Standing (slots (now frames) (now starts) count (now forms) (now carry) (now owners) (now offsets)) (now contexts) × Deepest (slots (now frames) (now starts) count (now forms) (now carry) (now owners) (now offsets)) (now deepest) × (at .0 < count) × (kindOf (slotAt (slots (now frames) (now starts) count (now forms) (now carry) (now owners) (now offsets)) (at .0)) ≡ 1) × (getD (now forms) (at .0) 0 ≡ jmpf) ⌝ }
     ensures { λ r. ⌜ Tried (orElse (shrunk (slots (now (frames .entry)) (now (starts .entry)) count (now (forms .entry)) (now (carry .entry)) (now (owners .entry)) (now (offsets .entry))) (at .0) br) (shrunk (slots (now (frames .entry)) (now (starts .entry)) count (now (forms .entry)) (now (carry .entry)) (now (owners .entry)) (now (offsets .entry))) (at .0) jmp)) (now (contexts .entry)) (slots (now (frames .entry)) (now (starts .entry)) count (now (forms .entry)) (now (carry .entry)) (now (owners .entry)) (now (offsets .entry))) (slots (now (frames .entry)) (now (starts .entry)) count (now (forms .exit)) (now (carry .entry)) (now (owners .entry)) (now (offsets .entry))) r ⌝ }
 {
     if try_form(
@@ -47,6 +50,7 @@ fn try_br_then_jmp(
         owners,
         offsets,
         contexts,
+        deepest,
         BR,
         at,
     ) {
@@ -61,6 +65,7 @@ fn try_br_then_jmp(
         owners,
         offsets,
         contexts,
+        deepest,
         JMP,
         at,
     )
@@ -79,9 +84,10 @@ fn shrink_jump(
     contexts: &[u16; 1024],
     values: &[i32; 1024],
     positions: &[u32; 1025],
+    deepest: &[u32; 1024],
     at: Place,
 ) -> bool
-    requires { ⌜ Standing (slots (now frames) (now starts) count (now forms) (now carry) (now owners) (now offsets)) (now contexts) × Ready (tables (now frames) (now starts) count (now forms) (now carry) (now owners) (now offsets) (now names) (now contexts) (now values) (now positions)) × ((tables (now frames) (now starts) count (now forms) (now carry) (now owners) (now offsets) (now names) (now contexts) (now values) (now positions)) .entries ≡ namesOf (programOf (slots (now frames) (now starts) count (now forms) (now carry) (now owners) (now offsets)))) × (at .0 < count) × (kindOf (slotAt (slots (now frames) (now starts) count (now forms) (now carry) (now owners) (now offsets)) (at .0)) ≡ 1) × (getD (now forms) (at .0) 0 ≡ jmpf) ⌝ }
+    requires { ⌜ Standing (slots (now frames) (now starts) count (now forms) (now carry) (now owners) (now offsets)) (now contexts) × Deepest (slots (now frames) (now starts) count (now forms) (now carry) (now owners) (now offsets)) (now deepest) × Ready (tables (now frames) (now starts) count (now forms) (now carry) (now owners) (now offsets) (now names) (now contexts) (now values) (now positions)) × ((tables (now frames) (now starts) count (now forms) (now carry) (now owners) (now offsets) (now names) (now contexts) (now values) (now positions)) .entries ≡ namesOf (programOf (slots (now frames) (now starts) count (now forms) (now carry) (now owners) (now offsets)))) × (at .0 < count) × (kindOf (slotAt (slots (now frames) (now starts) count (now forms) (now carry) (now owners) (now offsets)) (at .0)) ≡ 1) × (getD (now forms) (at .0) 0 ≡ jmpf) ⌝ }
     ensures { λ r. ⌜ Tried (shrinkAt (namesOf (programOf (slots (now (frames .entry)) (now (starts .entry)) count (now (forms .entry)) (now (carry .entry)) (now (owners .entry)) (now (offsets .entry))))) (programOf (slots (now (frames .entry)) (now (starts .entry)) count (now (forms .entry)) (now (carry .entry)) (now (owners .entry)) (now (offsets .entry)))) (at .0)) (now (contexts .entry)) (slots (now (frames .entry)) (now (starts .entry)) count (now (forms .entry)) (now (carry .entry)) (now (owners .entry)) (now (offsets .entry))) (slots (now (frames .entry)) (now (starts .entry)) count (now (forms .exit)) (now (carry .entry)) (now (owners .entry)) (now (offsets .entry))) r ⌝ }
 {
     if is_change_jump(
@@ -109,6 +115,7 @@ fn shrink_jump(
         owners,
         offsets,
         contexts,
+        deepest,
         at,
     )
 }
@@ -126,9 +133,10 @@ fn shrink_at(
     contexts: &[u16; 1024],
     values: &[i32; 1024],
     positions: &[u32; 1025],
+    deepest: &[u32; 1024],
     at: Place,
 ) -> bool
-    requires { ⌜ Standing (slots (now frames) (now starts) count (now forms) (now carry) (now owners) (now offsets)) (now contexts) × Ready (tables (now frames) (now starts) count (now forms) (now carry) (now owners) (now offsets) (now names) (now contexts) (now values) (now positions)) × ((tables (now frames) (now starts) count (now forms) (now carry) (now owners) (now offsets) (now names) (now contexts) (now values) (now positions)) .entries ≡ namesOf (programOf (slots (now frames) (now starts) count (now forms) (now carry) (now owners) (now offsets)))) × (at .0 < count) ⌝ }
+    requires { ⌜ Standing (slots (now frames) (now starts) count (now forms) (now carry) (now owners) (now offsets)) (now contexts) × Deepest (slots (now frames) (now starts) count (now forms) (now carry) (now owners) (now offsets)) (now deepest) × Ready (tables (now frames) (now starts) count (now forms) (now carry) (now owners) (now offsets) (now names) (now contexts) (now values) (now positions)) × ((tables (now frames) (now starts) count (now forms) (now carry) (now owners) (now offsets) (now names) (now contexts) (now values) (now positions)) .entries ≡ namesOf (programOf (slots (now frames) (now starts) count (now forms) (now carry) (now owners) (now offsets)))) × (at .0 < count) ⌝ }
     ensures { λ r. ⌜ Tried (shrinkAt (namesOf (programOf (slots (now (frames .entry)) (now (starts .entry)) count (now (forms .entry)) (now (carry .entry)) (now (owners .entry)) (now (offsets .entry))))) (programOf (slots (now (frames .entry)) (now (starts .entry)) count (now (forms .entry)) (now (carry .entry)) (now (owners .entry)) (now (offsets .entry)))) (at .0)) (now (contexts .entry)) (slots (now (frames .entry)) (now (starts .entry)) count (now (forms .entry)) (now (carry .entry)) (now (owners .entry)) (now (offsets .entry))) (slots (now (frames .entry)) (now (starts .entry)) count (now (forms .exit)) (now (carry .entry)) (now (owners .entry)) (now (offsets .entry))) r ⌝ }
 {
     if kind_at(frames, starts, count, forms, at) != 1 {
@@ -149,6 +157,7 @@ fn shrink_at(
             contexts,
             values,
             positions,
+            deepest,
             at,
         );
     }
@@ -162,6 +171,7 @@ fn shrink_at(
             owners,
             offsets,
             contexts,
+            deepest,
             CALL,
             at,
         );
@@ -182,8 +192,9 @@ fn shrink_first(
     contexts: &[u16; 1024],
     values: &[i32; 1024],
     positions: &[u32; 1025],
+    deepest: &[u32; 1024],
 ) -> bool
-    requires { ⌜ Standing (slots (now frames) (now starts) count (now forms) (now carry) (now owners) (now offsets)) (now contexts) × Ready (tables (now frames) (now starts) count (now forms) (now carry) (now owners) (now offsets) (now names) (now contexts) (now values) (now positions)) × ((tables (now frames) (now starts) count (now forms) (now carry) (now owners) (now offsets) (now names) (now contexts) (now values) (now positions)) .entries ≡ namesOf (programOf (slots (now frames) (now starts) count (now forms) (now carry) (now owners) (now offsets)))) ⌝ }
+    requires { ⌜ Standing (slots (now frames) (now starts) count (now forms) (now carry) (now owners) (now offsets)) (now contexts) × Deepest (slots (now frames) (now starts) count (now forms) (now carry) (now owners) (now offsets)) (now deepest) × Ready (tables (now frames) (now starts) count (now forms) (now carry) (now owners) (now offsets) (now names) (now contexts) (now values) (now positions)) × ((tables (now frames) (now starts) count (now forms) (now carry) (now owners) (now offsets) (now names) (now contexts) (now values) (now positions)) .entries ≡ namesOf (programOf (slots (now frames) (now starts) count (now forms) (now carry) (now owners) (now offsets)))) ⌝ }
     ensures { λ r. ⌜ Tried (anywhere (shrinkAt (namesOf (programOf (slots (now (frames .entry)) (now (starts .entry)) count (now (forms .entry)) (now (carry .entry)) (now (owners .entry)) (now (offsets .entry))))) (programOf (slots (now (frames .entry)) (now (starts .entry)) count (now (forms .entry)) (now (carry .entry)) (now (owners .entry)) (now (offsets .entry))))) (programOf (slots (now (frames .entry)) (now (starts .entry)) count (now (forms .entry)) (now (carry .entry)) (now (owners .entry)) (now (offsets .entry))))) (now (contexts .entry)) (slots (now (frames .entry)) (now (starts .entry)) count (now (forms .entry)) (now (carry .entry)) (now (owners .entry)) (now (offsets .entry))) (slots (now (frames .entry)) (now (starts .entry)) count (now (forms .exit)) (now (carry .entry)) (now (owners .entry)) (now (offsets .entry))) r ⌝ }
 {
     let mut i = 0;
@@ -200,6 +211,7 @@ fn shrink_first(
             contexts,
             values,
             positions,
+            deepest,
             Place(i),
         ) {
             return true;
@@ -209,7 +221,7 @@ fn shrink_first(
     false
 }
 
-// The names of a program that assembles are found once: no shrink counts until one is done.
+// The names of a program that assembles are found once, and how deep its inner labels reach: no shrink counts until one is done.
 pub fn shrink(
     frames: &[u8],
     starts: &[u16; 1025],
@@ -226,6 +238,17 @@ pub fn shrink(
     let mut names = [65536u32; 1024];
     let mut positions = [0u32; 1025];
     let mut values = [0i32; 1024];
+    let mut deepest = [0u32; 1024];
+    fill_deepest(
+        frames,
+        starts,
+        count,
+        forms,
+        carry,
+        owners,
+        offsets,
+        &mut deepest,
+    );
     match name_and_lay(
         frames,
         starts,
@@ -249,6 +272,7 @@ pub fn shrink(
             contexts,
             &values,
             &positions,
+            &deepest,
         ),
     }
 }

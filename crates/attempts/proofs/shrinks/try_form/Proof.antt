@@ -1,12 +1,13 @@
 -- `attempts::shrinks::try_form` meets its contract: an inner label in the way, or the candidate that counts, or the old form put back.
-use Prim.Native.Nat.{ℕ}
-use mathlib.Core.Path.{_≡_, refl, sym, _∙_}
+use Prim.Native.Nat.{ℕ, _≤_, _<_}
+use native.Mathlib.Omega.{arith}
+use lib.Dec.{ltb}
+use mathlib.Core.Path.{_≡_, refl, _∙_}
 use mathlib.Core.List.{List}
 use mathlib.Core.Option.{none}
-use mathlib.Core.Bool.{true, false}
 use lib.ListN.{getD, set}
 use borrow.Author.Needs.{needs}
-use borrow.Author.Tests.{not-true, not-false}
+use borrow.Author.Tests.{lt-ltb, le-ltb}
 use Rattle.laws.proofs.Options.{given-true, given-false}
 use Rattle.laws.proofs.Stores.{set-back}
 use Rattle.rules.specs.Programs.{instr, argsOf, Program}
@@ -14,6 +15,7 @@ use Rattle.rules.specs.Rewriting.{candidate, noInteriorLabelAt}
 use Rattle.slots.specs.Slots.{Slots, slots, slotAt, programOf}
 use Rattle.attempts.specs.Shrinks.{shrunk}
 use Rattle.attempts.proofs.Attempts.{Holding, formed-holds, tried-as, tried-not, tried-kept, tried-none, tried-back}
+use Rattle.attempts.proofs.Depths.{deepest-says}
 use Rattle.attempts.proofs.shrinks.try_form.Statement.{statement}
 use Rattle.attempts.proofs.shrinks.try_form.Tie as tie
 
@@ -35,25 +37,32 @@ module _ (s : tie.Start) where
   formed = set (programOf old) i (instr (s .args .form) (argsOf (slotAt old i)) (getD (s .args .carry .now) i 0))
 
   held : Holding new (s .args .contexts .now) formed
-  held = formed-holds _ _ _ _ _ _ _ _ (s .pre .0) (s .args .form) i (s .pre .1) (s .pre .2) (s .pre .3)
+  held = formed-holds _ _ _ _ _ _ _ _ (s .pre .0) (s .args .form) i (s .pre .2) (s .pre .3) (s .pre .4)
 
-  blocked : noInteriorLabelAt (programOf old) i ≡ false → shrunk old i (s .args .form) ≡ none
+  abbrev deep : ℕ
+  deep = getD (s .args .deepest .now) i 0
+
+  says : noInteriorLabelAt (programOf old) i ≡ ltb deep 2
+  says = deepest-says old (s .args .deepest .now) (s .pre .0 .sound) (s .pre .1) i (s .pre .2)
+
+  blocked : 1 < deep → shrunk old i (s .args .form) ≡ none
   unfolding shrunk
-  blocked e = given-false (noInteriorLabelAt (programOf old) i) (candidate formed) e
+  blocked l = given-false (noInteriorLabelAt (programOf old) i) (candidate formed) (says ∙ le-ltb deep 2 (omega arith))
 
-  free : noInteriorLabelAt (programOf old) i ≡ true → shrunk old i (s .args .form) ≡ candidate formed
+  free : deep ≤ 1 → shrunk old i (s .args .form) ≡ candidate formed
   unfolding shrunk
-  free e = given-true (noInteriorLabelAt (programOf old) i) (candidate formed) e
+  free l = given-true (noInteriorLabelAt (programOf old) i) (candidate formed) (says ∙ lt-ltb deep 2 (omega arith))
 
-no-interior-label-at-requires : tie.Need-no-interior-label-at-requires
-no-interior-label-at-requires c κs = c .before .before .pre .0 .sound
+mul-if1 : tie.Need-mul-if1
+mul-if1 c = search needs
+
+element-copy-out-if1 : tie.Need-element-copy-out-if1
+element-copy-out-if1 c = search needs
 
 returns : tie.Need-returns
 returns c =
-    let n = c .before in
-    let s = n .before .before .before in
-    tried-not (shrunk (old s) (i s) (s .args .form)) (s .args .contexts .now) (old s) (s .pre .0)
-    (blocked s (sym (n .no-interior-label-at .ensures) ∙ not-true _ (c .if1 .taken)))
+    let s = c .before .before .before in
+    tried-not (shrunk (old s) (i s) (s .args .form)) (s .args .contexts .now) (old s) (s .pre .0) (blocked s (c .if1 .taken))
 
 element-copy-out-old : tie.Need-element-copy-out-old
 element-copy-out-old c = search needs
@@ -62,16 +71,14 @@ element-write-forms : tie.Need-element-write-forms
 element-write-forms c = search needs
 
 acceptable-requires : tie.Need-acceptable-requires
-acceptable-requires c κs = let s = c .before .before .before .before .before .before in (held s .stands, s .pre .1)
+acceptable-requires c κs = let s = c .before .before .before .before .before in (held s .stands, s .pre .2)
 
 returns-2 : tie.Need-returns-2
 returns-2 c =
     let a = c .before in
     let f = a .before .before .before in
-    let n = f .before in
-    let s = n .before .before .before in
-    tried-as (shrunk (old s) (i s) (s .args .form)) (candidate (formed s)) (s .args .contexts .now) (old s) (new s) _
-    (free s (sym (n .no-interior-label-at .ensures) ∙ not-false _ (f .if1 .left)))
+    let s = f .before .before .before in
+    tried-as (shrunk (old s) (i s) (s .args .form)) (candidate (formed s)) (s .args .contexts .now) (old s) (new s) _ (free s (f .if1 .left))
     (tried-kept (formed s) (s .args .contexts .now) (old s) (new s) (held s) (a .acceptable .result) (a .acceptable .ensures) (c .if2 .taken))
 
 element-write-forms-2 : tie.Need-element-write-forms-2
@@ -81,11 +88,9 @@ returns-3 : tie.Need-returns-3
 returns-3 c =
     let a = c .before in
     let f = a .before .before .before in
-    let n = f .before in
-    let s = n .before .before .before in
+    let s = f .before .before .before in
     tried-back _ _ _ _ _ _ _ (s .args .contexts .now) (s .pre .0) (shrunk (old s) (i s) (s .args .form)) _ (s .args .carry .now)
-    (free s (sym (n .no-interior-label-at .ensures) ∙ not-false _ (f .if1 .left))
-    ∙ tried-none (formed s) (s .args .contexts .now) (old s) (new s) (held s) (a .acceptable .result) (a .acceptable .ensures) (c .if2 .left))
+    (free s (f .if1 .left) ∙ tried-none (formed s) (s .args .contexts .now) (old s) (new s) (held s) (a .acceptable .result) (a .acceptable .ensures) (c .if2 .left))
     (set-back (s .args .forms .now) (i s) (s .args .form) (getD (s .args .forms .now) (i s) 0) 0 refl)
     refl
 
@@ -93,7 +98,8 @@ pub try-form-spec : {M : Type 1} → statement M
 try-form-spec =
     tie.close
     (tie.spec
-    no-interior-label-at-requires
+    mul-if1
+    element-copy-out-if1
     returns
     element-copy-out-old
     element-write-forms

@@ -34,7 +34,7 @@ returns c =
     let k = c .before in
     let s = k .before .before .before in
     tried-none (shrinkAt (its s) (programOf (here s)) (s .args .at .0))
-    (shrink-other (its s) (here s) (s .args .at .0) (s .pre .3) (λ e. c .if1 .taken (kind k ∙ e))) (s .pre .0)
+    (shrink-other (its s) (here s) (s .args .at .0) (s .pre .4) (λ e. c .if1 .taken (kind k ∙ e))) (s .pre .0)
 
 element-copy-out-form : tie.Need-element-copy-out-form
 element-copy-out-form c = search needs
@@ -44,7 +44,7 @@ shrink-jump-requires c κs =
     let i = c .before in
     let o = i .before .before in
     let s = o .before .before .before .before in
-    (s .pre .0, s .pre .1, s .pre .2, s .pre .3, instruction o, i .if2 .taken)
+    (s .pre .0, s .pre .1, s .pre .2, s .pre .3, s .pre .4, instruction o, i .if2 .taken)
 
 returns-2 : tie.Need-returns-2
 returns-2 c = c .shrink-jump .ensures
@@ -54,7 +54,7 @@ try-form-requires c κs =
     let i = c .before in
     let o = i .before .before .before in
     let s = o .before .before .before .before in
-    (s .pre .0, s .pre .3, instruction o, call-for _ (i .if3 .taken))
+    (s .pre .0, s .pre .1, s .pre .4, instruction o, call-for _ (i .if3 .taken))
 
 returns-3 : tie.Need-returns-3
 returns-3 c =
@@ -62,7 +62,7 @@ returns-3 c =
     let o = i .before .before .before in
     let s = o .before .before .before .before in
     tried-as _ (shrinkAt (its s) (programOf (here s)) (s .args .at .0))
-    (shrink-call (its s) (here s) (s .args .at .0) (s .pre .3) (instruction o) (i .if3 .taken)) (c .try-form .ensures)
+    (shrink-call (its s) (here s) (s .args .at .0) (s .pre .4) (instruction o) (i .if3 .taken)) (c .try-form .ensures)
 
 returns-4 : tie.Need-returns-4
 returns-4 c =
@@ -70,7 +70,7 @@ returns-4 c =
     let o = j .before .before in
     let s = o .before .before .before .before in
     tried-none (shrinkAt (its s) (programOf (here s)) (s .args .at .0))
-    (shrink-none (its s) (here s) (s .args .at .0) (s .pre .3) (instruction o) (j .if2 .left) (c .if3 .left)) (s .pre .0)
+    (shrink-none (its s) (here s) (s .args .at .0) (s .pre .4) (instruction o) (j .if2 .left) (c .if3 .left)) (s .pre .0)
 
 pub shrink-at-spec : {M : Type 1} → statement M
 shrink-at-spec =

@@ -12,7 +12,7 @@ use Rattle.rules.specs.Judging.{namesOf}
 use Rattle.rules.specs.Rewriting.{shrinkAt, anywhere}
 use Rattle.slots.specs.Slots.{Slots, slots, programOf}
 use Rattle.image.specs.Tables.{Tables, Ready}
-use Rattle.optimize.proofs.Tries.{same-slots, tried-as, found, missed, ended, anywhere-is, still-stands}
+use Rattle.optimize.proofs.Tries.{same-slots, tried-as, found, missed, ended, anywhere-is, still-stands, still-deep}
 use Rattle.optimize.proofs.shrinking.shrink_first.Statement.{statement}
 use Rattle.optimize.proofs.shrinking.shrink_first.Tie as tie
 
@@ -21,13 +21,13 @@ abbrev tries : Slots → (i : Placeℕ) → Option Program
 tries t i = shrinkAt (namesOf (programOf t)) (programOf t) i
 
 abbrev Inv-loop : tie.InvT-loop
-Inv-loop frames starts count forms₀ carry owners offsets names contexts values positions i₀ forms i =
+Inv-loop frames starts count forms₀ carry owners offsets names contexts values positions deepest i₀ forms i =
     (i ≤ count)
     × (slots frames starts count forms carry owners offsets ≡ slots frames starts count forms₀ carry owners offsets)
     × (firstFrom (tries (slots frames starts count forms₀ carry owners offsets)) count 0 ≡ firstFrom (tries (slots frames starts count forms₀ carry owners offsets)) (count - i) i)
 
 abbrev μ-loop : tie.MeasureT-loop
-μ-loop frames starts count forms₀ carry owners offsets names contexts values positions i₀ forms i = count - i
+μ-loop frames starts count forms₀ carry owners offsets names contexts values positions deepest i₀ forms i = count - i
 
 abbrev here : (c : tie.Start Inv-loop μ-loop) → Slots
 here c =
@@ -50,7 +50,8 @@ shrink-at-requires : tie.Need-shrink-at-requires Inv-loop μ-loop
 shrink-at-requires c κs =
     let l = c .before .before in
     let s = l .before .before in
-    (still-stands (l .loop .inv .1) (s .pre .0), still-ready (l .loop .inv .1) (s .pre .1), still-named (l .loop .inv .1) (s .pre .2), c .before .loop-test .taken)
+    let same = l .loop .inv .1 in
+    (still-stands same (s .pre .0), still-deep same (s .pre .1), still-ready same (s .pre .2), still-named same (s .pre .3), c .before .loop-test .taken)
 
 returns : tie.Need-returns Inv-loop μ-loop
 returns c =

@@ -4,7 +4,7 @@ use lib.ListN.{getD}
 use Rattle.rules.specs.Forms.{br, jmp}
 use Rattle.slots.specs.Slots.{Slots, slots, slotAt, kindOf}
 use Rattle.attempts.specs.Shrinks.{shrunk}
-use Rattle.optimize.proofs.Tries.{same-slots, tried-first, tried-second, tried-missed}
+use Rattle.optimize.proofs.Tries.{same-slots, tried-first, tried-second, tried-missed, still-deep}
 use Rattle.optimize.proofs.Shorter.{br-for, jmp-for}
 use Rattle.optimize.proofs.shrinking.try_br_then_jmp.Statement.{statement}
 use Rattle.optimize.proofs.shrinking.try_br_then_jmp.Tie as tie
@@ -16,7 +16,7 @@ here c =
 try-form-requires : tie.Need-try-form-requires
 try-form-requires c κs =
     let s = c .before .before in
-    (s .pre .0, s .pre .1, s .pre .2, br-for _ (s .pre .3))
+    (s .pre .0, s .pre .1, s .pre .2, s .pre .3, br-for _ (s .pre .4))
 
 returns : tie.Need-returns
 returns c =
@@ -28,11 +28,13 @@ try-form-requires-2 c κs =
     let b = c .before .before in
     let s = b .before .before .before in
     let e = b .try-form .ensures in
-    let kept = e .forms-kept (c .before .if1 .left) in (
+    let kept = e .forms-kept (c .before .if1 .left) in
+    let same = same-slots _ _ _ _ _ kept (e .carry-kept (c .before .if1 .left)) in (
       e .stands,
-      s .pre .1,
-      ap (λ (t : Slots). kindOf (slotAt t (s .args .at .0))) (same-slots _ _ _ _ _ kept (e .carry-kept (c .before .if1 .left))) ∙ s .pre .2,
-      jmp-for _ (ap (λ f. getD f (s .args .at .0) 0) kept ∙ s .pre .3),
+      still-deep same (s .pre .1),
+      s .pre .2,
+      ap (λ (t : Slots). kindOf (slotAt t (s .args .at .0))) same ∙ s .pre .3,
+      jmp-for _ (ap (λ f. getD f (s .args .at .0) 0) kept ∙ s .pre .4),
     )
 
 returns-2 : tie.Need-returns-2

@@ -1,0 +1,70 @@
+// How deep the inner labels reach into each slot: asked once for a program, where a scan would be asked at each place.
+use patterns::InnerLabel;
+use patterns::labels::inner_label_at;
+use rules::Place;
+ghost use mathlib.Core.Path.{_≡_};
+ghost use Prim.Native.Nat.{ℕ, max};
+ghost use lib.ListN.{length, getD, replicate};
+ghost use Rattle.slots.specs.Slots.{slots, Sound};
+ghost use Rattle.patterns.specs.Labels.{OwnerIn};
+ghost use Rattle.attempts.specs.Deepest.{depthOf, wantedOf, Deepest};
+
+// One more than an offset.
+fn depth(offset: usize) -> u32
+    ensures { λ r. ⌜ r ≡ depthOf offset ⌝ }
+{
+    if offset < 65535 {
+        (offset + 1) as u32
+    } else {
+        65536
+    }
+}
+
+// What a label wants of its owner's slot, if that is more than what is wanted there.
+fn store_deeper(deepest: &mut [u32; 1024], label: InnerLabel)
+    requires { ⌜ (length (now deepest) ≡ 1024) × OwnerIn 1024 label ⌝ }
+    ensures room { λ _. ⌜ length (now (deepest .exit)) ≡ 1024 ⌝ }
+    ensures stored { λ _. ⌜ ((i : ℕ) → getD (now (deepest .exit)) i 0 ≡ max (getD (now (deepest .entry)) i 0) (wantedOf i label)) ⌝ }
+{
+    match label {
+        InnerLabel::Of(owner, offset) => {
+            let i = owner.0;
+            let wanted = depth(offset);
+            if deepest[i] < wanted {
+                deepest[i] = wanted;
+            }
+        }
+        InnerLabel::Nothing => {}
+    }
+}
+
+// Fills for each slot one more than the largest offset that an inner label wants there.
+pub fn fill_deepest(
+    frames: &[u8],
+    starts: &[u16; 1025],
+    count: usize,
+    forms: &[u8; 1024],
+    carry: &[u16; 1024],
+    owners: &[u16; 1024],
+    offsets: &[u16; 1024],
+    deepest: &mut [u32; 1024],
+)
+    requires { ⌜ Sound (slots (now frames) (now starts) count (now forms) (now carry) (now owners) (now offsets)) × (now deepest ≡ replicate 1024 0) ⌝ }
+    ensures { λ _. ⌜ Deepest (slots (now (frames .entry)) (now (starts .entry)) count (now (forms .entry)) (now (carry .entry)) (now (owners .entry)) (now (offsets .entry))) (now (deepest .exit)) ⌝ }
+{
+    let mut j = 0;
+    while j < count {
+        let label = inner_label_at(
+            frames,
+            starts,
+            count,
+            forms,
+            carry,
+            owners,
+            offsets,
+            Place(j),
+        );
+        store_deeper(deepest, label);
+        j += 1;
+    }
+}
