@@ -1,4 +1,4 @@
-// How deep the inner labels reach into each slot: asked once for a program, where a scan would be asked at each place.
+// How deep the inner labels reach into each slot: found once for a program, where each tried shrink would ask for a scan of all slots.
 use patterns::InnerLabel;
 use patterns::labels::inner_label_at;
 use rules::Place;

@@ -4,7 +4,6 @@ use mathlib.Core.List.{List}
 use Prim.Native.Nat.{ℕ, _-_, _≤_, max}
 use native.Mathlib.Omega.{arith}
 use lib.ListN.{length, getD, length-replicate}
-use borrow.Author.Needs.{needs}
 use Rattle.slots.specs.Slots.{Slots, slots}
 use Rattle.attempts.specs.Deepest.{wantedOf, deepestTo}
 use Rattle.attempts.proofs.Depths.{none-yet, one-more, owner-within}

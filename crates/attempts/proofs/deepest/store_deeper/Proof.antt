@@ -1,8 +1,8 @@
 -- `attempts::deepest::store_deeper` meets its contract: the owner's slot has the larger of what it had and what the label wants, any other what it had.
-use mathlib.Core.Path.{_≡_, _∙_}
-use Prim.Native.Nat.{ℕ, _<_}
+use mathlib.Core.Path.{_∙_}
+use Prim.Native.Nat.{_<_}
 use native.Mathlib.Omega.{arith}
-use lib.ListN.{length, length-set}
+use lib.ListN.{length-set}
 use borrow.Author.Needs.{needs}
 use Rattle.attempts.proofs.Depths.{stored, not-stored, no-label}
 use Rattle.attempts.proofs.deepest.store_deeper.Statement.{statement}
