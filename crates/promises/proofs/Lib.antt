@@ -1,5 +1,5 @@
 -- The promises and what they rest on, each file named after what it says. The promises: Accepted, OneResult, RefusedOnce, FirstFault, Shorter, RunEnds,
--- Acceptable, ImageOfOutput, TargetKept, Demand3, OutputRoom, ReadsBack, Entry.
+-- Acceptable, ImageOfOutput, TargetKept, Demand3, OutputRoom, DecidedEarly, ReadsBack, Entry.
 pub mod General
 pub mod Says
 -- ---- what reading says
@@ -43,6 +43,7 @@ pub mod Demand3
 pub mod FrameRoom
 pub mod ImageRoom
 pub mod OutputRoom
+pub mod DecidedEarly
 -- ---- the output read back
 pub mod SoundEnd
 pub mod FramesBack

@@ -1,14 +1,15 @@
--- Document 01, "The listing" and refusal 12: the room that the output needs.
+-- Document 01, "The listing" and refusal 12: the room that the output needs, and the room that the input does.
 use mathlib.Core.Path.{_≡_}
 use mathlib.Core.List.{List}
 use Prim.Native.Nat.{ℕ, _≤_}
-use lib.ListN.{length}
+use lib.ListN.{length, take}
 use Rattle.laws.specs.Lists.{total}
 use Rattle.rules.specs.declared.Refusal.the-variants.{Room}
-use Rattle.rules.specs.Answers.{no}
+use Rattle.rules.specs.Answers.{ok, no}
 use Rattle.rules.specs.Programs.{Stmt, Program}
+use Rattle.rules.specs.Listing.{readListing}
 use Rattle.rules.specs.Output.{frameOf}
-use Rattle.rules.specs.Run.{outputOf, run, listingRoomOfProgram, imageRoomOfProgram}
+use Rattle.rules.specs.Run.{outputOf, run, assembled, listingRoomOfProgram, imageRoomOfProgram, program}
 use Rattle.promises.specs.Demand2.{outputProgram}
 
 -- the bytes of a statement's frame
@@ -27,3 +28,21 @@ pub record OutputRoom (text : List ℕ) (p : Program) : Type 0 where
 -- so the program itself never gives 12
 abbrev pub NeverRoom : List ℕ → Type 0
 NeverRoom text = (n : ℕ) → run text listingRoomOfProgram imageRoomOfProgram ≡ no (Room n) → ⊥
+
+-- ---- "The program reads a listing on standard input"
+
+-- at most so many bytes of it
+abbrev pub inputRoomOfProgram : ℕ
+inputRoomOfProgram = 65536
+
+abbrev pub readIn : List ℕ → List ℕ
+readIn text = take inputRoomOfProgram text
+
+-- "At most 1,024 statements, 120 bytes a frame, .. 24,576 frame bytes in all", line by line. A text that keeps this is short; and however long a text
+-- is, what is read in of it gives the same statements or the same refusal as the whole, so that it assembles, runs and prints as the whole does
+pub record DecidedEarly (text : List ℕ) : Type 0 where
+  pub short : (p : Program) → readListing text ≡ ok p → length text ≤ listingRoomOfProgram
+  pub reads : readListing (readIn text) ≡ readListing text
+  pub assembles : (imageRoom : ℕ) → assembled (readIn text) imageRoom ≡ assembled text imageRoom
+  pub runs : (listingRoom imageRoom : ℕ) → run (readIn text) listingRoom imageRoom ≡ run text listingRoom imageRoom
+  pub prints : program (readIn text) ≡ program text
