@@ -32,7 +32,8 @@ pub fn put_answer(text: &[u8], with_rooms: bool) {
     write_all(STDOUT_FILENO, b"==\n");
 }
 
-fn put_page(page: &[u8; 50189], n: usize) {
+// The front of the page: all that the program prints for a listing.
+pub fn put_page(page: &[u8; 50189], n: usize) {
     let page: &[u8] = page;
     let n = part(n, page);
     write_all(STDOUT_FILENO, &page[..n]);

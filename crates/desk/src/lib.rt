@@ -4,6 +4,7 @@ mod blocks; // where a block ends
 mod rooms; // what the words of the program share
 
 use answers::put_answer;
+pub use answers::put_page;
 use blocks::behind;
 use blocks::block_end;
 use io::read_full;

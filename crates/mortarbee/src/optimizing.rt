@@ -1,10 +1,8 @@
 // The job of document 01: a listing in, the new one and a last line out, or the 7E line of a refusal.
 use crate::refusals;
-use desk::part;
+use desk::put_page;
 use io::read_full;
-use io::write_all;
 use libc::STDIN_FILENO;
-use libc::STDOUT_FILENO;
 use printing::page_length;
 use printing::print_run;
 use rules::Answer;
@@ -21,11 +19,4 @@ pub fn optimize() {
         Answer::Done(_) => {}
         Answer::Refused(r) => refusals::tell_person(r, &text[..n]),
     }
-}
-
-// The front of the page: all that the program prints.
-fn put_page(page: &[u8; 50189], n: usize) {
-    let page: &[u8] = page;
-    let n = part(n, page);
-    write_all(STDOUT_FILENO, &page[..n]);
 }
