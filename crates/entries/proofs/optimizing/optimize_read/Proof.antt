@@ -13,6 +13,7 @@ use Rattle.slots.specs.Slots.{noOwner}
 use Rattle.env.proofs.Filled.{get-filled}
 use Rattle.asm.specs.Starting.{formIn}
 use Rattle.asm.proofs.Started.{sound-start, program-as-read}
+use Rattle.anchors.proofs.Starts.{as-read-start}
 use Rattle.entries.proofs.Results.{delivers-program}
 use Rattle.entries.proofs.optimizing.optimize_read.Statement.{statement}
 use Rattle.entries.proofs.optimizing.optimize_read.Tie as tie
@@ -46,7 +47,7 @@ place-read-requires c κs =
     let carry = y .start-carry .ensures in (
       sound-start (s .args .frames .now) (s .args .starts .now) n (s .pre) _ _ _ _ (λ i l. get-filled (own f) n _ _ i 0 forms l) (λ i l. get-filled (λ k. k) n _ _ i 0 carry l)
           (λ d l. none n d (s .pre .few) l),
-      record { own = λ i l. get-filled (λ k. k) n _ _ i 0 carry l; free = λ d l. none n d (s .pre .few) l },
+      as-read-start _ _ n _ _ _ _ (s .pre .few) carry,
       full (own f) n _ (s .pre .few) forms,
       full (λ k. k) n _ (s .pre .few) carry,
     )
