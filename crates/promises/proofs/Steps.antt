@@ -2,18 +2,18 @@
 use mathlib.Core.Path.{_≡_, refl}
 use mathlib.Core.List.{List, [], _∷_}
 use mathlib.Core.Option.{Option, some}
-use mathlib.Core.Bool.{Bool, true, false, _&&_, cond}
+use mathlib.Core.Bool.{Bool, true, false, _&&_, _||_, not, cond}
 use Prim.Native.Nat.{ℕ, suc, _<_}
 use lib.Dec.{eqb, ltb}
 use lib.ListN.{length, set, getD}
-use borrow.Author.Tests.{eqb-true, ltb-true}
+use borrow.Author.Tests.{eqb-true, ltb-true, not-true}
 use Rattle.laws.specs.Options.{given, firstOf}
 use Rattle.laws.specs.Lists.{every}
 use Rattle.laws.proofs.Tests.{and-true}
 use Rattle.laws.proofs.Lists.{every-at}
 use Rattle.laws.proofs.Options.{bind-some, given-some, orElse-either, firstOf-some, firstFrom-some}
 use Rattle.rules.specs.Expressions.{name}
-use Rattle.rules.specs.Forms.{sizeAt, formAt, isTransfer, isUnconditional, jmp, jmpf, br, call, callf}
+use Rattle.rules.specs.Forms.{sizeAt, formAt, isTransfer, isUnconditional, jmp, jmpf, br, call, callf, Pair, pairs}
 use Rattle.rules.specs.Programs.{Placeℕ, value, instr, label, Program, at, Instruction, asInstr, lastOf}
 use Rattle.rules.specs.Names.{isLocal, contextAt, Entry}
 use Rattle.rules.specs.Judging.{namesOf}
@@ -23,6 +23,11 @@ use Rattle.promises.proofs.Sounds.{shapes}
 use Rattle.promises.proofs.Looks.{asInstr-some, branch-some, unconditional-some, localLabel-some, namesBare-true}
 
 -- ---- the records
+
+-- the other form of the pair that f is in; 0 where it is in none
+abbrev pub otherOf : List Pair → ℕ → ℕ
+otherOf [] f = 0
+otherOf (x ∷ xs) f = cond (eqb f (x .first)) (x .second) (cond (eqb f (x .second)) (x .first) (otherOf xs f))
 
 -- an inverted fold: the branch at i, the unconditional at j, the label at m
 pub record Inverted (p q : Program) : Type 0 where
@@ -39,6 +44,8 @@ pub record Inverted (p q : Program) : Type 0 where
   pub to-form : to < 70
   pub from-transfers : isTransfer from ≡ true
   pub to-transfers : isTransfer to ≡ true
+  pub conditional : isUnconditional from ≡ false
+  pub other : to ≡ otherOf pairs from
   pub j-is : j ≡ next p (suc i)
   pub m-is : m ≡ next p (suc j)
   pub branch-at : at p i ≡ instr from (b .args) (b .carried)
@@ -66,6 +73,7 @@ pub record Trampoline (p q : Program) : Type 0 where
   pub t : ℕ
   pub s : ℕ
   pub transfers : isTransfer f ≡ true
+  pub conditional : isUnconditional f ≡ false
   pub j-is : j ≡ next p (suc i)
   pub m-is : m ≡ next p (suc j)
   pub u-is : u ≡ next p (suc m)
@@ -98,6 +106,7 @@ pub record Shrunk (p q : Program) : Type 0 where
   pub new-form : f < 70
   pub far-transfers : isTransfer (x .form) ≡ true
   pub transfers : isTransfer f ≡ true
+  pub jump-or-call : (isUnconditional (x .form) && isUnconditional f) || eqb (x .form) callf ≡ true
   pub none-inside : noInteriorLabelAt p i ≡ true
   pub good : acceptable q ≡ true
   pub new : q ≡ set p i (instr f (x .args) (x .carried))
@@ -133,8 +142,8 @@ stands-for-true a b e =
     record { old = k .0; new = k .1; alike = sameTests-true (shapes b) (shapes a) (l .0); known = ltb-true b 70 (l .1) }
 
 abbrev fine : Pattern → Bool
-fine (inverted a b) = eqb (sizeAt b) (sizeAt a) && stands-for a b
-fine (trampoline f) = isTransfer f
+fine (inverted a b) = eqb (sizeAt b) (sizeAt a) && (stands-for a b && (not (isUnconditional a) && eqb b (otherOf pairs a)))
+fine (trampoline f) = isTransfer f && not (isUnconditional f)
 
 patterns-fine : every fine patterns ≡ true
 unfolding every isTransfer formAt
@@ -163,8 +172,10 @@ inverted-some from to ok p i q e =
     let c = candidate-some new q (g .1) in
     let us = unconditional-some (at p j) (u .0) (u .1) in
     let ls = localLabel-some (at p m) (l .0) (l .1) in
-    let k = and-true (eqb (sizeAt to) (sizeAt from)) (stands-for from to) ok in
-    let kk = stands-for-true from to (k .1) in
+    let k = and-true (eqb (sizeAt to) (sizeAt from)) (stands-for from to && (not (isUnconditional from) && eqb to (otherOf pairs from))) ok in
+    let l₂ = and-true (stands-for from to) (not (isUnconditional from) && eqb to (otherOf pairs from)) (k .1) in
+    let l₃ = and-true (not (isUnconditional from)) (eqb to (otherOf pairs from)) (l₂ .1) in
+    let kk = stands-for-true from to (l₂ .0) in
     record {
       from = from;
       to = to;
@@ -179,6 +190,8 @@ inverted-some from to ok p i q e =
       to-form = kk .known;
       from-transfers = kk .old;
       to-transfers = kk .new;
+      conditional = not-true (isUnconditional from) (l₃ .0);
+      other = eqb-true to (otherOf pairs from) (l₃ .1);
       j-is = refl;
       m-is = refl;
       branch-at = branch-some from (at p i) (b .0) (b .1);
@@ -193,7 +206,7 @@ inverted-some from to ok p i q e =
       new = c .1;
     }
 
-trampoline-some : (f : ℕ) → isTransfer f ≡ true → (p : Program) (i : Placeℕ) (q : Program) → trampolineAt f p i ≡ some q → Trampoline p q
+trampoline-some : (f : ℕ) → fine (trampoline f) ≡ true → (p : Program) (i : Placeℕ) (q : Program) → trampolineAt f p i ≡ some q → Trampoline p q
 unfolding trampolineAt
 trampoline-some f ok p i q e =
     let j : ℕ = next p (suc i) in
@@ -217,6 +230,7 @@ trampoline-some f ok p i q e =
     let t₂ = and-true skips once (t₁ .1) in
     let t₃ = and-true between inside (h .0) in
     let c = candidate-some new q (h .1) in
+    let k = and-true (isTransfer f) (not (isUnconditional f)) ok in
     let ys = unconditional-some (at p j) (y .0) (y .1) in
     let ts = localLabel-some (at p m) (t .0) (t .1) in
     let xs = unconditional-some (at p u) (x .0) (x .1) in
@@ -233,7 +247,8 @@ trampoline-some f ok p i q e =
       last = x .0;
       t = t .0;
       s = s .0;
-      transfers = ok;
+      transfers = k .0;
+      conditional = not-true (isUnconditional f) (k .1);
       j-is = refl;
       m-is = refl;
       u-is = refl;
@@ -264,7 +279,7 @@ patternAt-some (trampoline f) ok p i q e = bounce (trampoline-some f ok p i q e)
 
 -- a form tried for f: smaller, and it may stand for f
 abbrev tries : ℕ → ℕ → Bool
-tries f g = ltb (sizeAt g) (sizeAt f) && stands-for f g
+tries f g = ltb (sizeAt g) (sizeAt f) && (stands-for f g && ((isUnconditional f && isUnconditional g) || eqb f callf))
 
 tried : (names : List Entry) (p : Program) (i : Placeℕ) (f : ℕ) → every (tries f) (shorter names p i f) ≡ true
 unfolding shorter every isTransfer formAt
@@ -288,8 +303,9 @@ shrinkAt-some p i q e =
     let g = given-some (noInteriorLabelAt p i) (candidate new) q (o .holds) in
     let c = candidate-some new q (g .1) in
     let t = every-at (tries (x .form)) (shorter (namesOf p) p i (x .form)) (o .place) 0 (o .within) (tried (namesOf p) p i (x .form)) in
-    let k = and-true (ltb (sizeAt f) (sizeAt (x .form))) (stands-for (x .form) f) t in
-    let kk = stands-for-true (x .form) f (k .1) in
+    let k = and-true (ltb (sizeAt f) (sizeAt (x .form))) (stands-for (x .form) f && ((isUnconditional (x .form) && isUnconditional f) || eqb (x .form) callf)) t in
+    let l = and-true (stands-for (x .form) f) ((isUnconditional (x .form) && isUnconditional f) || eqb (x .form) callf) (k .1) in
+    let kk = stands-for-true (x .form) f (l .0) in
     record {
       f = f;
       i = i;
@@ -300,6 +316,7 @@ shrinkAt-some p i q e =
       new-form = kk .known;
       far-transfers = kk .old;
       transfers = kk .new;
+      jump-or-call = l .1;
       none-inside = g .0;
       good = c .0;
       new = c .1;
