@@ -9,11 +9,13 @@
 /* How the border is crossed:
    - A slice is two arguments, its first byte and its length. The pointer is never null, not even with length 0.
    - A room that is lent to be written overlaps neither the listing nor another room.
-   - An enum does not cross it, so an answer is this struct, which is returned by value (in memory, as five numbers are).
+   - An enum does not cross it, so an answer is this struct, which is returned by value (in memory, as seven numbers are).
    Nothing else is asked: any bytes may be handed over, and each call ends. */
 struct mortarbee_reply {
     uint64_t number;   /* 0: done; 1 to 12: the refusal of document 01, and no lent byte has changed */
     uint64_t place;    /* of the statement refused, from 0; for 12 the statement count; 0 when done */
+    uint64_t argument; /* for 8 to 11 the place of the argument or data item, from 0; else 0 */
+    int64_t amount;    /* for 8, 9 and 11 its value, for 10 the difference; else 0 */
     uint64_t listing;  /* bytes written to the listing room */
     uint64_t rewrites; /* how many rewrites were made */
     uint64_t image;    /* bytes written to the image room; what lies behind is unchanged */

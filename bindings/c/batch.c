@@ -17,7 +17,7 @@ static void answer(const uint8_t *listing, size_t n, int assemble) {
         r = mortarbee_optimize_jumps(listing, n, out, sizeof out, image, sizeof image);
     }
     if (r.number != 0) {
-        printf("7E%02X%04X\n", (unsigned)r.number, (unsigned)r.place);
+        printf("7E%02X%04X%02X%08X\n", (unsigned)r.number, (unsigned)r.place, (unsigned)r.argument, (unsigned)(uint32_t)r.amount);
     } else {
         fwrite(assemble ? listing : out, 1, assemble ? n : r.listing, stdout);
         printf("7F%04X%06X\nIMAGE ", (unsigned)r.rewrites, (unsigned)r.image);

@@ -112,10 +112,12 @@ static struct mortarbee_reply call(int rewrite, size_t out_n, size_t image_n, ui
     if (r.number != 0) {
         check(kept_from(&out_room, 0) && kept_from(&image_room, 0), "a byte changed on refusal");
         check(r.listing == 0 && r.rewrites == 0 && r.image == 0, "a refusal with sizes");
+        check((r.number >= 8 && r.number <= 11) || (r.argument == 0 && r.amount == 0), "a number at fault with another refusal");
+        check(r.argument < 16 && r.amount >= INT32_MIN && r.amount <= INT32_MAX, "an argument or a number at fault out of range");
     } else {
         check(r.listing <= out_room.n && r.image <= image_room.n, "a result larger than its room");
         check(kept_from(&out_room, r.listing) && kept_from(&image_room, r.image), "a byte changed behind the result");
-        check(r.place == 0, "a place without a refusal");
+        check(r.place == 0 && r.argument == 0 && r.amount == 0, "a place without a refusal");
     }
     return r;
 }
@@ -173,7 +175,8 @@ static void hand_over(void) {
     memcpy(listing_room.start, text->at, text->n);
     struct mortarbee_reply plain = try_entry(0);
     struct mortarbee_reply rewritten = try_entry(1);
-    check(plain.number == rewritten.number && plain.place == rewritten.place, "assembled and rewritten are not refused alike");
+    check(plain.number == rewritten.number && plain.place == rewritten.place && plain.argument == rewritten.argument && plain.amount == rewritten.amount,
+          "assembled and rewritten are not refused alike");
     check(plain.number != 0 || rewritten.image <= plain.image, "a rewritten image that is longer");
 }
 

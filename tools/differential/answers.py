@@ -8,30 +8,36 @@ NUMBERS = {
 
 class Answer:
     """kind: done (lines, rewrites, image and its length), refused (number, place), panic, late (no answer in time) or strange.
-    The image is None where only its length is known."""
+    The image is None where only its length is known. fault is the argument's place and the number at fault, None of the Rust's refusals."""
 
-    def __init__(self, kind, lines=b"", rewrites=0, image=b"", length=0, number=0, place=0, text=""):
+    def __init__(self, kind, lines=b"", rewrites=0, image=b"", length=0, number=0, place=0, text="", fault=(0, 0)):
         self.kind, self.lines, self.rewrites, self.image = kind, lines, rewrites, image
         self.length = length if image is None else len(image)
-        self.number, self.place, self.text = number, place, text
+        self.number, self.place, self.text, self.fault = number, place, text, fault
 
     def key(self):
         return (self.kind, self.lines, self.rewrites, self.length, self.number, self.place, self.text)
 
     def __eq__(self, other):
-        return self.key() == other.key() and (None in (self.image, other.image) or self.image == other.image)
+        alike = all(None in pair or pair[0] == pair[1] for pair in ((self.image, other.image), (self.fault, other.fault)))
+        return self.key() == other.key() and alike
+
+    def line(self):
+        """The 7E line; with no number at fault where none is known."""
+        told = "" if self.fault is None else "%02X%08X" % (self.fault[0], self.fault[1] & 0xFFFFFFFF)
+        return "7E%02X%04X%s\n" % (self.number, self.place, told)
 
     def show(self):
         if self.kind == "done":
             image = "not printed" if self.image is None else self.image.hex(" ").upper()
             return "%s7F%04X%06X\nimage %s\n" % (self.lines.decode(), self.rewrites, self.length, image)
         if self.kind == "refused":
-            return "7E%02X%04X\n" % (self.number, self.place)
+            return self.line()
         return "%s %s\n" % (self.kind, self.text)
 
 
-def refused(number, place):
-    return Answer("refused", number=number, place=place)
+def refused(number, place, fault=None):
+    return Answer("refused", number=number, place=place, fault=fault)
 
 
 def done(lines, rewrites, image):
@@ -49,8 +55,9 @@ def parse(block):
     if lines and lines[-1].startswith(b"7F") and len(lines[-1]) == 12:
         head = b"".join(line + b"\n" for line in lines[:-1])
         return Answer("done", lines=head, rewrites=int(lines[-1][2:6], 16), image=None, length=int(lines[-1][6:], 16))
-    if len(lines) == 1 and lines[0].startswith(b"7E") and len(lines[0]) == 8:
-        return refused(int(lines[0][2:4], 16), int(lines[0][4:], 16))
+    if len(lines) == 1 and lines[0].startswith(b"7E") and len(lines[0]) == 18:
+        amount = int.from_bytes(bytes.fromhex(lines[0][10:].decode()), "big", signed=True)
+        return refused(int(lines[0][2:4], 16), int(lines[0][4:8], 16), (int(lines[0][8:10], 16), amount))
     if lines == [b"PANIC"]:
         return Answer("panic")
     words = lines[0].decode(errors="replace").split() if len(lines) == 1 else []

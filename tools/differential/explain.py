@@ -21,7 +21,7 @@ def modelled(text, rules, build, assemble, asked=None):
         end = Rewriter(slots, ways).run()
         return done(end.text(), end.count, end.judged.image())
     except Refused as r:
-        return refused(r.number, r.place)
+        return refused(r.number, r.place, (r.argument, r.amount))
     except Panic:
         return Answer("panic")
     finally:

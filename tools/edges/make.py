@@ -45,11 +45,11 @@ def extras():
     long = "04" + 119 * "AB" + "\n"
     full = 204 * long + "04" + 95 * "AB" + "\n"
     yield "1,024 statements", 1024 * "0143\n", "7F0000000400"
-    yield "1,025 statements", 1025 * "0143\n", "7E020400"
+    yield "1,025 statements", 1025 * "0143\n", "7E0204000000000000"
     yield "a frame of 120 bytes", long, "7F0000000000"
-    yield "a frame of 121 bytes", long[:-1] + "AB\n", "7E020000"
+    yield "a frame of 121 bytes", long[:-1] + "AB\n", "7E0200000000000000"
     yield "24,576 frame bytes", full, "7F0000000000"
-    yield "24,578 frame bytes", full + "0143\n", "7E0200CD"
+    yield "24,578 frame bytes", full + "0143\n", "7E0200CD0000000000"
 
 
 def blocks():
@@ -61,6 +61,12 @@ def blocks():
         if fits_a_block(body):
             found.setdefault(body, []).append((called, kind, rest))
     return found
+
+
+def signed(rest):
+    """The number at fault of a row: `(pos n)`, or `(negsuc n)` for -n - 1."""
+    sign, n = re.search(r"\((pos|negsuc) (\w+)\)", rest).groups()
+    return int(n, 0) if sign == "pos" else -int(n, 0) - 1
 
 
 def expectation(kind, body, rest):
@@ -79,7 +85,8 @@ def expectation(kind, body, rest):
         start = int(words[0], 0)
         return lambda lines, image: image[start:].hex().upper() == strings[0]
     number, place = int(words[0], 0), int(words[1], 0)
-    return lambda lines, image: lines == [f"7E{number:02X}{place:04X}"]
+    argument, amount = (int(words[2], 0), signed(rest)) if kind == "faults" else (0, 0)
+    return lambda lines, image: lines == [f"7E{number:02X}{place:04X}{argument:02X}{amount & 0xFFFFFFFF:08X}"]
 
 
 def answers():

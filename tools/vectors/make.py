@@ -46,7 +46,7 @@ def candidates():
 def printed(answer):
     """As the program prints it in a batch."""
     if answer.kind == "refused":
-        return b"7E%02X%04X\n" % (answer.number, answer.place)
+        return answer.line().encode()
     zeros = len(answer.image) - len(answer.image.lstrip(b"\0"))
     digits = answer.image[zeros:].hex().upper()
     return answer.lines + b"7F%04X%06X\nIMAGE %x %s\n" % (answer.rewrites, answer.length, zeros, digits.encode())

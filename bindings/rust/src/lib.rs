@@ -25,12 +25,16 @@ pub struct Refusal {
     pub number: u8,
     /// The statement's place from 0; for 12 the statement count.
     pub place: usize,
+    /// For 8 to 11 the place of the argument or data item, from 0; else 0.
+    pub argument: usize,
+    /// For 8, 9 and 11 its value, for 10 the difference; else 0.
+    pub amount: i32,
 }
 
 impl fmt::Display for Refusal {
     /// The line that the program prints, its line feed apart.
     fn fmt(&self, f: &mut fmt::Formatter) -> fmt::Result {
-        write!(f, "7E{:02X}{:04X}", self.number, self.place)
+        write!(f, "7E{:02X}{:04X}{:02X}{:08X}", self.number, self.place, self.argument, self.amount)
     }
 }
 
@@ -41,6 +45,8 @@ impl std::error::Error for Refusal {}
 struct Reply {
     number: u64,
     place: u64,
+    argument: u64,
+    amount: i64,
     listing: u64,
     rewrites: u64,
     image: u64,
@@ -62,7 +68,12 @@ extern "C" {
 
 fn answer(reply: Reply) -> Result<Done, Refusal> {
     if reply.number != 0 {
-        return Err(Refusal { number: reply.number as u8, place: reply.place as usize });
+        return Err(Refusal {
+            number: reply.number as u8,
+            place: reply.place as usize,
+            argument: reply.argument as usize,
+            amount: reply.amount as i32,
+        });
     }
     Ok(Done { listing: reply.listing as usize, rewrites: reply.rewrites as usize, image: reply.image as usize })
 }

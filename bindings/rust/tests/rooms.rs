@@ -3,22 +3,25 @@ use mortarbee::{assemble, Refusal, IMAGE_ROOM};
 
 const WHOLE_RUN: &str = "012E018001\n012B010001\n028001\n0143\n020001\n012B0000000005\n";
 
-/// Listings, and what the image is or the refusal.
-const CASES: [(&str, Result<&[u8], (u8, usize)>); 14] = [
+/// Listings, and what the image is or the refusal: number, place, argument, number at fault.
+const CASES: [(&str, Result<&[u8], (u8, usize, usize, i32)>); 17] = [
     ("", Ok(&[])),
     (WHOLE_RUN, Ok(&[0x80, 0x03, 0x21, 0x00, 0x06, 0x00, 0x21, 0x00, 0x05])),
     ("050004\n0143\n", Ok(&[0, 0, 0, 0, 0])),
     ("07010000001234\n", Ok(&[0x34, 0x12])),
     ("0142000000010D0000000000\n", Ok(&[0xB8, 0x0D])),
     ("050100\n012D0000000100\n050110\n", Ok(BRF)),
-    ("012C0000000082\n", Err((10, 0))),
-    ("01\n", Err((1, 0))),
-    ("0143\n020001\n020001\n", Err((3, 2))),
-    ("012C010001\n", Err((4, 0))),
-    ("0143\n050000\n", Err((5, 1))),
-    ("05FFFF\n0143\n0143\n", Err((6, 2))),
-    ("0143\n010000FFFFFFFF\n", Err((8, 1))),
-    ("0143", Err((1, 0))),
+    ("012C0000000082\n", Err((10, 0, 0, 128))),
+    ("01\n", Err((1, 0, 0, 0))),
+    ("0143\n020001\n020001\n", Err((3, 2, 0, 0))),
+    ("012C010001\n", Err((4, 0, 0, 0))),
+    ("0143\n050000\n", Err((5, 1, 0, 0))),
+    ("05FFFF\n0143\n0143\n", Err((6, 2, 0, 0))),
+    ("0143\n010000FFFFFFFF\n", Err((8, 1, 0, -1))),
+    ("0143", Err((1, 0, 0, 0))),
+    ("01340100000000C8\n", Err((10, 0, 1, 198))),
+    ("012D0000010000\n", Err((9, 0, 0, 65_536))),
+    ("05FFFE\n012A000000F345\n", Err((11, 1, 0, 62_277))),
 ];
 
 /// 256 zeros, then Brf at 100 to 100.
@@ -29,6 +32,11 @@ const BRF: &[u8] = &{
     image[258] = 0xFF;
     image
 };
+
+/// A refusal about a whole statement, or about none: no argument, no number at fault.
+fn plain(number: u8, place: usize) -> Refusal {
+    Refusal { number, place, argument: 0, amount: 0 }
+}
 
 const FILL: u8 = 0xA5;
 
@@ -90,7 +98,7 @@ fn image_rooms(listing: &[u8]) -> Result<Vec<u8>, Refusal> {
     if n > 0 {
         let statements = listing.iter().filter(|b| **b == b'\n').count();
         let (short, room) = assembled(listing, n - 1);
-        assert_eq!(short, Err(Refusal { number: 12, place: statements }));
+        assert_eq!(short, Err(plain(12, statements)));
         assert!(room.iter().all(|b| *b == FILL), "a room that is too short was written to");
     }
     Ok(image[..n].to_vec())
@@ -100,7 +108,7 @@ fn image_rooms(listing: &[u8]) -> Result<Vec<u8>, Refusal> {
 fn images_and_their_rooms() {
     for (listing, wanted) in CASES {
         let got = image_rooms(listing.as_bytes());
-        let wanted = wanted.map(<[u8]>::to_vec).map_err(|(number, place)| Refusal { number, place });
+        let wanted = wanted.map(<[u8]>::to_vec).map_err(|(number, place, argument, amount)| Refusal { number, place, argument, amount });
         assert_eq!(got, wanted, "{listing}");
     }
 }
@@ -145,7 +153,7 @@ mod rewriting {
                     assert!(a[..n] == out[..n] && b[..m] == image[..m] && full(&a[n..]) && full(&b[m..]));
                 } else {
                     let place = listing.iter().filter(|b| **b == b'\n').count();
-                    assert_eq!(again, Err(Refusal { number: 12, place }));
+                    assert_eq!(again, Err(plain(12, place)));
                     assert!(full(&a) && full(&b), "a room was written to on refusal 12");
                 }
             }
@@ -166,7 +174,7 @@ mod rewriting {
     fn cases_and_their_rooms() {
         for (listing, wanted) in CASES {
             let got = both_rooms(listing.as_bytes());
-            assert_eq!(got.err().map(|r| (r.number, r.place)), wanted.err(), "{listing}");
+            assert_eq!(got.err().map(|r| (r.number, r.place, r.argument, r.amount)), wanted.err(), "{listing}");
         }
     }
 

@@ -116,9 +116,11 @@ fn put_lent(text: &[u8], page: &mut [u8], image: &mut [u8]) {
 fn put_fault(r: Refusal) {
     let f = fault_of(r);
     if f.place < 65536 {
-        let mut line = [0u8; 9];
-        refused_line(f.number, f.place, &mut line);
-        write_all(STDOUT_FILENO, &line);
+        if f.argument < 256 {
+            let mut line = [0u8; 19];
+            refused_line(f.number, f.place, f.argument, f.amount, &mut line);
+            write_all(STDOUT_FILENO, &line);
+        }
     }
 }
 

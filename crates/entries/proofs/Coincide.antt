@@ -3,11 +3,13 @@ use mathlib.Core.Path.{_≡_, sym, _∙_, ap}
 use mathlib.Core.List.{List}
 use Prim.Native.Nat.{ℕ}
 use lib.ListN.{length}
+use lib.IntN.{ℤ}
 use Rattle.rules.specs.declared.Answer.{Answer}
 use Rattle.rules.specs.declared.Refusal.{Refusal}
 use Rattle.rules.specs.Refusals.{faultOf}
 use Rattle.rules.specs.Run.{assembled}
 use Rattle.entries.specs.declared.faults.Fault.{Fault}
+use Rattle.entries.specs.Faults.{IsFault}
 use Rattle.entries.specs.Assembling.{Leaves}
 
 -- `assemble`: the answer, and every byte of the room
@@ -16,8 +18,12 @@ pub one-assembled : (text room : List ℕ) (r s : Answer) (x y : List ℕ) → L
 one-assembled text room r s x y a b = (a .answer ∙ sym (b .answer), a .room ∙ sym (b .room))
 
 -- `fault_of`
-pub one-fault : (r : Refusal) (f g : Fault) → (f .number ≡ faultOf r .number) × (f .place ≡ faultOf r .place) → (g .number ≡ faultOf r .number) × (g .place ≡ faultOf r .place) → f ≡ g
-one-fault r f g a b = ap (λ (n : ℕ). fault n (f .place)) (a .0 ∙ sym (b .0)) ∙ ap (fault (g .number)) (a .1 ∙ sym (b .1))
+pub one-fault : (r : Refusal) (f g : Fault) → IsFault f (faultOf r) → IsFault g (faultOf r) → f ≡ g
+one-fault r f g a b =
+    ap (λ (n : ℕ). fault n (f .place) (f .argument) (f .amount)) (a .number ∙ sym (b .number))
+    ∙ ap (λ (i : ℕ). fault (g .number) i (f .argument) (f .amount)) (a .place ∙ sym (b .place))
+    ∙ ap (λ (j : ℕ). fault (g .number) (g .place) j (f .amount)) (a .argument ∙ sym (b .argument))
+    ∙ ap (fault (g .number) (g .place) (g .argument)) (a .amount ∙ sym (b .amount))
   where
-    fault : ℕ → ℕ → Fault
-    fault number place = record { number = number; place = place }
+    fault : (number place argument : ℕ) → ℤ → Fault
+    fault number place argument amount = record { number = number; place = place; argument = argument; amount = amount }

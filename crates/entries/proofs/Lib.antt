@@ -1,3 +1,4 @@
+pub mod Told
 pub mod Rooms
 pub mod Phases
 -- ---- the main entry

@@ -1,4 +1,4 @@
--- Equal answers are said by the same five numbers.
+-- Equal answers are said by the same seven numbers.
 use mathlib.Core.Path.{_≡_, subst}
 use Rattle.rules.specs.declared.Answer.{Answer}
 use Rattle.entries.specs.declared.exported.Reply.{Reply}

@@ -1,6 +1,7 @@
--- What the functions for C answer: an answer as five numbers, the first 0 where nothing is refused.
+-- What the functions for C answer: an answer as seven numbers, the first 0 where nothing is refused.
 use mathlib.Core.Path.{_≡_}
 use Prim.Native.Nat.{ℕ}
+use lib.IntN.{ℤ, pos}
 use Rattle.rules.specs.declared.Answer.{Answer}
 use Rattle.rules.specs.declared.Answer.the-variants.{Done, Refused}
 use Rattle.rules.specs.Refusals.{faultOf}
@@ -14,6 +15,15 @@ numberOf (Refused r) = faultOf r .number
 abbrev pub placeOf : Answer → ℕ
 placeOf (Done s) = 0
 placeOf (Refused r) = faultOf r .place
+
+-- C-12: "Refusals 8 to 11 shall also give the argument's place from 0 and the signed number at fault"
+abbrev pub argumentOf : Answer → ℕ
+argumentOf (Done s) = 0
+argumentOf (Refused r) = faultOf r .argument
+
+abbrev pub amountOf : Answer → ℤ
+amountOf (Done s) = pos 0
+amountOf (Refused r) = faultOf r .amount
 
 abbrev pub listingOf : Answer → ℕ
 listingOf (Done s) = s .listing
@@ -30,6 +40,8 @@ imageOf (Refused r) = 0
 pub record Says (r : Reply) (a : Answer) : Type 0 where
   pub number : r .number ≡ numberOf a
   pub place : r .place ≡ placeOf a
+  pub argument : r .argument ≡ argumentOf a
+  pub amount : r .amount ≡ amountOf a
   pub listing : r .listing ≡ listingOf a
   pub rewrites : r .rewrites ≡ rewritesOf a
   pub image : r .image ≡ imageOf a

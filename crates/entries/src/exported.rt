@@ -1,4 +1,4 @@
-// The entries for C and Rust, under names of their own: an enum cannot cross that border, so the answer is five numbers.
+// The entries for C and Rust, under names of their own: an enum cannot cross that border, so the answer is seven numbers.
 use crate::assembling::assemble;
 use crate::faults::fault_of;
 use crate::optimizing::optimize_jumps;
@@ -11,11 +11,13 @@ ghost use Rattle.rules.specs.declared.Answer.the-variants.{Refused};
 ghost use Rattle.entries.specs.Assembling.{answerAs, roomAs};
 ghost use Rattle.entries.specs.Exported.{Says};
 
-// An answer: number 0 and what is in the lent rooms, or a refusal's number and place.
+// An answer: number 0 and what is in the lent rooms, or a refusal's number and place, and for 8 to 11 the argument's place and the number at fault.
 #[repr(C)]
 pub struct Reply {
     pub number: u64,
     pub place: u64,
+    pub argument: u64,
+    pub amount: i64,
     pub listing: u64,
     pub rewrites: u64,
     pub image: u64,
@@ -28,6 +30,8 @@ fn refused(r: Refusal) -> Reply
     Reply {
         number: f.number as u64,
         place: f.place as u64,
+        argument: f.argument as u64,
+        amount: f.amount as i64,
         listing: 0,
         rewrites: 0,
         image: 0,
@@ -42,6 +46,8 @@ fn reply_of(answer: Answer) -> Reply
         Answer::Done(s) => Reply {
             number: 0,
             place: 0,
+            argument: 0,
+            amount: 0,
             listing: s.listing as u64,
             rewrites: s.rewrites as u64,
             image: s.image as u64,

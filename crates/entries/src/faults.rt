@@ -1,26 +1,42 @@
-// Each refusal by document 01's number and place.
+// Each refusal by its number, its place, and for 8 to 11 the argument's place and the number at fault.
 use rules::Place;
 use rules::Refusal;
 ghost use mathlib.Core.Path.{_≡_};
-ghost use Rattle.rules.specs.Refusals.{faultOf};
+ghost use Rattle.rules.specs.Refusals.{ofStatement, ofArgument, faultOf};
+ghost use Rattle.entries.specs.Faults.{IsFault};
 
-// The number and the place that document 01 gives a refusal.
+// The number and the place of a refusal; the argument's place and the signed number at fault, zeros but for 8 to 11.
 pub struct Fault {
     pub number: u8,
     pub place: usize,
+    pub argument: usize,
+    pub amount: i32,
 }
 
 fn about(number: u8, place: Place) -> Fault
-    ensures { λ r. ⌜ (r .number ≡ number) × (r .place ≡ place .0) ⌝ }
+    ensures { λ r. ⌜ IsFault r (ofStatement number place) ⌝ }
 {
     Fault {
         number,
         place: place.0,
+        argument: 0,
+        amount: 0,
+    }
+}
+
+fn about_argument(number: u8, place: Place, argument: usize, amount: i32) -> Fault
+    ensures { λ r. ⌜ IsFault r (ofArgument number place argument amount) ⌝ }
+{
+    Fault {
+        number,
+        place: place.0,
+        argument,
+        amount,
     }
 }
 
 pub fn fault_of(r: Refusal) -> Fault
-    ensures { λ f. ⌜ (f .number ≡ faultOf r .number) × (f .place ≡ faultOf r .place) ⌝ }
+    ensures { λ f. ⌜ IsFault f (faultOf r) ⌝ }
 {
     match r {
         Refusal::Broken(i) => about(1, i),
@@ -30,10 +46,10 @@ pub fn fault_of(r: Refusal) -> Fault
         Refusal::Back(i) => about(5, i),
         Refusal::Beyond(i) => about(6, i),
         Refusal::NoValue(i) => about(7, i),
-        Refusal::Range(i, _, _) => about(8, i),
-        Refusal::Outside(i, _, _) => about(9, i),
-        Refusal::Far(i, _, _) => about(10, i),
-        Refusal::Page(i, _, _) => about(11, i),
+        Refusal::Range(i, j, v) => about_argument(8, i, j, v),
+        Refusal::Outside(i, j, v) => about_argument(9, i, j, v),
+        Refusal::Far(i, j, v) => about_argument(10, i, j, v),
+        Refusal::Page(i, j, v) => about_argument(11, i, j, v),
         Refusal::Room(n) => about(12, Place(n)),
     }
 }

@@ -7,7 +7,7 @@ pub fn words(fd: i32) {
     write_all(fd, b"mortarbee [WORD] < LISTING\n");
     write_all(
         fd,
-        b"  (no word)    writes the new listing and a last line: 7F, rewrites, image length; or only 7E, number, place\n",
+        b"  (no word)    writes the new listing and a last line: 7F, rewrites, image length; or only 7E, number, place, argument, number at fault\n",
     );
     write_all(
         fd,
@@ -104,16 +104,16 @@ fn explain_number(k: u8) {
             b"7: a node of an expression has no value: it leaves -2,147,483,648 to 2,147,483,647, or divides by zero.\nLook at: each operator of the expression, not only its result.\nExample: 06011300000000010000000000 (1 divided by 0)\n",
         ),
         8 => say(
-            b"8: an operand or a data item is out of its range: i8 and bytes 0 to 255, d9 0 to 511, a bit 0 to 7, 16-bit addresses and words 0 to 65,535.\nLook at: the values of the operands; a negative one is never in range.\nExample: 010000FFFFFFFF (Add_i8 of -1)\n",
+            b"8: an operand or a data item is out of its range: i8 and bytes 0 to 255, d9 0 to 511, a bit 0 to 7, 16-bit addresses and words 0 to 65,535.\nLook at: the values of the operands; a negative one is never in range.\nExample: 010000FFFFFFFF (Add_i8 of -1) gives 7E08000000FFFFFFFF: statement 0000, argument 00 counted from 0, the value FFFFFFFF, which is -1\n",
         ),
         9 => say(
-            b"9: the target of Br, Brf, Callr or a conditional branch is outside 0 to 65,535.\nLook at: the value of the target.\nExample: 012D00FFFFFFFF (Brf to -1)\n",
+            b"9: the target of Br, Brf, Callr or a conditional branch is outside 0 to 65,535.\nLook at: the value of the target.\nExample: 012D00FFFFFFFF (Brf to -1) gives 7E09000000FFFFFFFF: statement 0000, argument 00 counted from 0, the address FFFFFFFF, which is -1\n",
         ),
         10 => say(
-            b"10: the target of Br or a conditional branch is too far away: more than 128 bytes back or 127 ahead, counted from the address after the instruction.\nLook at: Jmp or Jmpf for a Br; for a branch, the opposite branch around a Jmpf.\nExample: 012C0000000082 (Br at 0 to 130; it reaches 129)\n",
+            b"10: the target of Br or a conditional branch is too far away: more than 128 bytes back or 127 ahead, counted from the address after the instruction.\nLook at: Jmp or Jmpf for a Br; for a branch, the opposite branch around a Jmpf.\nExample: 012C0000000082 (Br at 0 to 130; it reaches 129) gives 7E0A00000000000080: statement 0000, argument 00 counted from 0, the distance 00000080, which is 128 ahead\n",
         ),
         11 => say(
-            b"11: the target of Jmp or Call is in another page of 4,096 bytes than the address after the instruction.\nLook at: the far form, Jmpf or Callf; it is shortened where that is possible.\nExample: 050FFE, then 012A0000000345\n",
+            b"11: the target of Jmp or Call is in another page of 4,096 bytes than the address after the instruction.\nLook at: the far form, Jmpf or Callf; it is shortened where that is possible.\nExample: 050FFE, then 012A0000000345 gives 7E0B00010000000345: statement 0001, argument 00 counted from 0, the address 00000345\n",
         ),
         _ => say(
             b"12: a lent room is too short for the result.\nLook at: the rooms that the caller of the library lends; 50,176 bytes for the listing and 65,536 for the image always hold it.\nExample: none, the program lends as much and never gives 12\n",

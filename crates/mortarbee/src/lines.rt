@@ -59,14 +59,19 @@ fn put_character(c: u8) {
     write_all(STDERR_FILENO, &one);
 }
 
-// A line of standard error: the text at fault, if there is such a line.
-pub fn quote(text: &[u8], place: usize) {
+// The characters of the line at a place, 240 at most; none where there is no such line.
+pub fn line_at(text: &[u8], place: usize) -> &[u8] {
     let start = line_start(text, place);
     let rest = &text[start..];
     let n = line_length(rest);
-    if n > 0 {
+    &rest[..n]
+}
+
+// A line of standard error: the text at fault, if there is any.
+pub fn quote(line: &[u8]) {
+    if line.len() > 0 {
         write_all(STDERR_FILENO, b"  ");
-        put_shown(&rest[..n]);
+        put_shown(line);
         write_all(STDERR_FILENO, b"\n");
     }
 }

@@ -1,4 +1,5 @@
 // The program: a listing on standard input, the answer on standard output; the word after its name says the job.
+mod amounts; // how far an operand is off, in words
 mod checking; // reads a listing and says how many statements it has
 mod help; // the words, and each refusal explained
 mod imaging; // the image of a listing as it stands

@@ -1,4 +1,6 @@
 // The 7E line of a refusal on standard output, and its sentence on standard error with the line's text.
+use crate::amounts::tell_amount;
+use crate::lines::line_at;
 use crate::lines::quote;
 use entries::fault_of;
 use io::print_decimal;
@@ -39,7 +41,7 @@ fn tell_line(place: usize) {
     }
 }
 
-// For a person, on standard error: the number, the place, the sentence and the line's text.
+// For a person, on standard error: the number, the place, the sentence, how far it is off, and the line's text.
 pub fn tell_person(r: Refusal, text: &[u8]) {
     let f = fault_of(r);
     tell(b"refused ");
@@ -50,16 +52,20 @@ pub fn tell_person(r: Refusal, text: &[u8]) {
     tell(b": ");
     sentence(f.number);
     tell(b"\n");
-    quote(text, f.place);
+    let line = line_at(text, f.place);
+    tell_amount(f.number, f.argument, f.amount, line);
+    quote(line);
 }
 
 // The 7E line on standard output, and then the sentence.
 pub fn say(r: Refusal, text: &[u8]) {
     let f = fault_of(r);
     if f.place < 65536 {
-        let mut line = [0u8; 9];
-        refused_line(f.number, f.place, &mut line);
-        write_all(STDOUT_FILENO, &line);
+        if f.argument < 256 {
+            let mut line = [0u8; 19];
+            refused_line(f.number, f.place, f.argument, f.amount, &mut line);
+            write_all(STDOUT_FILENO, &line);
+        }
     }
     tell_person(r, text);
 }

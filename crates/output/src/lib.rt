@@ -5,6 +5,7 @@ mod lines; // how long each slot's line is, and the text
 mod stems; // which slots the lines stem from
 mod text; // the lines themselves
 
+pub use last::bits;
 pub use last::done_line;
 pub use last::refused_line;
 pub use lines::line_length_at;

@@ -80,9 +80,9 @@ module _ (text page image page′ image′ : List ℕ) where
           rw (written, bytes, count) (promised text listingRoomOfProgram imageRoomOfProgram o e)
       on (no s) e d f g = clash (cc)
 
-  -- printed-refused: "On refusal it writes only 7E, number, place in two bytes": the rest of the page and the image's room are what they were
+  -- printed-refused: "On refusal it writes only 7E, number, place in two bytes" and what C-12 adds: the rest of the page and the image's room are what they were
   pub printed-refused : (s : Refusal) → PrintedRun text page image (Refused s) page′ image′
-      → (take 9 page′ ≡ refusedLine (faultOf s .number) (faultOf s .place)) × (drop 9 page′ ≡ drop 9 page) × (image′ ≡ image)
+      → (take 19 page′ ≡ refusedLine (faultOf s)) × (drop 19 page′ ≡ drop 19 page) × (image′ ≡ image)
   unfolding program
   printed-refused s x =
       let e = refused-so s whole (x .answers) in

@@ -4,6 +4,8 @@ use mathlib.Core.List.{List, [], _∷_, _++_, append-assoc, append-nil}
 use Prim.Native.Nat.{ℕ, _+_, _-_, _/_, _%_, _≤_}
 use native.Mathlib.Omega.{arith}
 use lib.Dec.{leb}
+use mir.Syntax.{w32}
+use mir.Val.{ofZ}
 use lib.ListN.{length, take, drop, length-append, length-take, length-drop, take-append-drop, drop-of-length-le}
 use lib.Seq.{drop-append-le}
 use borrow.Author.Tests.{le-leb}
@@ -13,16 +15,16 @@ use Rattle.rules.specs.declared.Answer.{Answer}
 use Rattle.rules.specs.declared.Answer.the-variants.{Done, Refused}
 use Rattle.rules.specs.declared.Refusal.{Refusal}
 use Rattle.rules.specs.declared.Sizes.{Sizes}
-use Rattle.rules.specs.Refusals.{faultOf}
+use Rattle.rules.specs.Refusals.{Fault, faultOf}
 use Rattle.rules.specs.Answers.{Judged, ok, no}
-use Rattle.rules.specs.Expressions.{pair}
+use Rattle.rules.specs.Expressions.{pair, four}
 use Rattle.rules.specs.Output.{doneLine, refusedLine}
 use Rattle.rules.specs.Run.{Output, run, answerOf, front, listingAfter, imageAfter, printed, listingRoomOfProgram, imageRoomOfProgram, program}
 use Rattle.promises.specs.Demand2.{Answered}
 use Rattle.promises.proofs.Accepted.{accepted-iff}
 use Rattle.output.proofs.Rooms.{length-line}
 use Rattle.printing.specs.Page.{Lent, LineFits, Printable, lastAfter, pageLength, PrintedRun}
-use Rattle.printing.proofs.Places.{refused-early, few-rewrites}
+use Rattle.printing.proofs.Places.{refused-early, refused-argument, few-rewrites}
 
 -- ---- the last line
 
@@ -30,9 +32,9 @@ length-done : (count len : ℕ) → length (doneLine count len) ≡ 13
 unfolding doneLine
 length-done count len = length-line (0x7F ∷ (pair count ++ (len / 65536 ∷ len / 256 % 256 ∷ len % 256 ∷ [])))
 
-length-refused : (number place : ℕ) → length (refusedLine number place) ≡ 9
+length-refused : (f : Fault) → length (refusedLine f) ≡ 19
 unfolding refusedLine
-length-refused number place = length-line (0x7E ∷ number ∷ pair place)
+length-refused f = length-line (0x7E ∷ f .number ∷ (pair (f .place) ++ (f .argument ∷ four (ofZ w32 (f .amount)))))
 
 -- what is asked of an answer, by its kind
 pub done-fits : (a : Answer) (s : Sizes) (room : ℕ) → a ≡ Done s → Printable a room → LineFits s room
@@ -95,7 +97,7 @@ module _ (text : List ℕ) where
       let a = accepted-iff text listingRoomOfProgram imageRoomOfProgram o .0 e in
       let few : o .count ≤ 3072 = rw (a .result) (few-rewrites text (a .program) (a .keeps-rules)) in
       record { rewrites = omega arith; image = a .image-fits; listing = omega (arith, a .listing-fits) }
-  answer-fits room (no r) e h = (omega (arith, refused-early text listingRoomOfProgram imageRoomOfProgram r e), omega arith)
+  answer-fits room (no r) e h = (omega (arith, refused-early text listingRoomOfProgram imageRoomOfProgram r e), refused-argument text listingRoomOfProgram imageRoomOfProgram r e, omega arith)
 
   -- and makes up what is printed
   answer-page : (page : List ℕ) (x : Judged Output) → lastAfter (answerOf x) (listingAfter x page) ≡ front (printed x) page
@@ -111,7 +113,7 @@ module _ (text : List ℕ) where
       let a = accepted-iff text listingRoomOfProgram imageRoomOfProgram o .0 e in
       cond-true (leb l listingRoomOfProgram) (l + 13) (listingRoomOfProgram + 13) (le-leb l listingRoomOfProgram (a .listing-fits))
       ∙ omega (arith, length-append (o .listing) (doneLine (o .count) (length (o .image))), length-done (o .count) (length (o .image)))
-  answer-length (no r) e = sym (length-refused (faultOf r .number) (faultOf r .place))
+  answer-length (no r) e = sym (length-refused (faultOf r))
 
   -- ---- both together
   module _ (page image page₁ image₁ : List ℕ) (r : Answer) (room : length image ≡ imageRoomOfProgram) (lent : Lent text page image r page₁ image₁) where

@@ -1,32 +1,39 @@
--- The numbers of the last line: a refusal is about one of the first 1,025 places, and 3,072 rewrites are the most.
-use mathlib.Core.Path.{_≡_, refl}
+-- The numbers of the last line: a refusal is about one of the first 1,025 places and one of the first 16 arguments, and 3,072 rewrites are the most.
+use mathlib.Core.Path.{_≡_, refl, subst}
+use mathlib.Core.Logic.{inl, inr}
 use mathlib.Core.List.{List, [], _∷_}
-use mathlib.Core.Bool.{Bool, true, _&&_, cond}
+use mathlib.Core.Bool.{Bool, true, false, _&&_, cond}
 use Prim.Native.Nat.{ℕ, zero, suc, _+_, _≤_, _<_}
 use native.Mathlib.Omega.{arith}
 use lib.Dec.{leb, ltb, eqb}
-use lib.ListN.{length}
+use lib.ListN.{length, length-map}
+use lib.IntN.{ℤ}
 use borrow.Author.Tests.{ltb-true}
-use Rattle.laws.proofs.Tests.{and-true}
+use Rattle.laws.proofs.Tests.{and-true, clash}
 use Rattle.laws.proofs.Lists.{total-bound}
 use Rattle.rules.specs.declared.Refusal.{Refusal}
-use Rattle.rules.specs.declared.Refusal.the-variants.{Broken, Limit}
+use Rattle.rules.specs.declared.Refusal.the-variants.{Broken, Limit, Again, NoName, Back, Beyond, NoValue, Range, Outside, Far, Page, Room}
 use Rattle.rules.specs.declared.Kind.{Kind}
 use Rattle.rules.specs.declared.Kind.the-variants.{Reg, I8, D9, Bit, Rel8, A12, A16, Rel16}
 use Rattle.rules.specs.Refusals.{faultOf}
 use Rattle.rules.specs.Answers.{atPlace, Judged, ok, no, require}
 use Rattle.rules.specs.Expressions.{Parsed, got, long, broken, readExpr}
 use Rattle.rules.specs.Forms.{operandsAt}
-use Rattle.rules.specs.Programs.{Placeℕ, register, Stmt, gone, instr, label, variable, comment, org, bytes, words, Program}
+use Rattle.rules.specs.Programs.{Placeℕ, Operand, register, Stmt, gone, instr, label, variable, comment, org, bytes, words, Program}
 use Rattle.rules.specs.Listing.{taken, Line, linesOf, takeByte, takePair, parsed, takeExpr, takeRegister, takeValue, takeOperand, takeOperands, takeExprs, takeItems, alone, readInstr, readLabel, readVariable, readOrg, readBytes, readWords, readFrame, unhex, withinLimits, wellFormed, readLines, readListing}
+use Rattle.rules.specs.Names.{Entry}
 use Rattle.rules.specs.Rewriting.{instrBytes}
 use Rattle.rules.specs.Run.{outputOf, run}
-use Rattle.promises.specs.Demand1.{Cause, reading, naming, laying, defining, encoding, room}
+use Rattle.promises.specs.Faults.{Amounts, out-of-range, outside, far, other-page, NumberAtFault, no-value, of-argument, of-item}
+use Rattle.promises.specs.Demand1.{isOneOf, hasNumber, Cause, reading, naming, laying, defining, encoding, room}
 use Rattle.promises.proofs.Says.{Says, says-no, says-require, says-cond, says-bind, Nothing-more}
-use Rattle.promises.proofs.Listings.{read-limits}
+use Rattle.promises.proofs.Sounds.{isRegister, shapes, Sounds, SoundStmt}
+use Rattle.promises.proofs.Listings.{WellMade, read-made, read-limits}
 use Rattle.promises.proofs.RefusedOnce.{refused-once}
+use Rattle.promises.proofs.FirstFault.{encoded-first}
+use Rattle.promises.proofs.Amounts.{number-at-fault}
 use Rattle.promises.proofs.RunEnds.{rewrites-bound}
-use Rattle.instruction.proofs.Numbers.{size-bound}
+use Rattle.instruction.proofs.Numbers.{size-bound, few-operands}
 
 abbrev Any : {A : Type 0} → A → Type 0
 Any a = Nothing-more a
@@ -194,6 +201,55 @@ refused-early text listingRoom imageRoom r e = on (refused-once text listingRoom
     on (defining p d a b c x) = omega (arith, x .place, few p d)
     on (encoding p names d a b c f x) = omega (arith, x .place, few p d)
     on (room p image d j f x) = rw x (few p d)
+
+-- ---- the argument that a refusal is about: a form has three at most, data 16
+no-argument : (xs : List ℕ) (r : Refusal) → isOneOf xs 8 ≡ false → isOneOf xs 9 ≡ false → isOneOf xs 10 ≡ false → isOneOf xs 11 ≡ false → hasNumber xs r ≡ true → faultOf r .argument ≡ 0
+no-argument xs (Broken i) a b c d h = refl
+no-argument xs (Limit i) a b c d h = refl
+no-argument xs (Again i) a b c d h = refl
+no-argument xs (NoName i) a b c d h = refl
+no-argument xs (Back i) a b c d h = refl
+no-argument xs (Beyond i) a b c d h = refl
+no-argument xs (NoValue i) a b c d h = refl
+no-argument xs (Range i j v) a b c d h = clash (cc)
+no-argument xs (Outside i j v) a b c d h = clash (cc)
+no-argument xs (Far i j v) a b c d h = clash (cc)
+no-argument xs (Page i j v) a b c d h = clash (cc)
+no-argument xs (Room n) a b c d h = refl
+
+amount-argument : {n i j : ℕ} {v : ℤ} {r : Refusal} → Amounts n i j v r → faultOf r .argument ≡ j
+amount-argument out-of-range = refl
+amount-argument outside = refl
+amount-argument far = refl
+amount-argument other-page = refl
+
+few-sounds : (bs : List Bool) (xs : List Operand) → Sounds bs xs → length xs ≤ length bs
+few-sounds [] [] h = omega arith
+few-sounds [] (x ∷ xs) h = absurd h
+few-sounds (b ∷ bs) [] h = absurd h
+few-sounds (b ∷ bs) (x ∷ xs) h = let below = few-sounds bs xs (h .1) in omega arith
+
+encoded-argument : (p : Program) (names : List Entry) (i : Placeℕ) (r : Refusal) → WellMade p → NumberAtFault names p i r → faultOf r .argument ≤ 16
+encoded-argument p names i r w (no-value h) = omega (arith, no-argument (4 ∷ 7 ∷ []) r refl refl refl refl h)
+encoded-argument p names i r w (of-argument f xs c j v e l x a) =
+    let s : SoundStmt (instr f xs c) = subst SoundStmt e (w .sound i) in
+    omega (arith, amount-argument a, few-sounds (shapes f) xs (s .1), length-map (operandsAt f) (λ k. isRegister k), few-operands f)
+encoded-argument p names i r w (of-item es j v (inl e) l x a) = let s : SoundStmt (bytes es) = subst SoundStmt e (w .sound i) in omega (arith, amount-argument a, s .1)
+encoded-argument p names i r w (of-item es j v (inr e) l x a) = let s : SoundStmt (words es) = subst SoundStmt e (w .sound i) in omega (arith, amount-argument a, s .1)
+
+-- every refusal of a run
+pub refused-argument : (text : List ℕ) (listingRoom imageRoom : ℕ) (r : Refusal) → run text listingRoom imageRoom ≡ no r → faultOf r .argument < 256
+refused-argument text listingRoom imageRoom r e = on (refused-once text listingRoom imageRoom r .0 e)
+  where
+    on : Cause text listingRoom imageRoom r → faultOf r .argument < 256
+    on (reading d x) = omega (arith, no-argument (1 ∷ 2 ∷ []) r refl refl refl refl x)
+    on (naming p d a x) = omega (arith, no-argument (3 ∷ []) r refl refl refl refl (x .number))
+    on (laying p d a b x) = omega (arith, no-argument (5 ∷ 6 ∷ []) r refl refl refl refl (x .number))
+    on (defining p d a b c x) = omega (arith, no-argument (4 ∷ 7 ∷ []) r refl refl refl refl (x .number))
+    on (encoding p names d a b c f x) =
+        let first = encoded-first p r names f in
+        omega (arith, encoded-argument p names (first .place) r (read-made text p d) (number-at-fault names p (first .place) r (first .refused)))
+    on (room p image d j f x) = rw x (omega arith)
 
 -- ---- no instruction has more than three bytes
 instr-small : (s : Stmt) → instrBytes s ≤ 3

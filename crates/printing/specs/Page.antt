@@ -25,20 +25,21 @@ pub record LineFits (s : Sizes) (room : ℕ) : Type 0 where
   pub image : s .image ≤ 65536
   pub listing : s .listing + 13 ≤ room
 
--- the numbers of an answer fit in its last line, and the line on the page. "On refusal it writes only 7E, number, place in two bytes": 9 characters
+-- the numbers of an answer fit in its last line, and the line on the page. "On refusal it writes only 7E, number, place in two bytes", and C-12: "The
+-- 7E line grows by one byte and a four-byte signed number": 19 characters
 abbrev pub Printable : Answer → (room : ℕ) → Type 0
 Printable (Done s) room = LineFits s room
-Printable (Refused r) room = (faultOf r .place < 65536) × (9 ≤ room)
+Printable (Refused r) room = (faultOf r .place < 65536) × (faultOf r .argument < 256) × (19 ≤ room)
 
 -- the page after an answer's last line
 abbrev pub lastAfter : Answer → (page : List ℕ) → List ℕ
 lastAfter (Done s) page = take (s .listing) page ++ front (doneLine (s .rewrites) (s .image)) (drop (s .listing) page)
-lastAfter (Refused r) page = front (refusedLine (faultOf r .number) (faultOf r .place)) page
+lastAfter (Refused r) page = front (refusedLine (faultOf r)) page
 
 -- how much of the page an answer fills; no run fills more than the listing's room and the last line
 abbrev pub pageLength : Answer → ℕ
 pageLength (Done s) = cond (leb (s .listing) listingRoomOfProgram) (s .listing + 13) (listingRoomOfProgram + 13)
-pageLength (Refused r) = 9
+pageLength (Refused r) = 19
 
 -- "The program reads a listing .. and writes the new one and a last line": the page's front is what is printed, what lies behind is unchanged
 pub record PrintedRun (text page image : List ℕ) (r : Answer) (page′ image′ : List ℕ) : Type 0 where

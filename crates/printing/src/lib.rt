@@ -29,7 +29,7 @@ fn end_page(answer: Answer, page: &mut [u8])
         }
         Answer::Refused(r) => {
             let f = fault_of(r);
-            refused_line(f.number, f.place, page);
+            refused_line(f.number, f.place, f.argument, f.amount, page);
         }
     }
 }
@@ -52,6 +52,6 @@ pub fn page_length(answer: Answer) -> usize
             let n = sizes.listing;
             if n <= 50176 { n + 13 } else { 50189 }
         }
-        Answer::Refused(_) => 9,
+        Answer::Refused(_) => 19,
     }
 }

@@ -147,7 +147,8 @@ module _ (p : Program) (r : Refusal) where
       first-same (length (placed p)) (length p) (λ j. defineBy (orD (defineAll [] (take j (placed p))) []) (getD (placed p) j nowhere)) (defineAt p) r placed-length
       (λ j l. ap (defineBy (orD (defineAll [] (take j (placed p))) [])) (placed-at p j nowhere l)) (define-first [] (placed p) r e)
 
-  encoded-first : (names : List Entry) → encodeAll names p (placed p) ≡ no r → FirstRefused (length p) (encodeAt names p) r
+  -- encoding refuses at the first statement that does not encode
+  pub encoded-first : (names : List Entry) → encodeAll names p (placed p) ≡ no r → FirstRefused (length p) (encodeAt names p) r
   unfolding encodeBy
   encoded-first names e =
       first-same (length (placed p)) (length p) (λ j. encodeBy names p (getD (placed p) j nowhere)) (encodeAt names p) r placed-length

@@ -21,6 +21,7 @@ pub mod OneResult
 pub mod Numbers
 pub mod RefusedOnce
 pub mod FirstFault
+pub mod Amounts
 -- ---- what a rewrite does
 pub mod Looks
 pub mod Steps

@@ -1,19 +1,24 @@
 -- Document 01, "Refusal numbers": which statement a refusal names. It is the first, in the order of the listing, that its check refuses.
 use mathlib.Core.Path.{_≡_}
 use mathlib.Core.List.{List, [], _∷_, _++_}
-use mathlib.Core.Bool.{false}
+use mathlib.Core.Bool.{false, true}
 use Prim.Native.Nat.{ℕ, _<_}
 use lib.ListN.{length, getD, take}
 use Rattle.laws.specs.Lists.{total}
 use Rattle.rules.specs.declared.Refusal.{Refusal}
-use Rattle.rules.specs.declared.Refusal.the-variants.{Broken, Limit, Again, Room}
+use Rattle.rules.specs.declared.Refusal.the-variants.{Broken, Limit, Again, Room, Range, Outside, Far, Page}
 use Rattle.rules.specs.Refusals.{faultOf}
 use Rattle.rules.specs.Answers.{atPlace, Judged, ok, no, Check, require, orD}
-use Rattle.rules.specs.Programs.{Placeℕ, Stmt, Program, at, asName}
-use Rattle.rules.specs.Layout.{position}
+use Rattle.rules.specs.Programs.{Placeℕ, Stmt, Program, at, asName, Addressℕ, Operand, register, instr, bytes, words}
+use Rattle.rules.specs.Layout.{position, after}
 use Rattle.rules.specs.Listing.{Line, linesOf, unhex, readFrame, withinLimits, wellFormed, readListing}
 use Rattle.rules.specs.Names.{Key, Entry, Placed, placed, contextAt}
-use Rattle.rules.specs.Judging.{keysIn, areNew, settles, define, defineAll, encode}
+use Rattle.rules.specs.Judging.{keysIn, areNew, settles, define, defineAll, encode, worth, worthOf}
+use Rattle.rules.specs.Expressions.{Expr, num}
+use Rattle.rules.specs.declared.Outcome.the-variants.{Is}
+use lib.IntN.{ℤ, pos, _-ℤ_}
+use mathlib.Core.Logic.{_⊎_}
+use Rattle.promises.specs.Demand1.{hasNumber}
 
 -- of n places the first that a check refuses, with r; those before it pass
 pub record FirstRefused {A : Type 0} (n : ℕ) (check : Placeℕ → Judged A) (r : Refusal) : Type 0 where
@@ -69,3 +74,20 @@ pub data FirstFault (text : List ℕ) (r : Refusal) : Type 0 where
   defined : (p : Program) → readListing text ≡ ok p → AtFault (length p) (defineAt p) r → FirstFault text r
   encoded : (p : Program) (names : List Entry) → readListing text ≡ ok p → defineAll [] (placed p) ≡ ok names → AtFault (length p) (encodeAt names p) r → FirstFault text r
   room : (p : Program) → readListing text ≡ ok p → r ≡ Room (length p) → FirstFault text r
+
+-- ---- C-12: "Refusals 8 to 11 shall also give the argument's place from 0 and the signed number at fault: the value, or for 10 the difference"
+
+-- of an argument j of value v, n being the address after its statement
+pub data Amounts (n : Addressℕ) (i : Placeℕ) (j : ℕ) (v : ℤ) : Refusal → Type 0 where
+  out-of-range : Amounts n i j v (Range (atPlace i) j v)
+  outside : Amounts n i j v (Outside (atPlace i) j v)
+  far : Amounts n i j v (Far (atPlace i) j (v -ℤ pos n))
+  other-page : Amounts n i j v (Page (atPlace i) j v)
+
+-- why encoding refuses the statement at place i of p: a value that is not there (4, 7), or argument or item j, whose value is the number at fault
+pub data NumberAtFault (names : List Entry) (p : Program) (i : Placeℕ) (r : Refusal) : Type 0 where
+  no-value : hasNumber (4 ∷ 7 ∷ []) r ≡ true → NumberAtFault names p i r
+  of-argument : (f : ℕ) (xs : List Operand) (c : Placeℕ) (j : ℕ) (v : ℤ) → at p i ≡ instr f xs c → j < length xs → worthOf names p (contextAt p i) (getD xs j (register 0)) ≡ Is v
+      → Amounts (after (position p i) (at p i)) i j v r → NumberAtFault names p i r
+  of-item : (es : List Expr) (j : ℕ) (v : ℤ) → (at p i ≡ bytes es) ⊎ (at p i ≡ words es) → j < length es → worth names (contextAt p i) (getD es j (num (pos 0))) ≡ Is v
+      → Amounts (after (position p i) (at p i)) i j v r → NumberAtFault names p i r

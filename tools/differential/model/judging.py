@@ -139,33 +139,33 @@ class Judge:
     def code(self, place, s):
         if s.kind == "instr":
             n = self.positions[place] + s.size
-            return encode(s.form, [self.field(place, kind, a, n) for kind, a in zip(s.form.operands, s.args)])
-        return b"".join(self.item(place, s.kind, a) for a in s.args)
+            return encode(s.form, [self.field(place, j, kind, a, n) for j, (kind, a) in enumerate(zip(s.form.operands, s.args))])
+        return b"".join(self.item(place, j, s.kind, a) for j, a in enumerate(s.args))
 
-    def field(self, place, kind, arg, n):
+    def field(self, place, j, kind, arg, n):
         if kind == "reg":
             return arg
         v = self.worth(place, arg)
         if kind in LIMITS:
             if not 0 <= v <= LIMITS[kind]:
-                raise Refused(8, place)
+                raise Refused(8, place, j, v)
             if kind == "a12" and (v ^ n) & 0xF000:
-                raise Refused(11, place)
+                raise Refused(11, place, j, v)
             return v & 0xFFF if kind == "a12" else v
         if not 0 <= v <= 65535:
-            raise Refused(9, place)
+            raise Refused(9, place, j, v)
         if kind == "rel16":
             return (v - n + 1) % 65536
         if not -128 <= v - n <= 127:
-            raise Refused(10, place)
+            raise Refused(10, place, j, v - n)
         return v - n
 
-    def item(self, place, kind, arg):
+    def item(self, place, j, kind, arg):
         v = self.worth(place, arg)
         low, high, length = (-128, 255, 1) if kind == "bytes" else (-32768, 65535, 2)
         where = " in a candidate" if self.phase == "candidate" else ""
         if not low <= v <= high or v < 0 and not self.ways.has("negative " + kind + where):
-            raise Refused(8, place)
+            raise Refused(8, place, j, v)
         return (v & (1 << 8 * length) - 1).to_bytes(length, "little")
 
     def image(self):

@@ -7,9 +7,11 @@ TAGS = {name: tag for tag, name in list(TWO.items()) + list(ONE.items())}
 
 
 class Refused(Exception):
-    def __init__(self, number, place):
-        super().__init__(number, place)
-        self.number, self.place = number, place
+    """argument and amount: for 8 to 11 the argument's place and the number at fault."""
+
+    def __init__(self, number, place, argument=0, amount=0):
+        super().__init__(number, place, argument, amount)
+        self.number, self.place, self.argument, self.amount = number, place, argument, amount
 
 
 class Panic(Exception):

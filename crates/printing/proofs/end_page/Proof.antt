@@ -1,12 +1,17 @@
 -- `printing::end_page` meets its contract.
-use mathlib.Core.Path.{sym, _∙_, ap, ap₂}
-use Prim.Native.Nat.{ℕ}
+use mathlib.Core.Path.{sym, _∙_, ap}
 use native.Mathlib.Omega.{arith}
 use lib.ListN.{length}
+use lib.IntN.{ℤ}
+use mir.Syntax.{w32}
+use mir.Val.{SFits}
+use mir.Facts.{toZ-ofZ}
 use borrow.Author.Needs.{needs}
 use Rattle.rules.specs.declared.Answer.{Answer}
+use Rattle.rules.specs.Refusals.{Fault}
 use Rattle.rules.specs.Output.{doneLine, refusedLine}
 use Rattle.rules.specs.Run.{front}
+use Rattle.entries.proofs.Told.{fault-given}
 use Rattle.printing.specs.Page.{LineFits, lastAfter}
 use Rattle.printing.proofs.Pages.{done-fits, refused-fits, part-room, line-behind}
 use Rattle.printing.proofs.end_page.Statement.{statement}
@@ -42,11 +47,11 @@ fault-of-requires c κs = search needs
 
 refused-line-requires : tie.Need-refused-line-requires
 refused-line-requires c κs =
-    let f = c .before in
+    let f = c .before .before in
     let a = f .before .before in
     let s = a .before .before .before in
     let h = refused-fits _ _ (length (s .args .page .now)) (a .answer2 .given .1) (s .pre) in
-    (omega (arith, h .0, f .fault-of .ensures .1), h .1)
+    (omega (arith, h .0, f .fault-of .ensures .place), omega (arith, h .1, f .fault-of .ensures .argument), h .2)
 
 same-length : tie.Need-same-length
 same-length c = search needs
@@ -65,11 +70,14 @@ same-length-2 c = search needs
 returns-2 : tie.Need-returns-2
 returns-2 c =
     let l = c .before .before in
-    let f = l .before .before in
+    let f = l .before .before .before in
     let a = f .before .before in
     let page = a .before .before .before .args .page .now in
+    let g = f .fault-of .result in
+    let fit : SFits w32 (g .amount) = search needs in
     l .refused-line .ensures
-    ∙ ap₂ (λ (n i : ℕ). front (refusedLine n i) page) (f .fault-of .ensures .0) (f .fault-of .ensures .1)
+    ∙ ap (λ (v : ℤ). front (refusedLine (record { number = g .number; place = g .place; argument = g .argument; amount = v })) page) (toZ-ofZ fit)
+    ∙ ap (λ (x : Fault). front (refusedLine x) page) (fault-given g _ (f .fault-of .ensures))
     ∙ sym (ap (λ (x : Answer). lastAfter x page) (a .answer2 .given .1))
 
 pub end-page-spec : {M : Type 1} → statement M
