@@ -17,12 +17,12 @@ use Rattle.rules.specs.declared.Outcome.{Outcome}
 use Rattle.rules.specs.declared.Outcome.the-variants.{Is}
 use Rattle.rules.specs.Values.{isNumber}
 use Rattle.rules.specs.Forms.{formAt, operandsAt, jmpf, not1}
-use Rattle.rules.specs.Programs.{Operand, register, Stmt, gone, instr, label, variable, comment, org, bytes, words, Program, at, isForm, argsOf}
+use Rattle.rules.specs.Programs.{Operand, register, Stmt, gone, instr, label, variable, comment, org, bytes, words, Program, at, isForm, argsOf, kindOf}
 use Rattle.rules.specs.Layout.{after, position}
 use Rattle.rules.specs.Names.{Entry, contextAt}
 use Rattle.rules.specs.Judging.{worthOf}
 use Rattle.rules.specs.Rewriting.{skipped, nearest, valued10DAnd0, changesAt, isChangeJump}
-use Rattle.slots.specs.Slots.{goneForm, slotAt, kindOf, worthIn}
+use Rattle.slots.specs.Slots.{goneForm, slotAt, worthIn}
 use Rattle.image.specs.Tables.{Tables, program, operandAt, Ready}
 use Rattle.image.proofs.Operands.{count-args}
 use Rattle.image.proofs.Placed.{position-after}

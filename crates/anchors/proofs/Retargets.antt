@@ -15,13 +15,13 @@ use Rattle.rules.specs.declared.Outcome.{Outcome}
 use Rattle.rules.specs.declared.Outcome.the-variants.{Is, Unknown, Nothing}
 use Rattle.rules.specs.Expressions.{evalTree, holdsName}
 use Rattle.rules.specs.Forms.{isTransfer}
-use Rattle.rules.specs.Programs.{Operand, register, value, inner, Stmt, gone, instr, label, variable, comment, org, bytes, words, argsOf, lastOf, onLast, retarget, Program, at}
+use Rattle.rules.specs.Programs.{Operand, register, value, inner, Stmt, gone, instr, label, variable, comment, org, bytes, words, argsOf, lastOf, onLast, retarget, Program, at, kindOf}
 use Rattle.rules.specs.Layout.{Origin, origin}
 use Rattle.rules.specs.Names.{Entry, Placed, placed}
 use Rattle.rules.specs.Judging.{namesOf}
 use Rattle.rules.specs.Rewriting.{isChangeJump, innerAt, anchorTarget, isAnchored, anchorAt, anchor}
 use Rattle.rules.proofs.Laws.{length-placed, placed-at}
-use Rattle.slots.specs.Slots.{Slots, slots, goneForm, noOwner, written, targetOf, aimedAt, slotAt, programOf, kindOf, Sound}
+use Rattle.slots.specs.Slots.{Slots, slots, goneForm, noOwner, written, targetOf, aimedAt, slotAt, programOf, Sound}
 use Rattle.slots.proofs.Slots.{slot-gone, slot-other, kind-kept, not-gone}
 use Rattle.image.proofs.Operands.{slot-is}
 use Rattle.image.proofs.Placed.{placedAt}

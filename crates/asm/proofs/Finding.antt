@@ -12,11 +12,11 @@ use lib.Seq.{drop-cons}
 use borrow.Author.Tests.{leb-true, ltb-true, le-leb, lt-leb, lt-ltb}
 use Rattle.laws.proofs.Tests.{eq-or-not, lt-or-le, cond-true, cond-false, first-false, and-true, and-left, same-test}
 use Rattle.rules.specs.Answers.{atPlace}
-use Rattle.rules.specs.Programs.{Placeℕ, Addressℕ, gone, bytes, words, Program, at, byteCount}
+use Rattle.rules.specs.Programs.{Placeℕ, Addressℕ, gone, bytes, words, Program, at, byteCount, kindOf}
 use Rattle.rules.specs.Layout.{after, position, Origin as Source, originFrom}
 use Rattle.instruction.proofs.Numbers.{size-bound}
 use Rattle.listing.specs.Tables.{Held}
-use Rattle.slots.specs.Slots.{Slots, slotAt, programOf, kindOf}
+use Rattle.slots.specs.Slots.{Slots, slotAt, programOf}
 use Rattle.slots.proofs.Slots.{size-instr, size-none, slot-data, written-frame, items-count, kind-most}
 use Rattle.env.proofs.Programs.{length-program, at-program}
 use Rattle.env.proofs.Positions.{position-first, position-more}

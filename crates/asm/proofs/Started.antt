@@ -10,9 +10,9 @@ use lib.ListN.{getD, length}
 use borrow.Author.Tests.{eq-eqb, ne-eqb, le-ltb}
 use Rattle.laws.proofs.Counts.{tab-ext}
 use Rattle.rules.specs.Forms.{isTransfer, operandsAt}
-use Rattle.rules.specs.Programs.{Operand, register, Stmt, instr, Instruction, onInstr, argsOf, lastOf, onLast}
+use Rattle.rules.specs.Programs.{Operand, register, Stmt, instr, Instruction, onInstr, argsOf, lastOf, onLast, kindOf}
 use Rattle.listing.specs.Tables.{frameAt, inputAt, inputOf, Held}
-use Rattle.slots.specs.Slots.{Slots, slots, goneForm, noOwner, written, targetOf, aimedAt, slotAt, programOf, kindOf, isReg, Agree, WroteTarget, Sound}
+use Rattle.slots.specs.Slots.{Slots, slots, goneForm, noOwner, written, targetOf, aimedAt, slotAt, programOf, isReg, Agree, WroteTarget, Sound}
 use Rattle.slots.proofs.Frames.{Frame, InstrFrame, ofInstr, ofLabel, ofVariable, ofComment, ofOrg, ofBytes, ofWords}
 use Rattle.slots.proofs.Tables.{frame-is}
 use Rattle.slots.proofs.Slots.{slot-instr, slot-other, kind-kept, kind-read, written-frame}

@@ -11,11 +11,11 @@ use lib.Seq.{set-set, set-comm, set-getD}
 use Rattle.laws.specs.Options.{isSome, getOr}
 use Rattle.laws.proofs.Options.{given-true, given-false}
 use Rattle.laws.proofs.Tests.{false-true, second-false}
-use Rattle.rules.specs.Programs.{Program, gone, instr, argsOf, at, byteCount}
+use Rattle.rules.specs.Programs.{Program, gone, instr, argsOf, at, byteCount, kindOf}
 use Rattle.rules.specs.Names.{enter}
 use Rattle.rules.specs.Judging.{assembles}
 use Rattle.rules.specs.Rewriting.{everyInnerLabel, acceptable, candidate, localLabel, dropAll}
-use Rattle.slots.specs.Slots.{Slots, slots, goneForm, slotAt, programOf, kindOf, Agree}
+use Rattle.slots.specs.Slots.{Slots, slots, goneForm, slotAt, programOf, Agree}
 use Rattle.patterns.proofs.Programs.{at-program}
 use Rattle.attempts.specs.Standing.{Standing, Tried}
 use Rattle.attempts.specs.Folds.{inverted, bounced, Inverts, Bounces}

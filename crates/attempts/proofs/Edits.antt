@@ -14,12 +14,12 @@ use Rattle.laws.specs.Options.{isSome, given, bind}
 use Rattle.laws.proofs.Counts.{tab-ext, tab-set}
 use Rattle.laws.proofs.Tests.{false-true, cond-true, cond-false, eq-or-not}
 use Rattle.rules.specs.Forms.{isTransfer}
-use Rattle.rules.specs.Programs.{Operand, Stmt, gone, instr, label, variable, comment, org, bytes, words, asName, onInstr, argsOf, asLabel, lastOf, onLast, at}
+use Rattle.rules.specs.Programs.{Operand, Stmt, gone, instr, label, variable, comment, org, bytes, words, asName, onInstr, argsOf, asLabel, lastOf, onLast, at, kindOf}
 use Rattle.rules.specs.Names.{isLocal, enter, contextAt, placed}
 use Rattle.rules.specs.Judging.{noNameTwice}
 use Rattle.rules.specs.Rewriting.{localLabel, aimed}
 use Rattle.listing.specs.Tables.{frameAt, inputAt}
-use Rattle.slots.specs.Slots.{Slots, slots, goneForm, written, targetOf, aimedAt, slotAt, programOf, kindOf, Agree, WroteTarget, Sound}
+use Rattle.slots.specs.Slots.{Slots, slots, goneForm, written, targetOf, aimedAt, slotAt, programOf, Agree, WroteTarget, Sound}
 use Rattle.slots.proofs.Slots.{slot-gone, slot-instr}
 use Rattle.patterns.specs.Targets.{instrAt}
 use Rattle.patterns.specs.Matches.{Moves}

@@ -9,12 +9,12 @@ use lib.ListN.{length, getD}
 use Rattle.laws.proofs.Tests.{eq-or-not, cond-both}
 use Rattle.rules.specs.Answers.{Judged}
 use Rattle.rules.specs.Expressions.{Expr}
-use Rattle.rules.specs.Programs.{Stmt, gone, instr, label, variable, comment, org, bytes, words, byteCount}
+use Rattle.rules.specs.Programs.{Stmt, gone, instr, label, variable, comment, org, bytes, words, byteCount, kindOf}
 use Rattle.rules.specs.Layout.{position}
 use Rattle.rules.specs.Names.{contextAt}
 use Rattle.rules.specs.Judging.{items}
 use Rattle.listing.specs.Tables.{frameAt, inputAt}
-use Rattle.slots.specs.Slots.{Slots, slotAt, kindOf, written, DataIn}
+use Rattle.slots.specs.Slots.{Slots, slotAt, written, DataIn}
 use Rattle.slots.proofs.Tables.{frame-is}
 use Rattle.slots.proofs.Slots.{kind-read, kind-kept, kind-most, not-gone, slot-data}
 use Rattle.image.specs.Tables.{Tables, program, Ready}

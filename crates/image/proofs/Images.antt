@@ -13,7 +13,7 @@ use Rattle.rules.specs.Answers.{Judged, ok, no, _>>=_, isOk, orD}
 use Rattle.rules.specs.Expressions.{Expr}
 use Rattle.rules.specs.Forms.{sizeAt, operandsAt}
 use Rattle.rules.specs.Patterns.{rowsOf, bytesAt}
-use Rattle.rules.specs.Programs.{Stmt, gone, instr, label, variable, comment, org, bytes, words, Program, byteCount}
+use Rattle.rules.specs.Programs.{Stmt, gone, instr, label, variable, comment, org, bytes, words, Program, byteCount, kindOf}
 use Rattle.rules.specs.Layout.{after, position, lay}
 use Rattle.rules.specs.Names.{Entry, contextAt}
 use Rattle.rules.specs.Encoding.{byte, word}
@@ -22,7 +22,7 @@ use Rattle.rules.proofs.Laws.{then-ok}
 use Rattle.encoding.proofs.Codes.{length-rows}
 use Rattle.instruction.proofs.Numbers.{size-bound}
 use Rattle.encoding.specs.Encode.{bytesOfCode}
-use Rattle.slots.specs.Slots.{slotAt, kindOf}
+use Rattle.slots.specs.Slots.{slotAt}
 use Rattle.slots.proofs.Slots.{size-instr}
 use Rattle.image.specs.declared.Encoded.{Encoded}
 use Rattle.image.specs.declared.Encoded.the-variants.{Is, Refused}

@@ -11,7 +11,7 @@ use Rattle.laws.proofs.Tests.{clash, true-false, false-true, and-true, cond-tru
 use Rattle.rules.specs.declared.Kind.{Kind}
 use Rattle.rules.specs.declared.Kind.the-variants.{Reg, I8, D9, Bit, Rel8, A12, A16, Rel16}
 use Rattle.rules.specs.Forms.{operandsAt, isTransfer}
-use Rattle.rules.specs.Programs.{Operand, register, value, inner, instr, argsOf, lastOf, onLast}
+use Rattle.rules.specs.Programs.{Operand, register, value, inner, instr, argsOf, lastOf, onLast, kindOf}
 use Rattle.rules.specs.Statements.{argAt, argumentAt, exprAt, operandAt}
 use Rattle.instruction.specs.declared.tables.Target.{Target}
 use Rattle.instruction.specs.declared.tables.Target.the-variants.{Arg, Nothing as NoTarget}
@@ -20,7 +20,7 @@ use Rattle.instruction.specs.declared.tables.Operand.the-variants.{Is, Nothing 
 use Rattle.instruction.specs.Tables.{targetAt, operandIn as kindIn}
 use Rattle.instruction.proofs.Rows.{has-target}
 use Rattle.listing.specs.Tables.{frameAt, inputAt, Held}
-use Rattle.slots.specs.Slots.{Slots, written, targetOf, aimedAt, slotAt, kindOf, noOwner, isReg, registerAt, InstrIn, Agree, WroteTarget}
+use Rattle.slots.specs.Slots.{Slots, written, targetOf, aimedAt, slotAt, noOwner, isReg, registerAt, InstrIn, Agree, WroteTarget}
 use Rattle.slots.proofs.Frames.{Reads}
 use Rattle.slots.proofs.Operands.{OperandRead, register-at, readIn, instr-in, operands-in}
 use Rattle.slots.proofs.Tables.{frame-is}

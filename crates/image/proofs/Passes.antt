@@ -8,13 +8,13 @@ use lib.ListN.{drop}
 use Rattle.laws.proofs.Tests.{clash, true-false}
 use Rattle.rules.specs.declared.Refusal.{Refusal}
 use Rattle.rules.specs.Answers.{Judged, ok, no, _>>=_, isOk}
-use Rattle.rules.specs.Programs.{Stmt, gone, instr, label, variable, comment, org, bytes, words, Program}
+use Rattle.rules.specs.Programs.{Stmt, gone, instr, label, variable, comment, org, bytes, words, Program, kindOf}
 use Rattle.rules.specs.Layout.{position, lay}
 use Rattle.rules.specs.Names.{Entry, contextAt, placed}
 use Rattle.rules.specs.Encoding.{byte, word}
 use Rattle.rules.specs.Judging.{items, encode, encodeAll}
 use Rattle.rules.proofs.Laws.{then-ok}
-use Rattle.slots.specs.Slots.{slotAt, kindOf}
+use Rattle.slots.specs.Slots.{slotAt}
 use Rattle.image.specs.declared.Checked.the-variants.{Passes, Refused}
 use Rattle.image.specs.Tables.{Tables, program}
 use Rattle.image.specs.Encoding.{encodeAt, encodedAs, itemsOf, checkedAs, checkOf, encodeSlots}

@@ -17,14 +17,14 @@ use Rattle.rules.specs.declared.Kind.{Kind}
 use Rattle.rules.specs.declared.Kind.the-variants.{Reg, I8, D9, Bit, Rel8, A12, A16, Rel16}
 use Rattle.rules.specs.declared.Outcome.the-variants.{Is}
 use Rattle.rules.specs.Forms.{operandsAt, sizeAt, isAddress, endsInAddress, isTransfer}
-use Rattle.rules.specs.Programs.{Operand, register, value, inner, gone, Program, at}
+use Rattle.rules.specs.Programs.{Operand, register, value, inner, gone, Program, at, kindOf}
 use Rattle.rules.specs.Layout.{after, position}
 use Rattle.rules.specs.Names.{Entry, contextAt}
 use Rattle.rules.specs.Judging.{worthOf}
 use Rattle.rules.specs.Statements.{argAt, operandAt}
 use Rattle.encoding.specs.Operands.{held}
 use Rattle.listing.specs.Tables.{frameAt}
-use Rattle.slots.specs.Slots.{Slots, targetOf, slotAt, programOf, kindOf, worthIn, noOwner, isReg, registerAt, InstrIn, Agree, WroteTarget, Sound}
+use Rattle.slots.specs.Slots.{Slots, targetOf, slotAt, programOf, worthIn, noOwner, isReg, registerAt, InstrIn, Agree, WroteTarget, Sound}
 use Rattle.slots.proofs.Operands.{register-at}
 use Rattle.instruction.proofs.Rows.{has-target}
 use Rattle.image.specs.Tables.{Tables, program, isTarget, operandIn, operandAt as operandIs, Ready}

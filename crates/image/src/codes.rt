@@ -19,7 +19,8 @@ ghost use Rattle.rules.specs.declared.Kind.the-variants.{Reg};
 ghost use Rattle.rules.specs.Forms.{operandsAt};
 ghost use Rattle.rules.specs.Names.{contextAt};
 ghost use Rattle.encoding.specs.Operands.{fieldAs};
-ghost use Rattle.slots.specs.Slots.{slotAt, kindOf};
+ghost use Rattle.rules.specs.Programs.{kindOf};
+ghost use Rattle.slots.specs.Slots.{slotAt};
 ghost use Rattle.image.specs.Tables.{tables, program, operandAt, Ready};
 ghost use Rattle.image.specs.Encoding.{fieldOf, encodeAt, encodedAs};
 

@@ -15,7 +15,8 @@ ghost use lib.IntN.{pos};
 ghost use lib.ListN.{length, getD};
 ghost use Rattle.rules.specs.Forms.{operandsAt};
 ghost use Rattle.expression.specs.Environment.{entriesOf};
-ghost use Rattle.slots.specs.Slots.{slots, slotAt, kindOf, targetOf, worthIn, InstrIn, Sound};
+ghost use Rattle.rules.specs.Programs.{kindOf};
+ghost use Rattle.slots.specs.Slots.{slots, slotAt, targetOf, worthIn, InstrIn, Sound};
 ghost use Rattle.image.specs.Tables.{isTarget, operandIn, operandAt, Low, Aims};
 
 // A number of a table, as a place.

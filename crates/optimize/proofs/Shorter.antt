@@ -9,10 +9,10 @@ use lib.ListN.{getD, set}
 use borrow.Author.Tests.{ne-eqb}
 use Rattle.laws.specs.Options.{orElse, given, firstOf, bind}
 use Rattle.rules.specs.Forms.{formAt, isTransfer, jmp, jmpf, br, call, callf}
-use Rattle.rules.specs.Programs.{Placeℕ, Stmt, gone, instr, label, variable, comment, org, bytes, words, onInstr, asInstr, argsOf, Program, at}
+use Rattle.rules.specs.Programs.{Placeℕ, Stmt, gone, instr, label, variable, comment, org, bytes, words, onInstr, asInstr, argsOf, Program, at, kindOf}
 use Rattle.rules.specs.Names.{Entry}
 use Rattle.rules.specs.Rewriting.{isChangeJump, noInteriorLabelAt, candidate, shorter, shrinkAt}
-use Rattle.slots.specs.Slots.{Slots, written, reformed, slotAt, programOf, kindOf, Agree}
+use Rattle.slots.specs.Slots.{Slots, written, reformed, slotAt, programOf, Agree}
 use Rattle.slots.proofs.Slots.{slot-kept, not-gone}
 use Rattle.env.proofs.Programs.{at-program}
 use Rattle.attempts.specs.Shrinks.{shrunk}

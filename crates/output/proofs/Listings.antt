@@ -13,8 +13,8 @@ use Rattle.laws.specs.Counts.{tab}
 use Rattle.laws.specs.Lists.{each}
 use Rattle.laws.proofs.Tests.{eq-or-not}
 use Rattle.laws.proofs.Counts.{rises, length-tab, tab-suc, each-tab}
-use Rattle.rules.specs.Programs.{Operand, Stmt, gone, instr, label, variable, comment, org, bytes, words, Program, retarget}
-use Rattle.rules.specs.Output.{plainTarget, writeBack, isGone, compact, stemsFrom, stems, frameOf, lineOf, textOf}
+use Rattle.rules.specs.Programs.{Operand, Stmt, gone, instr, label, variable, comment, org, bytes, words, Program, retarget, isGone}
+use Rattle.rules.specs.Output.{plainTarget, writeBack, compact, stemsFrom, stems, frameOf, lineOf, textOf}
 use Rattle.listing.specs.Tables.{Held}
 use Rattle.slots.specs.Slots.{Slots, goneForm, slotAt, programOf}
 use Rattle.slots.proofs.Slots.{slot-gone}

@@ -14,7 +14,8 @@ use Rattle.rules.specs.Forms.{isTransfer}
 use Rattle.rules.specs.Layout.{position}
 use Rattle.expression.specs.Sound.{AreBytes}
 use Rattle.listing.specs.Tables.{frameAt, Held}
-use Rattle.slots.specs.Slots.{Slots, noOwner, written, slotAt, programOf, kindOf, InstrIn, Sound}
+use Rattle.rules.specs.Programs.{kindOf}
+use Rattle.slots.specs.Slots.{Slots, noOwner, written, slotAt, programOf, InstrIn, Sound}
 use Rattle.slots.proofs.Slots.{kind-read, written-frame}
 use Rattle.slots.proofs.Tables.{bounds, length-frame, frame-is}
 use Rattle.output.specs.Lines.{lineIn, ownEnd, ownBytes, targetBytes, carriedBytes, bytesAt, InstrAt, Drawn}

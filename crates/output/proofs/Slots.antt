@@ -15,12 +15,12 @@ use Rattle.laws.proofs.Tests.{eq-or-not}
 use Rattle.rules.specs.Expressions.{bytesOf}
 use Rattle.rules.specs.Forms.{isTransfer, operandsAt}
 use Rattle.rules.specs.Layout.{position}
-use Rattle.rules.specs.Programs.{Operand, Stmt, gone, instr, label, variable, comment, org, bytes, words, Program, argsOf, lastOf, onLast, retarget}
-use Rattle.rules.specs.Output.{plainTarget, operandBytes, frameOf, lineOf, isGone}
+use Rattle.rules.specs.Programs.{Operand, Stmt, gone, instr, label, variable, comment, org, bytes, words, Program, argsOf, lastOf, onLast, retarget, kindOf, isGone}
+use Rattle.rules.specs.Output.{plainTarget, operandBytes, frameOf, lineOf}
 use Rattle.expression.specs.Sound.{AreBytes}
 use Rattle.expression.proofs.RoundTrip.{bytes-drop}
 use Rattle.listing.specs.Tables.{frameAt, Held}
-use Rattle.slots.specs.Slots.{Slots, Sound, WroteTarget, goneForm, noOwner, written, targetOf, aimedAt, slotAt, programOf, kindOf}
+use Rattle.slots.specs.Slots.{Slots, Sound, WroteTarget, goneForm, noOwner, written, targetOf, aimedAt, slotAt, programOf}
 use Rattle.slots.proofs.Frames.{Left, InstrFrame, Frame, ofInstr, ofLabel, ofVariable, ofComment, ofOrg, ofBytes, ofWords, frame-of}
 use Rattle.slots.proofs.Operands.{operands-read}
 use Rattle.slots.proofs.Slots.{slot-instr, slot-data, not-gone, kind-read, kind-kept, written-frame}

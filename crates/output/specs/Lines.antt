@@ -10,11 +10,11 @@ use Rattle.laws.specs.Lists.{each}
 use Rattle.rules.specs.Expressions.{four}
 use Rattle.rules.specs.Forms.{isTransfer, operandsAt}
 use Rattle.rules.specs.Layout.{position}
-use Rattle.rules.specs.Programs.{Placeℕ, Stmt, Program, retarget}
-use Rattle.rules.specs.Output.{plainTarget, isGone, writeBack, compact, frameOf, lineOf, textOf}
+use Rattle.rules.specs.Programs.{Placeℕ, Stmt, Program, retarget, kindOf, isGone}
+use Rattle.rules.specs.Output.{plainTarget, writeBack, compact, frameOf, lineOf, textOf}
 use Rattle.rules.specs.Statements.{argumentAt}
 use Rattle.listing.specs.Tables.{frameAt, Held}
-use Rattle.slots.specs.Slots.{Slots, slots, noOwner, slotAt, programOf, kindOf, InstrIn, Sound}
+use Rattle.slots.specs.Slots.{Slots, slots, noOwner, slotAt, programOf, InstrIn, Sound}
 
 -- ---- the definition, slot by slot
 

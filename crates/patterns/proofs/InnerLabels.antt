@@ -17,10 +17,10 @@ use Rattle.rules.specs.declared.Place.{Place}
 use Rattle.rules.specs.declared.Kind.{Kind}
 use Rattle.rules.specs.declared.Kind.the-variants.{Reg, I8, D9, Bit, Rel8, A12, A16, Rel16}
 use Rattle.rules.specs.Forms.{isTransfer, operandsAt}
-use Rattle.rules.specs.Programs.{Operand, register, value, inner, Stmt, gone, instr, label, variable, comment, org, bytes, words, argsOf, lastOf, onLast}
+use Rattle.rules.specs.Programs.{Operand, register, value, inner, Stmt, gone, instr, label, variable, comment, org, bytes, words, argsOf, lastOf, onLast, kindOf}
 use Rattle.rules.specs.Rewriting.{ofInner, everyInnerLabel}
 use Rattle.rules.specs.Statements.{argAt, argumentAt, operandAt}
-use Rattle.slots.specs.Slots.{Slots, noOwner, slotAt, programOf, targetOf, kindOf, Sound}
+use Rattle.slots.specs.Slots.{Slots, noOwner, slotAt, programOf, targetOf, Sound}
 use Rattle.slots.proofs.Frames.{InstrFrame}
 use Rattle.patterns.specs.declared.InnerLabel.{InnerLabel}
 use Rattle.patterns.specs.declared.InnerLabel.the-variants.{Of, Nothing}

@@ -15,11 +15,11 @@ use Rattle.rules.specs.declared.Kind.{Kind}
 use Rattle.rules.specs.declared.Kind.the-variants.{Reg, I8, D9, Bit, Rel8, A12, A16, Rel16}
 use Rattle.rules.specs.Expressions.{Expr}
 use Rattle.rules.specs.Forms.{formAt, isAddress, endsInAddress, isTransfer, isUnconditional, operandsAt}
-use Rattle.rules.specs.Programs.{Operand, register, value, inner, Stmt, gone, instr, label, variable, comment, org, bytes, words, Instruction, asInstr, asLabel, argsOf, lastOf, onLast}
+use Rattle.rules.specs.Programs.{Operand, register, value, inner, Stmt, gone, instr, label, variable, comment, org, bytes, words, Instruction, asInstr, asLabel, argsOf, lastOf, onLast, kindOf}
 use Rattle.rules.specs.Rewriting.{branch, unconditional, localLabel}
 use Rattle.rules.specs.Statements.{argAt, argumentAt, exprAt, operandAt}
 use Rattle.listing.specs.Tables.{frameAt, inputAt, Held}
-use Rattle.slots.specs.Slots.{Slots, slots, goneForm, noOwner, written, targetOf, aimedAt, slotAt, kindOf, isReg, Sound}
+use Rattle.slots.specs.Slots.{Slots, slots, goneForm, noOwner, written, targetOf, aimedAt, slotAt, isReg, Sound}
 use Rattle.slots.proofs.Frames.{InstrFrame, Left, Reads, frame-of}
 use Rattle.slots.proofs.Operands.{OperandRead, OperandsRead, operands-read}
 use Rattle.slots.proofs.Tables.{frame-is}

@@ -19,12 +19,12 @@ use Rattle.rules.specs.Expressions.{Expr, readExpr, parse, byTag, tagOf, mentio
 use Rattle.rules.specs.Forms.{isTransfer, operandsAt}
 use Rattle.rules.specs.Listing.{readFrame}
 use Rattle.rules.specs.Names.{Placed, placed, contextAt}
-use Rattle.rules.specs.Programs.{Operand, register, Stmt, Program, gone, instr, label, variable, comment, org, bytes, words, argsOf, onLast, inOperand, overExprs, at}
+use Rattle.rules.specs.Programs.{Operand, register, Stmt, Program, gone, instr, label, variable, comment, org, bytes, words, argsOf, onLast, inOperand, overExprs, at, kindOf}
 use Rattle.rules.specs.Rewriting.{references}
 use Rattle.rules.specs.Statements.{argAt, argumentAt, exprAt, operandAt}
 use Rattle.rules.proofs.Laws.{length-placed, placed-at}
 use Rattle.listing.specs.Tables.{frameAt, inputAt, Held}
-use Rattle.slots.specs.Slots.{Slots, written, slotAt, programOf, targetOf, kindOf, isReg, InstrIn, DataIn, Sound}
+use Rattle.slots.specs.Slots.{Slots, written, slotAt, programOf, targetOf, isReg, InstrIn, DataIn, Sound}
 use Rattle.slots.proofs.Frames.{Left, Reads, Frame, ofInstr, ofLabel, ofVariable, ofComment, ofOrg, ofBytes, ofWords, VariableFrame, frame-of, frame-read, was-read}
 use Rattle.slots.proofs.Operands.{OperandRead, instr-in, operands-in}
 use Rattle.slots.proofs.Tables.{frame-is}

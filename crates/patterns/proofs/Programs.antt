@@ -8,9 +8,9 @@ use lib.ListN.{length}
 use Rattle.laws.specs.Counts.{scan}
 use Rattle.laws.proofs.Counts.{length-tab, getD-tab, scan-bound}
 use Rattle.laws.proofs.Stores.{get-out}
-use Rattle.rules.specs.Programs.{Stmt, gone, instr, label, variable, comment, org, bytes, words, at}
+use Rattle.rules.specs.Programs.{Stmt, gone, instr, label, variable, comment, org, bytes, words, at, kindOf}
 use Rattle.rules.specs.Rewriting.{insignificant, next}
-use Rattle.slots.specs.Slots.{Slots, slotAt, programOf, kindOf}
+use Rattle.slots.specs.Slots.{Slots, slotAt, programOf}
 
 module _ (t : Slots) where
   pub length-program : length (programOf t) ≡ t .count

@@ -7,9 +7,9 @@ use Prim.Native.Nat.{ℕ, suc, _<_}
 use lib.ListN.{getD, set}
 use Rattle.laws.specs.Options.{isSome}
 use Rattle.rules.specs.Forms.{isTransfer}
-use Rattle.rules.specs.Programs.{Placeℕ}
+use Rattle.rules.specs.Programs.{Placeℕ, kindOf}
 use Rattle.rules.specs.Rewriting.{next, branch, unconditional, localLabel, aimed, candidate, dropAll, invertedAt, trampolineAt}
-use Rattle.slots.specs.Slots.{Slots, slotAt, programOf, kindOf}
+use Rattle.slots.specs.Slots.{Slots, slotAt, programOf}
 use Rattle.patterns.specs.declared.Inverted.{Inverted}
 use Rattle.patterns.specs.declared.Inverted.the-variants.{At as Inverted·At, Nothing as Inverted·Nothing}
 use Rattle.patterns.specs.declared.Trampoline.{Trampoline}

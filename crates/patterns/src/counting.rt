@@ -23,10 +23,10 @@ ghost use Rattle.laws.specs.Lists.{total};
 ghost use Rattle.rules.specs.Expressions.{num};
 ghost use Rattle.rules.specs.Forms.{operandsAt};
 ghost use Rattle.rules.specs.Names.{contextAt};
-ghost use Rattle.rules.specs.Programs.{register, argsOf, inOperand, overExprs};
+ghost use Rattle.rules.specs.Programs.{register, argsOf, inOperand, overExprs, kindOf};
 ghost use Rattle.rules.specs.Rewriting.{references as referencesOf};
 ghost use Rattle.listing.specs.Tables.{Held};
-ghost use Rattle.slots.specs.Slots.{slots, slotAt, kindOf, targetOf, programOf, InstrIn, DataIn, Sound};
+ghost use Rattle.slots.specs.Slots.{slots, slotAt, targetOf, programOf, InstrIn, DataIn, Sound};
 ghost use Rattle.patterns.specs.Targets.{TargetIn};
 ghost use Rattle.patterns.specs.Mentions.{times, readAs, itemsOf, VariableIn};
 

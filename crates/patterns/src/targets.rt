@@ -18,7 +18,8 @@ ghost use Rattle.laws.specs.Options.{isSome};
 ghost use Rattle.rules.specs.Forms.{isTransfer};
 ghost use Rattle.rules.specs.Rewriting.{branch, unconditional, localLabel, bareIn, namesBare};
 ghost use Rattle.listing.specs.Tables.{frameAt, Held};
-ghost use Rattle.slots.specs.Slots.{slots, slotAt, kindOf, targetOf, Sound};
+ghost use Rattle.rules.specs.Programs.{kindOf};
+ghost use Rattle.slots.specs.Slots.{slots, slotAt, targetOf, Sound};
 ghost use Rattle.patterns.specs.Targets.{standsAt, formIn, instrAt, labelAs, TargetIn, lastBytes};
 
 // An owner from here on is none.

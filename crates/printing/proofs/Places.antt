@@ -9,6 +9,7 @@ use lib.Dec.{leb, ltb, eqb}
 use lib.ListN.{length, length-map}
 use lib.IntN.{ℤ}
 use borrow.Author.Tests.{ltb-true}
+use Rattle.laws.specs.Lists.{isOneOf}
 use Rattle.laws.proofs.Tests.{and-true, clash}
 use Rattle.laws.proofs.Lists.{total-bound}
 use Rattle.rules.specs.declared.Refusal.{Refusal}
@@ -25,7 +26,7 @@ use Rattle.rules.specs.Names.{Entry}
 use Rattle.rules.specs.Rewriting.{instrBytes}
 use Rattle.rules.specs.Run.{outputOf, run}
 use Rattle.promises.specs.Faults.{Amounts, out-of-range, outside, far, other-page, NumberAtFault, no-value, of-argument, of-item}
-use Rattle.promises.specs.Demand1.{isOneOf, hasNumber, Cause, reading, naming, laying, defining, encoding, room}
+use Rattle.promises.specs.Demand1.{hasNumber, Cause, reading, naming, laying, defining, encoding, room}
 use Rattle.promises.proofs.Says.{Says, says-no, says-require, says-cond, says-bind, Nothing-more}
 use Rattle.promises.proofs.Sounds.{isRegister, shapes, Sounds, SoundStmt}
 use Rattle.promises.proofs.Listings.{WellMade, read-made, read-limits}

@@ -16,10 +16,11 @@ use Rattle.rules.specs.declared.Outcome.{Outcome}
 use Rattle.rules.specs.declared.Outcome.the-variants.{Is, Unknown}
 use Rattle.rules.specs.Answers.{ok}
 use Rattle.rules.specs.Expressions.{Expr, num, name, two, one, evalTree, mentions, holdsName, with1, with2}
-use Rattle.rules.specs.Programs.{Placeℕ, Operand, register, value, inner, Stmt, gone, instr, label, variable, comment, org, bytes, words, Program, at, byteCount, argsOf, onLast, retarget}
+use Rattle.rules.specs.Programs.{Placeℕ, Operand, register, value, inner, Stmt, gone, Program, at, byteCount, argsOf, onLast, retarget}
 use Rattle.rules.specs.Layout.{position, Origin, origin}
 use Rattle.rules.specs.Judging.{worth, worthOf, judge, assembles}
 use Rattle.rules.specs.Rewriting.{innerAt, anchorTarget, anchor, ofInner, everyInnerLabel, acceptable, step, optimized, instrBytes}
+use Rattle.rules.proofs.Laws.{by-instr, other}
 use Rattle.promises.proofs.Steps.{step-good, step-some}
 use Rattle.promises.proofs.Chains.{chain-keeps}
 use Rattle.promises.proofs.Anchors.{length-anchor, at-anchor, anchored-keeps}
@@ -128,16 +129,10 @@ module _ (p : Program) where
 
   low-all : WellMade p → (i : Placeℕ) (s : Stmt) → at p i ≡ s → Low (retarget (anchorTarget p) s) × Low s
   unfolding Low every
-  low-all w i gone e = (refl, refl)
-  low-all w i (instr f xs c) e =
-      let m = made-instr p w i f xs c e in
-      (last-below xs (m .1), every-weaken isPlain (ofInner below-owner) xs plain-below (m .1))
-  low-all w i (label n) e = (refl, refl)
-  low-all w i (variable n d) e = (refl, refl)
-  low-all w i (comment x) e = (refl, refl)
-  low-all w i (org l) e = (refl, refl)
-  low-all w i (bytes es) e = (refl, refl)
-  low-all w i (words es) e = (refl, refl)
+  low-all w i =
+      by-instr (λ s. at p i ≡ s → Low (retarget (anchorTarget p) s) × Low s)
+      (λ f xs c e. let m = made-instr p w i f xs c e in (last-below xs (m .1), every-weaken isPlain (ofInner below-owner) xs plain-below (m .1)))
+      (λ s n e. let z : argsOf s ≡ [] = other [] _ s n in let low : Low s = rw z in (rw (other s _ s n) low, low))
 
   -- an accepted input, anchored, is acceptable
   pub anchor-acceptable : WellMade p → (image : List ℕ) → judge p ≡ ok image → acceptable (anchor p) ≡ true

@@ -9,11 +9,11 @@ use Rattle.laws.specs.Lists.{total}
 use Rattle.laws.proofs.Tests.{lt-or-le, cond-both}
 use Rattle.laws.proofs.Stores.{get-out}
 use Rattle.laws.proofs.Lists.{getD-map-in}
-use Rattle.rules.specs.Programs.{Placeℕ, Operand, Stmt, gone, instr, label, variable, comment, org, bytes, words, Program, at, retarget}
+use Rattle.rules.specs.Programs.{Placeℕ, Operand, Stmt, gone, Program, at, retarget}
 use Rattle.rules.specs.Names.{Placed, placed}
 use Rattle.rules.specs.Judging.{namesOf}
 use Rattle.rules.specs.Rewriting.{isAnchored, anchorTarget, anchorAt, anchor, instrBytes}
-use Rattle.rules.proofs.Laws.{length-placed, placed-at}
+use Rattle.rules.proofs.Laws.{length-placed, placed-at, by-change}
 use Rattle.promises.proofs.General.{total-alike}
 
 -- the statement that anchoring leaves at place i
@@ -49,14 +49,7 @@ anchored-keeps P p i x y = cond-both P (isAnchored (namesOf p) p i (at p i)) (re
 
 -- a change of operands changes no size
 pub instrBytes-retarget : (f : Operand → Operand) (s : Stmt) → instrBytes (retarget f s) ≡ instrBytes s
-instrBytes-retarget f gone = refl
-instrBytes-retarget f (instr g xs c) = refl
-instrBytes-retarget f (label n) = refl
-instrBytes-retarget f (variable n e) = refl
-instrBytes-retarget f (comment x) = refl
-instrBytes-retarget f (org l) = refl
-instrBytes-retarget f (bytes es) = refl
-instrBytes-retarget f (words es) = refl
+instrBytes-retarget f s = by-change (λ s t. instrBytes t ≡ instrBytes s) _ (λ g xs c. refl) (λ s n. refl) s
 
 -- so anchoring keeps the instruction bytes
 pub instrBytes-anchor : (p : Program) → total instrBytes (anchor p) ≡ total instrBytes p

@@ -14,6 +14,7 @@ use Rattle.rules.specs.Forms.{isTransfer}
 use Rattle.rules.specs.Programs.{Placeℕ, Operand, register, value, inner, Stmt, gone, instr, label, variable, comment, org, bytes, words, Program, at, onInstr, lastOf, onLast, retarget}
 use Rattle.rules.specs.Rewriting.{anchor, anchorTarget, aimed}
 use Rattle.promises.specs.Demand3.{aimsAt, carries}
+use Rattle.rules.proofs.Laws.{by-instr, by-change, other}
 use Rattle.promises.proofs.Looks.{lastOf-put}
 use Rattle.promises.proofs.Steps.{Step, invert, bounce, shrink}
 use Rattle.promises.proofs.Weights.{weigh-inverted, weigh-trampoline, weigh-shrunk}
@@ -110,14 +111,7 @@ ofPlace-own c f xs = rw (eq-eqb c c refl)
 
 -- a change of operands leaves it
 pub ofPlace-retarget : (c : Placeℕ) (f : Operand → Operand) (s : Stmt) → ofPlace c (retarget f s) ≡ ofPlace c s
-ofPlace-retarget c f gone = refl
-ofPlace-retarget c f (instr g xs d) = refl
-ofPlace-retarget c f (label n) = refl
-ofPlace-retarget c f (variable n e) = refl
-ofPlace-retarget c f (comment x) = refl
-ofPlace-retarget c f (org l) = refl
-ofPlace-retarget c f (bytes es) = refl
-ofPlace-retarget c f (words es) = refl
+ofPlace-retarget c f s = by-change (λ s t. ofPlace c t ≡ ofPlace c s) _ (λ g xs d. refl) (λ s n. refl) s
 
 -- a rewrite makes none
 pub ofPlace-step : (c : Placeℕ) (p q : Program) → Step p q → total (ofPlace c) q ≤ total (ofPlace c) p
@@ -133,22 +127,16 @@ ofPlace-step c p q (shrink h) =
 
 -- in what was read, and so in what is anchored, only place c has one
 pub ofPlace-made : (p : Program) → WellMade p → (c j : Placeℕ) → j ≢ c → ofPlace c (at (anchor p) j) ≡ 0
-ofPlace-made p w c j n = ap (ofPlace c) (at-anchor p j) ∙ anchored-keeps (λ s. ofPlace c s ≡ 0) p j (ofPlace-retarget c (anchorTarget p) (at p j) ∙ other) other
+ofPlace-made p w c j n = ap (ofPlace c) (at-anchor p j) ∙ anchored-keeps (λ s. ofPlace c s ≡ 0) p j (ofPlace-retarget c (anchorTarget p) (at p j) ∙ there) there
   where
     on : (s : Stmt) → at p j ≡ s → ofPlace c s ≡ 0
-    on gone e = refl
-    on (instr f xs d) e =
-        let own = made-instr p w j f xs d e .0 in
-        rw (ne-eqb c d (λ z. n (sym (z ∙ own))))
-    on (label m) e = refl
-    on (variable m d) e = refl
-    on (comment x) e = refl
-    on (org l) e = refl
-    on (bytes es) e = refl
-    on (words es) e = refl
+    on =
+        by-instr (λ s. at p j ≡ s → ofPlace c s ≡ 0)
+        (λ f xs d e. let own = made-instr p w j f xs d e .0 in rw (ne-eqb c d (λ z. n (sym (z ∙ own)))))
+        (λ s k e. other 0 _ s k)
 
-    other : ofPlace c (at p j) ≡ 0
-    other = on (at p j) refl
+    there : ofPlace c (at p j) ≡ 0
+    there = on (at p j) refl
 
 -- a carrier of a target is one of its place
 pub carries-ofPlace : (c s o : ℕ) (x : Stmt) → carries c s o x ≤ ofPlace c x

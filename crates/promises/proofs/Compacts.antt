@@ -2,9 +2,8 @@
 use mathlib.Core.Path.{_≡_, refl, _∙_, ap}
 use mathlib.Core.List.{List, [], _∷_, _++_}
 use mathlib.Core.Bool.{Bool, true, false}
-use Prim.Native.Nat.{ℕ, suc, _+_, _*_}
+use Prim.Native.Nat.{ℕ, suc, _+_}
 use lib.Dec.{leb, eqb}
-use lib.ListN.{length}
 use lib.IntN.{ℤ, pos, _-ℤ_}
 use Rattle.laws.specs.Lists.{every}
 use Rattle.laws.proofs.Tests.{and-true, false-true}
@@ -17,13 +16,13 @@ use Rattle.rules.specs.declared.Kind.the-variants.{Reg, I8, D9, Bit, Rel8, A12,
 use Rattle.rules.specs.Answers.{atPlace, Judged, ok, no, _>>=_, _>>_, checkEach, require}
 use Rattle.rules.specs.Expressions.{Expr}
 use Rattle.rules.specs.Forms.{sizeAt, operandsAt}
-use Rattle.rules.specs.Programs.{Placeℕ, Addressℕ, Operand, register, value, inner, Stmt, gone, instr, label, variable, comment, org, bytes, words, Program, asName, argsOf}
+use Rattle.rules.specs.Programs.{Placeℕ, Addressℕ, Operand, register, value, inner, Stmt, gone, instr, label, variable, comment, org, bytes, words, Program, asName, argsOf, isGone, Space, empty, exactly, from, spaceOf, Naming, unnamed, labels, binds, namingOf}
 use Rattle.rules.specs.Layout.{after}
 use Rattle.rules.specs.Names.{enter, Key, Entry, placedFrom, placed}
 use Rattle.rules.specs.Values.{below, signedByte, nat}
 use Rattle.rules.specs.Encoding.{page, field, byte, word}
-use Rattle.rules.specs.Judging.{keysIn, areNew, noNameTwice, reaches, settles, positionsFit, valueAt, worth, worthOf, define, defineAll, fields, items, encode, encodeAll, judge}
-use Rattle.rules.specs.Output.{isGone, compact}
+use Rattle.rules.specs.Judging.{keysIn, areNew, noNameTwice, reaches, settles, positionsFit, valueAt, worth, worthOf, define, defineAll, fields, items, encode, encodeAll, judge, settlesIn, defineIn}
+use Rattle.rules.specs.Output.{compact}
 use Rattle.rules.proofs.Laws.{no-ok, then-ok, next-ok}
 use Rattle.promises.proofs.Frames.{isPlain}
 use Rattle.promises.proofs.Passes.{judge-passes, passes-judge}
@@ -64,14 +63,12 @@ reaches-moved : (i j : Placeℕ) (q : Addressℕ) → reaches i q ≡ ok tt → 
 reaches-moved i j q e = require-moved (leb q 65536) _ _ (ok tt) (ok tt) tt (λ z. z) e
 
 settles-moved : (i j : Placeℕ) (q : Addressℕ) (s : Stmt) → settles i q s ≡ ok tt → settles j q s ≡ ok tt
-settles-moved i j q gone e = e
-settles-moved i j q (instr f xs c) e = reaches-moved i j (q + sizeAt f) e
-settles-moved i j q (label n) e = e
-settles-moved i j q (variable n d) e = e
-settles-moved i j q (comment x) e = e
-settles-moved i j q (org l) e = require-moved (leb q l) _ _ (ok tt) (ok tt) tt (λ z. z) e
-settles-moved i j q (bytes es) e = reaches-moved i j (q + length es) e
-settles-moved i j q (words es) e = reaches-moved i j (q + 2 * length es) e
+settles-moved i j q s = on (spaceOf s)
+  where
+    on : (x : Space) → settlesIn i q x ≡ ok tt → settlesIn j q x ≡ ok tt
+    on empty e = e
+    on (exactly n) e = reaches-moved i j (q + n) e
+    on (from l) e = require-moved (leb q l) _ _ (ok tt) (ok tt) tt (λ z. z) e
 
 value-moved : (i j : Placeℕ) (o : Outcome) (z : ℤ) → valueAt i o ≡ ok z → valueAt j o ≡ ok z
 value-moved i j (Is v) z e = e
@@ -79,15 +76,12 @@ value-moved i j Unknown z e = no-ok _ z e
 value-moved i j Nothing z e = no-ok _ z e
 
 define-moved : (above : List Entry) (i j : Placeℕ) (k : ℕ) (q : Addressℕ) (s : Stmt) (names : List Entry) → define above i k q s ≡ ok names → define above j k q s ≡ ok names
-define-moved above i j k q gone names e = e
-define-moved above i j k q (instr f xs c) names e = e
-define-moved above i j k q (label n) names e = e
-define-moved above i j k q (variable n d) names e =
-    bind-moved (valueAt i (worth above k d)) (valueAt j (worth above k d)) _ _ names (λ z h. value-moved i j (worth above k d) z h) (λ z h. h) e
-define-moved above i j k q (comment x) names e = e
-define-moved above i j k q (org l) names e = e
-define-moved above i j k q (bytes es) names e = e
-define-moved above i j k q (words es) names e = e
+define-moved above i j k q s names = on (namingOf s)
+  where
+    on : (x : Naming) → defineIn above i k q x ≡ ok names → defineIn above j k q x ≡ ok names
+    on unnamed e = e
+    on (labels n) e = e
+    on (binds n d) e = bind-moved (valueAt i (worth above k d)) (valueAt j (worth above k d)) _ _ names (λ z h. value-moved i j (worth above k d) z h) (λ z h. h) e
 
 range-moved : (i j : Placeℕ) (a : ℕ) (t : Bool) (v : ℤ) (b : ℕ) → require t (Range (atPlace i) a v) (ok (nat v)) ≡ ok b → require t (Range (atPlace j) a v) (ok (nat v)) ≡ ok b
 range-moved i j a t v b e = require-moved t _ _ (ok (nat v)) (ok (nat v)) b (λ z. z) e

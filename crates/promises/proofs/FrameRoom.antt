@@ -1,5 +1,5 @@
 -- How many frame bytes a program needs when its numbers are written back: anchoring adds none, nor does a rewrite, and what is written needs as many.
-use mathlib.Core.Path.{_≡_, refl, _∙_, ap}
+use mathlib.Core.Path.{_≡_, refl, _∙_, ap, sym}
 use mathlib.Core.List.{List, [], _∷_}
 use mathlib.Core.Option.{Option, none, some}
 use mathlib.Core.Bool.{Bool, true, false, cond}
@@ -13,12 +13,13 @@ use Rattle.laws.proofs.Tests.{clash, and-true, false-true}
 use Rattle.laws.proofs.Lists.{every-any, total-ext}
 use Rattle.rules.specs.declared.Outcome.the-variants.{Unknown}
 use Rattle.rules.specs.Expressions.{Expr, num, name, two, one, evalTree, mentions, holdsName, bytesOf}
-use Rattle.rules.specs.Programs.{Placeℕ, Operand, register, value, inner, Stmt, gone, instr, label, variable, comment, org, bytes, words, Program, at, onInstr, lastOf, onLast, retarget}
+use Rattle.rules.specs.Programs.{Placeℕ, Operand, register, value, inner, Stmt, gone, Program, at, onInstr, lastOf, onLast, retarget}
 use Rattle.rules.specs.Layout.{Origin, origin}
 use Rattle.rules.specs.Rewriting.{innerAt, anchorTarget, anchor, optimized, instrBytes}
 use Rattle.rules.specs.Output.{plainTarget, writeBack, operandBytes, frameOf}
 use Rattle.promises.specs.Demand2.{outputProgram}
 use Rattle.promises.specs.Room.{frameBytes}
+use Rattle.rules.proofs.Laws.{by-instr, by-change, other}
 use Rattle.promises.proofs.General.{total-below, total-alike}
 use Rattle.promises.proofs.Steps.{Step, invert, bounce, shrink}
 use Rattle.promises.proofs.Weights.{weigh-inverted, weigh-trampoline, weigh-shrunk}
@@ -95,24 +96,10 @@ plain-width p (value e) = refl
 plain-width p (inner i o) = refl
 
 room-less : (f : Operand → Operand) → ((x : Operand) → width (f x) ≤ width x) → (s : Stmt) → frameRoom (retarget f s) ≤ frameRoom s
-room-less f h gone = omega arith
-room-less f h (instr g xs c) = omega (arith, last-width f h xs)
-room-less f h (label n) = omega arith
-room-less f h (variable n e) = omega arith
-room-less f h (comment x) = omega arith
-room-less f h (org l) = omega arith
-room-less f h (bytes es) = omega arith
-room-less f h (words es) = omega arith
+room-less f h s = by-change (λ s t. frameRoom t ≤ frameRoom s) _ (λ g xs c. omega (arith, last-width f h xs)) (λ s n. omega arith) s
 
 room-same : (f : Operand → Operand) → ((x : Operand) → width (f x) ≡ width x) → (s : Stmt) → frameRoom (retarget f s) ≡ frameRoom s
-room-same f h gone = refl
-room-same f h (instr g xs c) = ap (λ (n : ℕ). 2 + n) (last-same f h xs)
-room-same f h (label n) = refl
-room-same f h (variable n e) = refl
-room-same f h (comment x) = refl
-room-same f h (org l) = refl
-room-same f h (bytes es) = refl
-room-same f h (words es) = refl
+room-same f h s = by-change (λ s t. frameRoom t ≡ frameRoom s) _ (λ g xs c. ap (λ (n : ℕ). 2 + n) (last-same f h xs)) (λ s n. refl) s
 
 anchor-room : (p : Program) → total frameRoom (anchor p) ≤ total frameRoom p
 anchor-room p =
@@ -156,28 +143,14 @@ plain-operands (x ∷ xs) h =
 
 plain-room : (s : Stmt) → plainStmt s ≡ true → frameBytes s ≡ frameRoom s
 unfolding frameOf
-plain-room gone h = refl
-plain-room (instr f xs c) h = omega (arith, plain-operands xs h)
-plain-room (label n) h = refl
-plain-room (variable n e) h = refl
-plain-room (comment x) h = refl
-plain-room (org l) h = refl
-plain-room (bytes es) h = refl
-plain-room (words es) h = refl
+plain-room s = by-instr (λ s. plainStmt s ≡ true → frameBytes s ≡ frameRoom s) (λ f xs c h. omega (arith, plain-operands xs h)) (λ s n h. sym (other (frameBytes s) _ s n)) s
 
 plain-total : (p : Program) → every plainStmt p ≡ true → total frameBytes p ≡ total frameRoom p
 plain-total p h = total-ext frameBytes frameRoom p gone (λ i k. plain-room (at p i) (every-any plainStmt p i gone (unfold every in refl) h))
 
 made-plain : (p : Program) → WellMade p → (i : Placeℕ) (s : Stmt) → at p i ≡ s → plainStmt s ≡ true
 unfolding every
-made-plain p w i gone e = refl
-made-plain p w i (instr f xs c) e = made-instr p w i f xs c e .1
-made-plain p w i (label n) e = refl
-made-plain p w i (variable n d) e = refl
-made-plain p w i (comment x) e = refl
-made-plain p w i (org l) e = refl
-made-plain p w i (bytes es) e = refl
-made-plain p w i (words es) e = refl
+made-plain p w i = by-instr (λ s. at p i ≡ s → plainStmt s ≡ true) (λ f xs c e. made-instr p w i f xs c e .1) (λ s n e. ap (every isPlain) (other [] _ s n))
 
 -- the output needs no more frame bytes than the input
 pub output-frames : (p : Program) → WellMade p → total frameBytes (outputProgram p) ≤ total frameBytes p

@@ -14,9 +14,9 @@ use Rattle.rules.specs.declared.Kind.the-variants.{Reg, I8, D9, Bit, Rel8, A12,
 use Rattle.rules.specs.Answers.{ok, _>>=_, require}
 use Rattle.rules.specs.Expressions.{Expr, pair, bytesOf}
 use Rattle.rules.specs.Forms.{operandsAt}
-use Rattle.rules.specs.Programs.{Placeℕ, Operand, register, value, inner, Stmt, gone, instr, label, variable, comment, org, bytes, words}
+use Rattle.rules.specs.Programs.{Placeℕ, Operand, register, value, inner, Stmt, gone, instr, label, variable, comment, org, bytes, words, isGone}
 use Rattle.rules.specs.Listing.{taken, takeByte, takePair, takeExpr, takeRegister, takeValue, takeOperand, takeOperands, takeExprs, takeItems, readInstr, readLabel, readVariable, readOrg, readBytes, readWords, readFrame}
-use Rattle.rules.specs.Output.{isGone, operandBytes, frameOf}
+use Rattle.rules.specs.Output.{operandBytes, frameOf}
 use Rattle.promises.specs.Demand2.{own}
 use Rattle.promises.proofs.RoundTrip.{two-back, readExpr-back, AllBytes, no-bytes, cons-bytes, append-bytes, pair-bytes, fine-bytes}
 use Rattle.promises.proofs.Frames.{isPlain}

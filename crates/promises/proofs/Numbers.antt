@@ -2,7 +2,7 @@
 use mathlib.Core.Path.{_≡_, refl}
 use mathlib.Core.List.{List, [], _∷_, _++_}
 use mathlib.Core.Bool.{Bool, true}
-use Prim.Native.Nat.{ℕ, suc, _+_, _*_, _≤_, _<_}
+use Prim.Native.Nat.{ℕ, suc, _+_, _≤_, _<_}
 use native.Mathlib.Omega.{arith}
 use lib.Dec.{leb, eqb}
 use lib.ListN.{length}
@@ -18,11 +18,11 @@ use Rattle.rules.specs.Answers.{atPlace, Judged, ok, checkEach, require}
 use Rattle.rules.specs.Values.{below, signedByte, nat}
 use Rattle.rules.specs.Expressions.{Expr}
 use Rattle.rules.specs.Forms.{sizeAt, operandsAt}
-use Rattle.rules.specs.Programs.{Placeℕ, Addressℕ, Operand, Stmt, gone, instr, label, variable, comment, org, bytes, words, Program, asName}
+use Rattle.rules.specs.Programs.{Placeℕ, Addressℕ, Operand, Stmt, gone, instr, label, variable, comment, org, bytes, words, Program, asName, Space, empty, exactly, from, spaceOf, Naming as NamingOf, unnamed, labels, binds, namingOf}
 use Rattle.rules.specs.Layout.{after}
 use Rattle.rules.specs.Names.{enter, Key, Entry, placedFrom, placed}
 use Rattle.rules.specs.Encoding.{page, field, byte, word}
-use Rattle.rules.specs.Judging.{keysIn, areNew, noNameTwice, reaches, settles, positionsFit, valueAt, worth, worthOf, define, defineAll, fields, items, encode, encodeAll}
+use Rattle.rules.specs.Judging.{keysIn, areNew, noNameTwice, reaches, settles, positionsFit, valueAt, worth, worthOf, define, defineAll, fields, items, encode, encodeAll, settlesIn, defineIn}
 use Rattle.promises.specs.Demand1.{hasNumber, Blames}
 use Rattle.promises.proofs.Says.{Says, says-less, says-require, says-bind, says-then, Nothing-more}
 
@@ -54,14 +54,12 @@ module _ (P : Placeℕ → Type 0) where
   reaches-says i q h = says-require Any (Laying P) (leb q 65536) (Beyond (atPlace i)) (ok tt) (record { number = refl; place = h }) (λ t. tt)
 
   pub settles-says : (i : Placeℕ) (q : Addressℕ) (s : Stmt) → P i → Says Any (Laying P) (settles i q s)
-  settles-says i q gone h = tt
-  settles-says i q (instr f xs c) h = reaches-says i (q + sizeAt f) h
-  settles-says i q (label m) h = tt
-  settles-says i q (variable m e) h = tt
-  settles-says i q (comment x) h = tt
-  settles-says i q (org l) h = says-require Any (Laying P) (leb q l) (Back (atPlace i)) (ok tt) (record { number = refl; place = h }) (λ t. tt)
-  settles-says i q (bytes es) h = reaches-says i (q + length es) h
-  settles-says i q (words es) h = reaches-says i (q + 2 * length es) h
+  settles-says i q s h = on (spaceOf s)
+    where
+      on : (x : Space) → Says Any (Laying P) (settlesIn i q x)
+      on empty = tt
+      on (exactly n) = reaches-says i (q + n) h
+      on (from l) = says-require Any (Laying P) (leb q l) (Back (atPlace i)) (ok tt) (record { number = refl; place = h }) (λ t. tt)
 
   -- 4 and 7
   value-defines : (i : Placeℕ) (o : Outcome) → P i → Says Any (Defining P) (valueAt i o)
@@ -70,14 +68,12 @@ module _ (P : Placeℕ → Type 0) where
   value-defines i Nothing h = record { number = refl; place = h }
 
   pub define-says : (above : List Entry) (i : Placeℕ) (k : ℕ) (q : Addressℕ) (s : Stmt) → P i → Says Any (Defining P) (define above i k q s)
-  define-says above i k q gone h = tt
-  define-says above i k q (instr f xs c) h = tt
-  define-says above i k q (label m) h = tt
-  define-says above i k q (variable m e) h = says-bind Any Any (Defining P) (valueAt i (worth above k e)) _ (value-defines i (worth above k e) h) (λ z t. tt)
-  define-says above i k q (comment x) h = tt
-  define-says above i k q (org l) h = tt
-  define-says above i k q (bytes es) h = tt
-  define-says above i k q (words es) h = tt
+  define-says above i k q s h = on (namingOf s)
+    where
+      on : (x : NamingOf) → Says Any (Defining P) (defineIn above i k q x)
+      on unnamed = tt
+      on (labels m) = tt
+      on (binds m e) = says-bind Any Any (Defining P) (valueAt i (worth above k e)) _ (value-defines i (worth above k e) h) (λ z t. tt)
 
   -- 4, 7 and 8 to 11
   value-encodes : (i : Placeℕ) (o : Outcome) → P i → Says Any (Encoding P) (valueAt i o)

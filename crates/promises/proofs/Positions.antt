@@ -13,11 +13,11 @@ use Rattle.laws.proofs.Tests.{none-some, and-true}
 use Rattle.rules.specs.declared.Outcome.{Outcome}
 use Rattle.rules.specs.declared.Outcome.the-variants.{Is, Unknown, Nothing}
 use Rattle.rules.specs.Answers.{ok, checkEach}
-use Rattle.rules.specs.Programs.{Placeℕ, Addressℕ, Operand, Stmt, gone, instr, label, variable, comment, org, bytes, words, Program, at, byteCount, retarget}
-use Rattle.rules.specs.Layout.{after, positionFrom, position, Origin, originFrom, origin}
+use Rattle.rules.specs.Programs.{Placeℕ, Addressℕ, Operand, Stmt, Program, at, byteCount, retarget, Space, empty, exactly, from, spaceOf, bytesIn}
+use Rattle.rules.specs.Layout.{after, positionFrom, position, Origin, originFrom, origin, behind}
 use Rattle.rules.specs.Names.{enter, placedFrom, placed}
-use Rattle.rules.specs.Judging.{settles, positionsFit}
-use Rattle.rules.proofs.Laws.{next-ok, require-ok}
+use Rattle.rules.specs.Judging.{settles, positionsFit, settlesIn}
+use Rattle.rules.proofs.Laws.{next-ok, require-ok, by-change}
 
 -- ---- a change that moves nothing
 pub record SameRoom (s t : Stmt) : Type 0 where
@@ -30,14 +30,7 @@ room-same s = record { goes-on = λ q. refl; as-big = refl }
 
 -- operands changed
 pub room-retarget : (f : Operand → Operand) (s : Stmt) → SameRoom s (retarget f s)
-room-retarget f gone = room-same gone
-room-retarget f (instr g xs c) = record { goes-on = λ q. refl; as-big = refl }
-room-retarget f (label n) = room-same (label n)
-room-retarget f (variable n e) = room-same (variable n e)
-room-retarget f (comment x) = room-same (comment x)
-room-retarget f (org l) = room-same (org l)
-room-retarget f (bytes es) = room-same (bytes es)
-room-retarget f (words es) = room-same (words es)
+room-retarget f s = by-change SameRoom _ (λ g xs c. record { goes-on = λ q. refl; as-big = refl }) (λ s n. room-same s) s
 
 -- two programs of one length whose statements take the same room, place by place
 abbrev pub AllSameRoom : Program → Program → Type 0
@@ -117,14 +110,12 @@ origin-of p Nothing g e = none-some g e
 
 -- ---- positions rise where they fit
 after-size : (i : Placeℕ) (q : Addressℕ) (s : Stmt) → settles i q s ≡ ok tt → q + byteCount s ≤ after q s
-after-size i q gone h = omega arith
-after-size i q (instr f xs c) h = omega arith
-after-size i q (label n) h = omega arith
-after-size i q (variable n e) h = omega arith
-after-size i q (comment x) h = omega arith
-after-size i q (org l) h = omega (arith, leb-true q l (require-ok (leb q l) _ _ tt h .0))
-after-size i q (bytes es) h = omega arith
-after-size i q (words es) h = omega arith
+after-size i q s = on (spaceOf s)
+  where
+    on : (x : Space) → settlesIn i q x ≡ ok tt → q + bytesIn x ≤ behind q x
+    on empty h = omega arith
+    on (exactly n) h = omega arith
+    on (from l) h = omega (arith, leb-true q l (require-ok (leb q l) _ _ tt h .0))
 
 pub record Fit (i k q : ℕ) (s : Stmt) (p : Program) : Type 0 where
   pub settled : settles i q s ≡ ok tt

@@ -7,9 +7,10 @@ use native.Mathlib.Omega.{arith}
 use lib.ListN.{length, getD}
 use Rattle.laws.specs.Lists.{total}
 use Rattle.laws.proofs.Tests.{true-false}
-use Rattle.rules.specs.Programs.{Placeℕ, Addressℕ, Operand, Stmt, gone, instr, label, variable, comment, org, bytes, words, Program, at, byteCount, retarget}
+use Rattle.rules.specs.Programs.{Placeℕ, Addressℕ, Operand, Stmt, gone, Program, at, byteCount, retarget, isGone}
 use Rattle.rules.specs.Layout.{after, positionFrom, position}
-use Rattle.rules.specs.Output.{isGone, compact, stemsFrom, stems, plainTarget, writeBack}
+use Rattle.rules.specs.Output.{compact, stemsFrom, stems, plainTarget, writeBack}
+use Rattle.rules.proofs.Laws.{by-change}
 use Rattle.promises.proofs.Compacts.{View, is-gone, is-live, view, compact-live}
 
 abbrev pub rank : Program → Placeℕ → Placeℕ
@@ -65,14 +66,7 @@ stems-rank p b d h = let r = stems-from-rank 0 p b d h in (r .0, omega (arith, r
 
 -- ---- writing back drops nothing
 pub gone-retarget : (f : Operand → Operand) (s : Stmt) → isGone (retarget f s) ≡ isGone s
-gone-retarget f gone = refl
-gone-retarget f (instr g xs c) = refl
-gone-retarget f (label n) = refl
-gone-retarget f (variable n e) = refl
-gone-retarget f (comment x) = refl
-gone-retarget f (org l) = refl
-gone-retarget f (bytes es) = refl
-gone-retarget f (words es) = refl
+gone-retarget f s = by-change (λ s t. isGone t ≡ isGone s) _ (λ g xs c. refl) (λ s n. refl) s
 
 rank-map : (f : Operand → Operand) (p : Program) (b : Placeℕ) → rank (map (λ s. retarget f s) p) b ≡ rank p b
 rank-map f [] b = refl
@@ -86,14 +80,11 @@ rank-writeBack p b = rank-map (plainTarget p) p b
 
 -- what has a byte is not gone; nor is an instruction
 pub byte-live : (s : Stmt) (o : ℕ) → o < byteCount s → isGone s ≡ false
-byte-live gone o h = absurd (omega arith)
-byte-live (instr f xs c) o h = refl
-byte-live (label n) o h = refl
-byte-live (variable n e) o h = refl
-byte-live (comment x) o h = refl
-byte-live (org l) o h = refl
-byte-live (bytes es) o h = refl
-byte-live (words es) o h = refl
+byte-live s o h = on (view s) h
+  where
+    on : {s : Stmt} → View s → o < byteCount s → isGone s ≡ false
+    on is-gone h = absurd (omega arith)
+    on (is-live l) h = l
 
 -- ---- sums and counts over what is left
 pub total-compact : (w : Stmt → ℕ) → w gone ≡ 0 → (p : Program) → total w (compact p) ≡ total w p

@@ -22,6 +22,7 @@ use Rattle.rules.specs.Output.{operandBytes, frameOf, writeBack, compact}
 use Rattle.rules.specs.Run.{outputOf}
 use Rattle.promises.specs.Demand2.{Input, outputProgram, own, ownFrom, ReadsBack}
 use Rattle.promises.specs.Room.{frameBytes}
+use Rattle.rules.proofs.Laws.{by-change}
 use Rattle.promises.proofs.Sounds.{shapes, Sound, Sounds}
 use Rattle.promises.proofs.Listings.{read-made, read-limits}
 use Rattle.promises.proofs.Compacts.{plainStmt, View, is-gone, is-live, view, compact-live}
@@ -84,9 +85,9 @@ compact-writable (s ∷ p) k h = on (view s) (k 0) (h 0) (compact-writable p (λ
 -- ---- an instruction's own place is not seen by judging
 own-alike : (p p′ : Program) → Kept p p′ → (i : Placeℕ) (s : Stmt) → Alike p p′ s (own i s)
 unfolding asName encode
-own-alike p p′ k i gone = same-alike p p′ k gone
-own-alike p p′ k i (instr f xs c) =
-    let a = same-alike p p′ k (instr f xs c) in
+own-alike p p′ k i s =
+    by-change (Alike p p′) _
+    (λ f xs c. let a = same-alike p p′ k (instr f xs c) in
     record {
       goes-on = a .goes-on;
       enters = a .enters;
@@ -95,23 +96,11 @@ own-alike p p′ k i (instr f xs c) =
       defined = a .defined;
       encoded = a .encoded;
       laid = a .laid;
-    }
-own-alike p p′ k i (label n) = same-alike p p′ k (label n)
-own-alike p p′ k i (variable n e) = same-alike p p′ k (variable n e)
-own-alike p p′ k i (comment x) = same-alike p p′ k (comment x)
-own-alike p p′ k i (org l) = same-alike p p′ k (org l)
-own-alike p p′ k i (bytes es) = same-alike p p′ k (bytes es)
-own-alike p p′ k i (words es) = same-alike p p′ k (words es)
+    })
+    (λ s n. same-alike p p′ k s) s
 
 own-room : (i : Placeℕ) (s : Stmt) → SameRoom s (own i s)
-own-room i gone = room-same gone
-own-room i (instr f xs c) = record { goes-on = λ q. refl; as-big = refl }
-own-room i (label n) = room-same (label n)
-own-room i (variable n e) = room-same (variable n e)
-own-room i (comment x) = room-same (comment x)
-own-room i (org l) = room-same (org l)
-own-room i (bytes es) = room-same (bytes es)
-own-room i (words es) = room-same (words es)
+own-room i s = by-change SameRoom _ (λ f xs c. record { goes-on = λ q. refl; as-big = refl }) (λ s n. room-same s) s
 
 length-own : (i : Placeℕ) (p : Program) → length (ownFrom i p) ≡ length p
 unfolding ownFrom

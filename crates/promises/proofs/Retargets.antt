@@ -8,6 +8,7 @@ use Rattle.rules.specs.Programs.{Placeℕ, Addressℕ, Operand, register, value
 use Rattle.rules.specs.Layout.{position}
 use Rattle.rules.specs.Names.{Entry}
 use Rattle.rules.specs.Judging.{worthOf, fields, encode}
+use Rattle.rules.proofs.Laws.{by-change}
 use Rattle.promises.proofs.Alike.{Alike}
 
 -- an operand is worth in p′ what it is worth in p, and so is one that f changes
@@ -63,21 +64,16 @@ module _ (p p′ : Program) (kept : Kept p p′) where
 
     -- a statement whose target changes
     pub retarget-alike : (s : Stmt) → Alike p p′ s (retarget f s)
-    unfolding encode
-    retarget-alike gone = same-alike gone
-    retarget-alike (instr g xs c) =
-        record {
+    unfolding encode asName
+    retarget-alike s =
+        by-change (Alike p p′) _
+        (λ g xs c. record {
           goes-on = λ q. refl;
           enters = λ k. refl;
-          called = unfold asName in refl;
+          called = refl;
           settled = λ i q. refl;
           defined = λ above i k q. refl;
           encoded = λ names i k q. rw (fields-last names i k (q + sizeAt g) 0 (operandsAt g) xs);
           laid = λ q b rest. refl;
-        }
-    retarget-alike (label n) = same-alike (label n)
-    retarget-alike (variable n e) = same-alike (variable n e)
-    retarget-alike (comment x) = same-alike (comment x)
-    retarget-alike (org l) = same-alike (org l)
-    retarget-alike (bytes es) = same-alike (bytes es)
-    retarget-alike (words es) = same-alike (words es)
+        })
+        (λ s n. same-alike s) s

@@ -1,14 +1,14 @@
 -- The end form is sound as the input is, so that its frames can be read back: rewrites put only sound operands where sound operands stood, and a
 -- number that is written back fits its field.
-use mathlib.Core.Path.{_≡_, refl}
+use mathlib.Core.Path.{_≡_, refl, _∙_}
 use mathlib.Core.Logic.{⊎-elim}
 use mathlib.Core.List.{List, [], _∷_}
 use mathlib.Core.Option.{Option, none, some}
 use mathlib.Core.Bool.{Bool, true, false, cond}
-use Prim.Native.Nat.{ℕ, zero, suc, _+_, _*_, _≤_, _<_}
+use Prim.Native.Nat.{ℕ, zero, suc, _+_, _≤_, _<_}
 use native.Mathlib.Omega.{arith}
 use lib.Dec.{leb, ltb}
-use lib.ListN.{length, set}
+use lib.ListN.{set}
 use lib.IntN.{pos}
 use borrow.Author.Tests.{leb-true, ltb-true, le-leb}
 use Rattle.laws.specs.Lists.{total, every}
@@ -17,14 +17,14 @@ use Rattle.laws.proofs.Lists.{every-any}
 use Rattle.rules.specs.declared.Outcome.the-variants.{Unknown}
 use Rattle.rules.specs.Answers.{ok}
 use Rattle.rules.specs.Expressions.{Expr, num, evalTree, holdsName, bytesOf}
-use Rattle.rules.specs.Forms.{formAt, sizeAt, isUnconditional}
-use Rattle.rules.specs.Programs.{Placeℕ, Addressℕ, Operand, register, value, inner, Stmt, gone, instr, label, variable, comment, org, bytes, words, Program, at, byteCount, onInstr, argsOf, lastOf, onLast, retarget}
+use Rattle.rules.specs.Forms.{formAt, isUnconditional}
+use Rattle.rules.specs.Programs.{Placeℕ, Addressℕ, Operand, register, value, inner, Stmt, gone, instr, Program, at, byteCount, onInstr, argsOf, lastOf, onLast, retarget, Space, empty, exactly, from, spaceOf, bytesIn}
 use Rattle.rules.specs.Layout.{after, positionFrom, position, Origin, origin}
 use Rattle.rules.specs.Names.{enter, placedFrom, placed}
-use Rattle.rules.specs.Judging.{settles, positionsFit}
+use Rattle.rules.specs.Judging.{settles, positionsFit, settlesIn}
 use Rattle.rules.specs.Rewriting.{innerAt, anchorTarget, anchor, ofInner, everyInnerLabel, aimed, dropAll, acceptable, optimized, instrBytes}
 use Rattle.rules.specs.Output.{plainTarget, writeBack, frameOf}
-use Rattle.rules.proofs.Laws.{require-ok}
+use Rattle.rules.proofs.Laws.{require-ok, by-instr, by-change, other}
 use Rattle.promises.specs.Room.{frameBytes}
 use Rattle.promises.proofs.General.{all-set}
 use Rattle.promises.proofs.Steps.{Step, invert, bounce, shrink}
@@ -89,14 +89,8 @@ sound-anchored p false (value e) s = on (holdsName e) (origin p (evalTree (λ n.
 sound-anchored p false (inner i o) s = s
 
 kept-retarget : (f : Operand → Operand) → ((b : Bool) (x : Operand) → Sound b x → Sound b (f x)) → (s : Stmt) → Kept-sound s → Kept-sound (retarget f s)
-kept-retarget f h gone k = k
-kept-retarget f h (instr g xs c) k = record { sound = (k .sound .0, sounds-last f h (shapes g) xs (k .sound .1)); short = refl }
-kept-retarget f h (label n) k = k
-kept-retarget f h (variable n e) k = k
-kept-retarget f h (comment x) k = k
-kept-retarget f h (org l) k = k
-kept-retarget f h (bytes es) k = k
-kept-retarget f h (words es) k = k
+kept-retarget f h s =
+    by-change (λ s t. Kept-sound s → Kept-sound t) _ (λ g xs c k. record { sound = (k .sound .0, sounds-last f h (shapes g) xs (k .sound .1)); short = refl }) (λ s n k. k) s
 
 AllKept : Program → Type 0
 AllKept p = (i : Placeℕ) → Kept-sound (at p i)
@@ -106,14 +100,7 @@ unfolding AllKept
 made-kept p w i = record { sound = w .sound i; short = on (at p i) (w .short i) }
   where
     on : (s : Stmt) → frameBytes s ≤ 120 → instrOrShort s ≡ true
-    on gone h = le-leb (frameBytes gone) 120 h
-    on (instr f xs c) h = refl
-    on (label n) h = le-leb (frameBytes (label n)) 120 h
-    on (variable n e) h = le-leb (frameBytes (variable n e)) 120 h
-    on (comment x) h = le-leb (frameBytes (comment x)) 120 h
-    on (org l) h = le-leb (frameBytes (org l)) 120 h
-    on (bytes es) h = le-leb (frameBytes (bytes es)) 120 h
-    on (words es) h = le-leb (frameBytes (words es)) 120 h
+    on = by-instr (λ s. frameBytes s ≤ 120 → instrOrShort s ≡ true) (λ f xs c h. refl) (λ s n h. other (leb (frameBytes s) 120) _ s n ∙ le-leb (frameBytes s) 120 h)
 
 anchor-kept : (p : Program) → WellMade p → AllKept (anchor p)
 unfolding AllKept
@@ -165,14 +152,12 @@ end-kept p w = chain-keeps AllKept kept-step (total instrBytes p) (anchor p) (an
 
 -- ---- a byte of a statement lies below 65,536
 reaches-end : (i : Placeℕ) (q : Addressℕ) (s : Stmt) → settles i q s ≡ ok tt → 1 ≤ byteCount s → q + byteCount s ≤ 65536
-reaches-end i q gone e h = absurd (omega arith)
-reaches-end i q (instr f xs c) e h = leb-true (q + sizeAt f) 65536 (require-ok (leb (q + sizeAt f) 65536) _ _ tt e .0)
-reaches-end i q (label n) e h = absurd (omega arith)
-reaches-end i q (variable n d) e h = absurd (omega arith)
-reaches-end i q (comment x) e h = absurd (omega arith)
-reaches-end i q (org l) e h = absurd (omega arith)
-reaches-end i q (bytes es) e h = leb-true (q + length es) 65536 (require-ok (leb (q + length es) 65536) _ _ tt e .0)
-reaches-end i q (words es) e h = leb-true (q + 2 * length es) 65536 (require-ok (leb (q + 2 * length es) 65536) _ _ tt e .0)
+reaches-end i q s = on (spaceOf s)
+  where
+    on : (x : Space) → settlesIn i q x ≡ ok tt → 1 ≤ bytesIn x → q + bytesIn x ≤ 65536
+    on empty e h = absurd (omega arith)
+    on (exactly n) e h = leb-true (q + n) 65536 (require-ok (leb (q + n) 65536) _ _ tt e .0)
+    on (from l) e h = absurd (omega arith)
 
 position-end : (i k q : ℕ) (p : Program) → positionsFit (placedFrom i k q p) ≡ ok tt → (j : Placeℕ) → 1 ≤ byteCount (at p j) → positionFrom q p j + byteCount (at p j) ≤ 65536
 unfolding positionFrom
@@ -206,14 +191,9 @@ sounds-written p l (b ∷ bs) (x ∷ y ∷ xs) t s =
 
 kept-written : (p : Program) → positionsFit (placed p) ≡ ok tt → (s : Stmt) → every (ofInner (λ owner o. ltb o (byteCount (at p owner)))) (argsOf s) ≡ true → Kept-sound s
     → Kept-sound (retarget (plainTarget p) s)
-kept-written p l gone t k = k
-kept-written p l (instr f xs c) t k = record { sound = (k .sound .0, sounds-written p l (shapes f) xs t (k .sound .1)); short = refl }
-kept-written p l (label n) t k = k
-kept-written p l (variable n e) t k = k
-kept-written p l (comment x) t k = k
-kept-written p l (org a) t k = k
-kept-written p l (bytes es) t k = k
-kept-written p l (words es) t k = k
+kept-written p l s =
+    by-change (λ s t. every (ofInner (λ owner o. ltb o (byteCount (at p owner)))) (argsOf s) ≡ true → Kept-sound s → Kept-sound t) _
+    (λ f xs c t k. record { sound = (k .sound .0, sounds-written p l (shapes f) xs t (k .sound .1)); short = refl }) (λ s n t k. k) s
 
 -- the end form, written back
 pub written-sound : (p : Program) → WellMade p → acceptable (optimized p .program) ≡ true → (i : Placeℕ) → Kept-sound (at (writeBack (optimized p .program)) i)

@@ -17,12 +17,12 @@ use Rattle.laws.proofs.Lists.{total-one, total-some, total-two-any, every-any}
 use Rattle.rules.specs.declared.Outcome.the-variants.{Is, Unknown}
 use Rattle.rules.specs.Answers.{ok}
 use Rattle.rules.specs.Expressions.{evalTree}
-use Rattle.rules.specs.Programs.{Placeℕ, Operand, register, value, inner, Stmt, gone, instr, Program, at, byteCount, argsOf, lastOf, onLast, retarget}
+use Rattle.rules.specs.Programs.{Placeℕ, Operand, register, value, inner, Stmt, gone, instr, Program, at, byteCount, argsOf, lastOf, onLast, retarget, isGone}
 use Rattle.rules.specs.Layout.{position, origin}
 use Rattle.rules.specs.Names.{placed}
 use Rattle.rules.specs.Judging.{positionsFit, judge}
 use Rattle.rules.specs.Rewriting.{isAnchored, innerAt, anchorTarget, anchor, ofInner, everyInnerLabel, instrBytes, optimized}
-use Rattle.rules.specs.Output.{plainTarget, writeBack, isGone, compact}
+use Rattle.rules.specs.Output.{plainTarget, writeBack, compact}
 use Rattle.rules.specs.Run.{outputOf}
 use Rattle.promises.specs.Demand2.{Input, outputProgram}
 use Rattle.promises.specs.Demand3.{Aims, carries, TargetKept}

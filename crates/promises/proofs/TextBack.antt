@@ -11,9 +11,9 @@ use borrow.Author.Tests.{ltb-true, le-leb, lt-leb, lt-ltb, le-ltb, eq-eqb, ne-eq
 use Rattle.laws.specs.Lists.{total, every, each}
 use Rattle.laws.proofs.Tests.{and-true, and-both, lt-or-le}
 use Rattle.rules.specs.Answers.{ok, _>>=_, require}
-use Rattle.rules.specs.Programs.{Stmt, Program}
+use Rattle.rules.specs.Programs.{Stmt, Program, isGone}
 use Rattle.rules.specs.Listing.{Line, linesOf, isDigit, digit, unhex, withinLimits, wellFormed, readLines}
-use Rattle.rules.specs.Output.{isGone, frameOf, hexDigit, hexByte, lineOf, textOf}
+use Rattle.rules.specs.Output.{frameOf, hexDigit, hexByte, lineOf, textOf}
 use Rattle.promises.specs.Demand2.{own, ownFrom}
 use Rattle.promises.specs.Room.{frameBytes}
 use Rattle.promises.proofs.RoundTrip.{isByte, AllBytes}

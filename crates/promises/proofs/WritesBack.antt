@@ -8,11 +8,12 @@ use Rattle.laws.specs.Lists.{total, every}
 use Rattle.laws.proofs.Tests.{and-true, and-both}
 use Rattle.laws.proofs.Lists.{every-any, every-all, every-set}
 use Rattle.rules.specs.Expressions.{evalTree}
-use Rattle.rules.specs.Programs.{Placeℕ, Operand, register, value, inner, Stmt, gone, instr, label, variable, comment, org, bytes, words, Program, at, argsOf, onLast, retarget}
+use Rattle.rules.specs.Programs.{Placeℕ, Operand, register, value, inner, Stmt, gone, instr, Program, at, argsOf, onLast, retarget}
 use Rattle.rules.specs.Layout.{position}
 use Rattle.rules.specs.Judging.{judge}
 use Rattle.rules.specs.Rewriting.{aimed, dropAll, anchorTarget, anchor, optimized, instrBytes}
 use Rattle.rules.specs.Output.{plainTarget, writeBack}
+use Rattle.rules.proofs.Laws.{by-instr, by-change, other}
 use Rattle.promises.proofs.Steps.{Step, invert, bounce, shrink}
 use Rattle.promises.proofs.Chains.{chain-keeps}
 use Rattle.promises.proofs.Anchors.{at-anchor, anchored-keeps}
@@ -84,25 +85,11 @@ front-plain (x ∷ y ∷ xs) h =
     and-both (isPlain x) (frontPlain (y ∷ xs)) (t .0) (front-plain (y ∷ xs) (t .1))
 
 inner-retarget : (f : Operand → Operand) (s : Stmt) → innerLast s ≡ true → innerLast (retarget f s) ≡ true
-inner-retarget f gone h = refl
-inner-retarget f (instr g xs c) h = front-onLast f xs ∙ h
-inner-retarget f (label n) h = refl
-inner-retarget f (variable n e) h = refl
-inner-retarget f (comment x) h = refl
-inner-retarget f (org l) h = refl
-inner-retarget f (bytes es) h = refl
-inner-retarget f (words es) h = refl
+inner-retarget f s = by-change (λ s t. innerLast s ≡ true → innerLast t ≡ true) _ (λ g xs c h. front-onLast f xs ∙ h) (λ s n h. h) s
 
 -- of what was read, of what is anchored, and of what a step leaves
 inner-made : (p : Program) → WellMade p → (i : Placeℕ) (s : Stmt) → at p i ≡ s → innerLast s ≡ true
-inner-made p w i gone e = refl
-inner-made p w i (instr f xs c) e = front-plain xs (made-instr p w i f xs c e .1)
-inner-made p w i (label n) e = refl
-inner-made p w i (variable n d) e = refl
-inner-made p w i (comment x) e = refl
-inner-made p w i (org l) e = refl
-inner-made p w i (bytes es) e = refl
-inner-made p w i (words es) e = refl
+inner-made p w i = by-instr (λ s. at p i ≡ s → innerLast s ≡ true) (λ f xs c e. front-plain xs (made-instr p w i f xs c e .1)) (λ s n e. ap frontPlain (other [] _ s n))
 
 inner-anchor : (p : Program) → WellMade p → every innerLast (anchor p) ≡ true
 inner-anchor p w =
@@ -146,14 +133,7 @@ plain-last p (x ∷ y ∷ xs) h =
 
 plain-retarget : (p : Program) (s : Stmt) → innerLast s ≡ true → plainStmt (retarget (plainTarget p) s) ≡ true
 unfolding every
-plain-retarget p gone h = refl
-plain-retarget p (instr f xs c) h = plain-last p xs h
-plain-retarget p (label n) h = refl
-plain-retarget p (variable n e) h = refl
-plain-retarget p (comment x) h = refl
-plain-retarget p (org l) h = refl
-plain-retarget p (bytes es) h = refl
-plain-retarget p (words es) h = refl
+plain-retarget p s = by-change (λ s t. innerLast s ≡ true → plainStmt t ≡ true) _ (λ f xs c h. plain-last p xs h) (λ s n h. ap (every isPlain) (other [] _ s n)) s
 
 -- in a whole program
 pub writeBack-plain : (p : Program) → every innerLast p ≡ true → every plainStmt (writeBack p) ≡ true

@@ -1,10 +1,10 @@
 -- Demand 1 of the letter: "It ends with an answer or with one of twelve numbered refusals naming a statement".
 use mathlib.Core.Path.{_≡_}
 use mathlib.Core.List.{List, [], _∷_}
-use mathlib.Core.Bool.{Bool, true, false, _||_}
+use mathlib.Core.Bool.{Bool, true, false}
 use Prim.Native.Nat.{ℕ, _<_}
-use lib.Dec.{eqb}
 use lib.ListN.{length}
+use Rattle.laws.specs.Lists.{isOneOf}
 use Rattle.rules.specs.declared.Refusal.{Refusal}
 use Rattle.rules.specs.declared.Refusal.the-variants.{Room}
 use Rattle.rules.specs.Refusals.{faultOf}
@@ -14,11 +14,6 @@ use Rattle.rules.specs.Listing.{readListing}
 use Rattle.rules.specs.Names.{Entry, placed}
 use Rattle.rules.specs.Judging.{noNameTwice, positionsFit, defineAll, encodeAll, judge}
 use Rattle.rules.specs.Run.{outputOf, fits}
-
--- the number is one of these
-abbrev pub isOneOf : List ℕ → ℕ → Bool
-isOneOf [] n = false
-isOneOf (x ∷ xs) n = eqb x n || isOneOf xs n
 
 -- a refusal with one of these numbers
 abbrev pub hasNumber : List ℕ → Refusal → Bool

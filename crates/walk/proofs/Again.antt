@@ -13,11 +13,12 @@ use Rattle.laws.proofs.Tests.{and-true, and-both, or-first, or-second}
 use Rattle.laws.proofs.Lists.{every-any, every-all}
 use Rattle.rules.specs.declared.Outcome.the-variants.{Is}
 use Rattle.rules.specs.Forms.{isUnconditional, bz, bnz}
-use Rattle.rules.specs.Programs.{Placeℕ, Operand, inner, Stmt, gone, instr, label, variable, comment, org, bytes, words, Program, at, byteCount, argsOf, lastOf, onLast, retarget}
+use Rattle.rules.specs.Programs.{Placeℕ, Operand, inner, Stmt, gone, isGone, instr, Program, at, byteCount, argsOf, lastOf, onLast, retarget}
 use Rattle.rules.specs.Layout.{position, origin}
 use Rattle.rules.specs.Names.{contextAt}
 use Rattle.rules.specs.Rewriting.{ofInner, everyInnerLabel, acceptable}
-use Rattle.rules.specs.Output.{plainTarget, writeBack, isGone, compact}
+use Rattle.rules.specs.Output.{plainTarget, writeBack, compact}
+use Rattle.rules.proofs.Laws.{by-change}
 use Rattle.promises.specs.Demand2.{own, ownFrom}
 use Rattle.promises.proofs.Acceptable.{acceptable-parts}
 use Rattle.promises.proofs.Looks.{lastOf-onLast}
@@ -57,14 +58,7 @@ inner-sized p g i f c xs d s t = ltb-true 0 (byteCount (at p d)) (ap test (sym t
         ∙ every-any (λ s. every (ofInner (λ owner o. ltb o (byteCount (at p owner)))) (argsOf s)) p i gone (unfold every in refl) (acceptable-parts p g .0)
 
 own-walked : (o : Program) (i : Placeℕ) (s : Stmt) → isWalked o (own i s) ≡ isWalked o s
-own-walked o i gone = refl
-own-walked o i (instr f xs c) = refl
-own-walked o i (label n) = refl
-own-walked o i (variable n e) = refl
-own-walked o i (comment x) = refl
-own-walked o i (org l) = refl
-own-walked o i (bytes es) = refl
-own-walked o i (words es) = refl
+own-walked o i s = by-change (λ s t. isWalked o t ≡ isWalked o s) (λ x. instr (x .form) (x .args) i) (λ f xs c. refl) (λ s n. refl) s
 
 module _ {end o : Program} {m : Machine} (r : Resolved end m) (s : Shown end o) where
   -- what has a byte is an instruction, and is shown as one of the same form

@@ -6,8 +6,8 @@ use lib.Dec.{ltb}
 use borrow.Author.Needs.{needs}
 use borrow.Author.Tests.{eq-eqb, ne-eqb}
 use Rattle.laws.proofs.Tests.{cond-true, cond-false}
-use Rattle.rules.specs.Programs.{Stmt}
-use Rattle.slots.specs.Slots.{slots, slotAt, kindOf}
+use Rattle.rules.specs.Programs.{Stmt, kindOf}
+use Rattle.slots.specs.Slots.{slots, slotAt}
 use Rattle.anchors.proofs.Jumps.{skipped-kind}
 use Rattle.anchors.proofs.changing.skipped_at.Statement.{statement}
 use Rattle.anchors.proofs.changing.skipped_at.Tie as tie

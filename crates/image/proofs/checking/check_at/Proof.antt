@@ -9,7 +9,8 @@ use Rattle.rules.specs.Layout.{position}
 use Rattle.rules.specs.Names.{contextAt}
 use Rattle.rules.specs.Judging.{items}
 use Rattle.listing.specs.Tables.{frameAt}
-use Rattle.slots.specs.Slots.{slotAt, kindOf}
+use Rattle.rules.specs.Programs.{kindOf}
+use Rattle.slots.specs.Slots.{slotAt}
 use Rattle.image.specs.Tables.{Tables, tables, program}
 use Rattle.image.specs.Encoding.{encodeAt, checkedAs, checkOf, itemsIn, boundOf, writeOf}
 use Rattle.image.proofs.Passes.{checked-code, encode-none}

@@ -6,14 +6,14 @@ use native.Mathlib.Omega.{arith}
 use lib.ListN.{getD}
 use borrow.Author.Needs.{needs}
 use Rattle.rules.specs.Answers.{ok}
-use Rattle.rules.specs.Programs.{byteCount}
+use Rattle.rules.specs.Programs.{byteCount, kindOf}
 use Rattle.rules.specs.Layout.{position}
 use Rattle.rules.specs.Names.{contextAt}
 use Rattle.rules.specs.Judging.{items}
 use Rattle.rules.proofs.Laws.{no-ok}
 use Rattle.listing.specs.Tables.{frameAt}
 use Rattle.encoding.specs.Encode.{bytesOfCode}
-use Rattle.slots.specs.Slots.{slotAt, kindOf}
+use Rattle.slots.specs.Slots.{slotAt}
 use Rattle.image.specs.Tables.{Tables, tables, program}
 use Rattle.image.specs.Encoding.{encodeAt, itemsIn, boundOf, writeOf}
 use Rattle.image.specs.Image.{put, widthOf}

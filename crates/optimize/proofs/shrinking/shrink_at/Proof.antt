@@ -5,7 +5,8 @@ use borrow.Author.Needs.{needs}
 use Rattle.rules.specs.Names.{Entry}
 use Rattle.rules.specs.Judging.{namesOf}
 use Rattle.rules.specs.Rewriting.{shrinkAt}
-use Rattle.slots.specs.Slots.{Slots, slots, slotAt, programOf, kindOf}
+use Rattle.rules.specs.Programs.{kindOf}
+use Rattle.slots.specs.Slots.{Slots, slots, slotAt, programOf}
 use Rattle.optimize.proofs.Tries.{tried-as, tried-none}
 use Rattle.optimize.proofs.Shorter.{call-for, shrink-other, shrink-none, shrink-call}
 use Rattle.optimize.proofs.shrinking.shrink_at.Statement.{statement}

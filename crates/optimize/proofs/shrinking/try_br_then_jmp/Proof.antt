@@ -2,7 +2,8 @@
 use mathlib.Core.Path.{ap, _∙_}
 use lib.ListN.{getD}
 use Rattle.rules.specs.Forms.{br, jmp}
-use Rattle.slots.specs.Slots.{Slots, slots, slotAt, kindOf}
+use Rattle.rules.specs.Programs.{kindOf}
+use Rattle.slots.specs.Slots.{Slots, slots, slotAt}
 use Rattle.attempts.specs.Shrinks.{shrunk}
 use Rattle.optimize.proofs.Tries.{same-slots, tried-first, tried-second, tried-missed, still-deep}
 use Rattle.optimize.proofs.Shorter.{br-for, jmp-for}

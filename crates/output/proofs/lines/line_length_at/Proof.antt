@@ -8,7 +8,8 @@ use Rattle.laws.specs.Counts.{tab}
 use Rattle.rules.specs.Layout.{position}
 use Rattle.expression.specs.Sound.{AreBytes}
 use Rattle.listing.specs.Tables.{frameAt}
-use Rattle.slots.specs.Slots.{Slots, slots, slotAt, programOf, kindOf}
+use Rattle.rules.specs.Programs.{kindOf}
+use Rattle.slots.specs.Slots.{Slots, slots, slotAt, programOf}
 use Rattle.output.proofs.Slots.{line-gone, bytes-instr, bytes-other}
 use Rattle.output.proofs.Sizes.{frame-most, line-size, drawn}
 use Rattle.output.proofs.lines.line_length_at.Statement.{statement}

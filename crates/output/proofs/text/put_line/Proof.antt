@@ -6,7 +6,8 @@ use native.Mathlib.Omega.{arith}
 use lib.ListN.{length}
 use borrow.Author.Needs.{needs}
 use Rattle.rules.specs.Output.{lineOf}
-use Rattle.slots.specs.Slots.{Slots, slots, slotAt, programOf, kindOf}
+use Rattle.rules.specs.Programs.{kindOf}
+use Rattle.slots.specs.Slots.{Slots, slots, slotAt, programOf}
 use Rattle.slots.proofs.Slots.{slot-gone}
 use Rattle.output.specs.Digits.{laid}
 use Rattle.output.specs.Lines.{lineAt, bytesAt}

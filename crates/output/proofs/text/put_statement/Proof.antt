@@ -5,7 +5,8 @@ use Prim.Native.Nat.{ℕ, _+_, _*_, _≤_}
 use native.Mathlib.Omega.{arith}
 use lib.ListN.{length, getD}
 use borrow.Author.Needs.{needs}
-use Rattle.slots.specs.Slots.{Slots, slots, slotAt, kindOf}
+use Rattle.rules.specs.Programs.{kindOf}
+use Rattle.slots.specs.Slots.{Slots, slots, slotAt}
 use Rattle.output.specs.Lines.{instrBytes, bytesAt}
 use Rattle.output.proofs.Sizes.{drawn}
 use Rattle.output.proofs.Slots.{bytes-instr, bytes-other}

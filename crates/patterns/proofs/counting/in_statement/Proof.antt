@@ -4,9 +4,9 @@ use mathlib.Core.List.{List, []}
 use Prim.Native.Nat.{ℕ, suc, _-_, _≤_}
 use lib.ListN.{getD}
 use native.Mathlib.Omega.{arith}
-use Rattle.rules.specs.Programs.{overExprs}
+use Rattle.rules.specs.Programs.{overExprs, kindOf}
 use Rattle.listing.specs.Tables.{frameAt, inputAt}
-use Rattle.slots.specs.Slots.{Slots, slots, slotAt, kindOf}
+use Rattle.slots.specs.Slots.{Slots, slots, slotAt}
 use Rattle.slots.proofs.Slots.{slot-data}
 use Rattle.patterns.specs.Mentions.{times, readAs}
 use Rattle.patterns.proofs.Mentions.{in-none, kind-frame}

@@ -7,8 +7,8 @@ use lib.Dec.{eqb}
 use borrow.Author.Needs.{needs}
 use borrow.Author.Tests.{eq-eqb, ne-eqb}
 use Rattle.laws.proofs.Tests.{cond-true, cond-false}
-use Rattle.rules.specs.Programs.{Stmt}
-use Rattle.slots.specs.Slots.{slots, slotAt, kindOf}
+use Rattle.rules.specs.Programs.{Stmt, kindOf}
+use Rattle.slots.specs.Slots.{slots, slotAt}
 use Rattle.patterns.proofs.Programs.{significant-kind}
 use Rattle.patterns.proofs.significance.significant_at.Statement.{statement}
 use Rattle.patterns.proofs.significance.significant_at.Tie as tie

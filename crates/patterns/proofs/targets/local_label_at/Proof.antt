@@ -4,11 +4,11 @@ use mathlib.Core.List.{List, []}
 use Prim.Native.Nat.{ℕ}
 use native.Mathlib.Omega.{arith}
 use borrow.Author.Needs.{needs}
-use Rattle.rules.specs.Programs.{label}
+use Rattle.rules.specs.Programs.{label, kindOf}
 use Rattle.rules.specs.Rewriting.{localLabel}
 use Rattle.rules.specs.Statements.{pairAt}
 use Rattle.listing.specs.Tables.{frameAt}
-use Rattle.slots.specs.Slots.{Slots, slots, slotAt, kindOf, written}
+use Rattle.slots.specs.Slots.{Slots, slots, slotAt, written}
 use Rattle.slots.proofs.Frames.{FrameOf}
 use Rattle.slots.proofs.Slots.{slot-data, written-frame}
 use Rattle.patterns.specs.Targets.{labelAs, standsAt}
