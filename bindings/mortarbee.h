@@ -24,8 +24,9 @@ struct mortarbee_reply {
 /* Judges a listing as it stands, and writes its image. `listing` and `rewrites` are 0. */
 struct mortarbee_reply mortarbee_assemble(const uint8_t *listing, size_t listing_len, uint8_t *image, size_t image_len);
 
-/* Rewrites a listing until nothing can be folded or shrunk, and writes the new listing (without the line 7F) and its image. */
-struct mortarbee_reply mortarbee_optimize_jumps(const uint8_t *listing, size_t listing_len, uint8_t *out, size_t out_len,
+/* Rewrites a listing until nothing can be folded or shrunk, and writes the new listing (without the line 7F) and its image. Of the first three 0 is no and any
+   other number yes: whether comments are kept in the new listing, whether Callf is tried as Call, whether folds are tried. */
+struct mortarbee_reply mortarbee_optimize_jumps(uint8_t comments, uint8_t callf, uint8_t folds, const uint8_t *listing, size_t listing_len, uint8_t *out, size_t out_len,
                                                 uint8_t *image, size_t image_len);
 
 /* Rooms that are never too short: 49,152 characters and 1,024 line feeds, and 65,536 bytes. */

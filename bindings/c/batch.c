@@ -1,5 +1,5 @@
 /* Many listings on standard input, the answer to each on standard output, as tools/oracle --batch --count prints it: the new listing,
-   its 7F line and `IMAGE <hex>`, or the 7E line; then `==`. Built by ../build.sh. */
+   its 7F line and `IMAGE <hex>`, or the 7E line; then `==`. Comments are kept, as the Rust keeps them. Built by ../build.sh. */
 #include <stdio.h>
 #include <stdlib.h>
 #include <string.h>
@@ -14,7 +14,7 @@ static void answer(const uint8_t *listing, size_t n, int assemble) {
     if (assemble) {
         r = mortarbee_assemble(listing, n, image, sizeof image);
     } else {
-        r = mortarbee_optimize_jumps(listing, n, out, sizeof out, image, sizeof image);
+        r = mortarbee_optimize_jumps(1, 1, 1, listing, n, out, sizeof out, image, sizeof image);
     }
     if (r.number != 0) {
         printf("7E%02X%04X%02X%08X\n", (unsigned)r.number, (unsigned)r.place, (unsigned)r.argument, (unsigned)(uint32_t)r.amount);

@@ -101,7 +101,7 @@ static struct mortarbee_reply call(int rewrite, size_t out_n, size_t image_n, ui
     lend(&image_room, image_n, fill + 1);
     alarm(HANG);
     double began = now();
-    r = rewrite ? mortarbee_optimize_jumps(listing_room.start, listing_room.n, out_room.start, out_n, image_room.start, image_n)
+    r = rewrite ? mortarbee_optimize_jumps(1, 1, 1, listing_room.start, listing_room.n, out_room.start, out_n, image_room.start, image_n)
                 : mortarbee_assemble(listing_room.start, listing_room.n, image_room.start, image_n);
     double took = now() - began;
     alarm(0);

@@ -59,7 +59,7 @@ class OneByOne:
     name = "ours"
 
     def __init__(self, word):
-        self.command = [RUNNER, os.path.join(TARGET, "bin", "mortarbee")] + ([word] if word else [])
+        self.command = [RUNNER, os.path.join(TARGET, "bin", "mortarbee")] + [word or "--comments"]
 
     def ask(self, texts, seconds):
         answers = []

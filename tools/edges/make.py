@@ -9,8 +9,9 @@ import sys
 from pathlib import Path
 
 ROOT = Path(__file__).resolve().parents[2]
-TABLES = ["Points", "RunsReading", "RunsJudging", "RunsRules", "RunsFolds"]
-ROW = re.compile(r'^\s+(turns|keeps|encodes|refuses|faults|prints) "((?:[^"\\]|\\.)*)"(.*?)(?: ∷)?$')
+TABLES = ["Points", "RunsReading", "RunsJudging", "RunsRules", "RunsFolds", "RunsSettings"]
+ROW = re.compile(r'^\s+(turns|keeps|encodes|refuses|faults|prints|turnsByDefault|turnsWith(?: (?:true|false)){3}) "((?:[^"\\]|\\.)*)"(.*?)(?: ∷)?$')
+DOCUMENT_01, BY_DEFAULT = 7, 6  # settings by number: 1 keeps comments, 2 lets Callf shrink, 4 lets folds run
 
 
 def rows():
@@ -69,11 +70,19 @@ def signed(rest):
     return int(n, 0) if sign == "pos" else -int(n, 0) - 1
 
 
+def setting(kind):
+    """The settings that a row is about."""
+    switches = kind.split()[1:]
+    if switches:
+        return sum(1 << i for i, switch in enumerate(switches) if switch == "true")
+    return BY_DEFAULT if kind == "turnsByDefault" else DOCUMENT_01
+
+
 def expectation(kind, body, rest):
     """What a row says of the answer: a test of its lines and its image."""
     strings = re.findall(r'"([^"]*)"', rest)
     words = re.sub(r'"[^"]*"', " ", rest).split()
-    if kind == "turns":
+    if kind.startswith("turns"):
         return lambda lines, image: lines == strings[0].split(" ")
     if kind == "keeps":
         return lambda lines, image: lines == body.split("\n")[:-1] + [strings[0]]
@@ -90,15 +99,19 @@ def expectation(kind, body, rest):
 
 
 def answers():
-    """The answers of the stored output, in the order of the blocks."""
+    """The answers of the stored output, in the order of the blocks: lines by settings, where they are others than document 01's, and the image."""
     for part in (ROOT / "crates/edges/stdout").read_text().split("==\n")[:-1]:
-        lines, image = [], b""
+        asked, image = DOCUMENT_01, b""
+        lines = {DOCUMENT_01: []}
         for line in part.splitlines():
             if line.startswith("IMAGE "):
                 zeros, _, digits = line[6:].partition(" ")
                 image = bytes(int(zeros, 16)) + bytes.fromhex(digits)
+            elif line.startswith("ASKED "):
+                asked = int(line[6:])
+                lines[asked] = []
             elif not line.startswith("ROOMS "):
-                lines.append(line)
+                lines[asked].append(line)
         yield lines, image
 
 
@@ -112,11 +125,12 @@ def compare():
     met = missed = 0
     for (body, tests), (lines, image) in zip(blocks().items(), answers(), strict=True):
         for called, kind, rest in tests:
-            if expectation(kind, body, rest)(lines, image):
+            answer = lines.get(setting(kind), lines[DOCUMENT_01])
+            if expectation(kind, body, rest)(answer, image):
                 met += 1
             else:
                 missed += 1
-                print("NOT MET:", called, kind, body.split(), lines)
+                print("NOT MET:", called, kind, body.split(), answer)
     print(met, "rows met,", missed, "not met")
     return missed == 0
 

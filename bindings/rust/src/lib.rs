@@ -57,6 +57,9 @@ struct Reply {
 extern "C" {
     fn mortarbee_assemble(listing: *const u8, listing_len: usize, image: *mut u8, image_len: usize) -> Reply;
     fn mortarbee_optimize_jumps(
+        comments: u8,
+        callf: u8,
+        folds: u8,
         listing: *const u8,
         listing_len: usize,
         out: *mut u8,
@@ -83,10 +86,27 @@ pub fn assemble(listing: &[u8], image: &mut [u8]) -> Result<Done, Refusal> {
     answer(unsafe { mortarbee_assemble(listing.as_ptr(), listing.len(), image.as_mut_ptr(), image.len()) })
 }
 
+/// What a run is asked for. By default comments go from the new listing, Callf is tried as Call, and folds are tried.
+#[derive(Clone, Copy, Debug, PartialEq, Eq)]
+pub struct Settings {
+    pub comments: bool,
+    pub callf: bool,
+    pub folds: bool,
+}
+
+impl Default for Settings {
+    fn default() -> Self {
+        Settings { comments: false, callf: true, folds: true }
+    }
+}
+
 /// Rewrites a listing until nothing can be folded or shrunk, and writes the new listing and its image.
-pub fn optimize_jumps(listing: &[u8], out: &mut [u8], image: &mut [u8]) -> Result<Done, Refusal> {
+pub fn optimize_jumps(asked: Settings, listing: &[u8], out: &mut [u8], image: &mut [u8]) -> Result<Done, Refusal> {
     answer(unsafe {
         mortarbee_optimize_jumps(
+            asked.comments as u8,
+            asked.callf as u8,
+            asked.folds as u8,
             listing.as_ptr(),
             listing.len(),
             out.as_mut_ptr(),

@@ -122,11 +122,11 @@ fn any_bytes_for_assemble() {
 
 mod rewriting {
     use super::*;
-    use mortarbee::{optimize_jumps, Done, LISTING_ROOM};
+    use mortarbee::{optimize_jumps, Done, Settings, LISTING_ROOM};
 
     fn rewritten(listing: &[u8], out_room: usize, image_room: usize) -> (Result<Done, Refusal>, Vec<u8>, Vec<u8>) {
         let (mut out, mut image) = (vec![FILL; out_room], vec![FILL; image_room]);
-        let answer = optimize_jumps(listing, &mut out, &mut image);
+        let answer = optimize_jumps(Settings { comments: true, ..Settings::default() }, listing, &mut out, &mut image);
         (answer, out, image)
     }
 

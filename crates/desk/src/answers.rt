@@ -1,6 +1,8 @@
-// One listing of many: what the program prints for it and its image in digits; and, where asked, the same with rooms that are too short.
+// One listing of many: what the program prints for it and its image in digits; and, where asked, the same with rooms that are too short and under
+// other settings.
 use crate::rooms::part;
 use crate::rooms::put_pair;
+use crate::switches::put_others;
 use entries::fault_of;
 use entries::optimize_jumps;
 use io::print_hex;
@@ -11,25 +13,34 @@ use printing::page_length;
 use printing::print_run;
 use rules::Answer;
 use rules::Refusal;
+use rules::Settings;
 use rules::Sizes;
 ghost use Rattle.io.specs.Counts.{Counts};
 
 // The answer to a listing, and a line `==`.
-pub fn put_answer(text: &[u8], with_rooms: bool) {
+pub fn put_answer(asked: Settings, text: &[u8], on_all_sides: bool) {
     let mut page = [0u8; 50189];
     let mut image = [0u8; 65536];
-    let answer = print_run(text, &mut page, &mut image);
+    let answer = print_run(asked, text, &mut page, &mut image);
     put_page(&page, page_length(answer));
     match answer {
         Answer::Done(sizes) => {
             put_image(&image, sizes.image);
-            if with_rooms {
-                put_rooms(text, sizes);
+            if on_all_sides {
+                put_sides(asked, text, sizes, &page);
             }
         }
         Answer::Refused(_) => {}
     }
     write_all(STDOUT_FILENO, b"==\n");
+}
+
+// The same with rooms that are too short, and under the other settings.
+fn put_sides(asked: Settings, text: &[u8], sizes: Sizes, page: &[u8; 50189]) {
+    put_rooms(asked, text, sizes);
+    let page: &[u8] = page;
+    let n = part(page_length(Answer::Done(sizes)), page);
+    put_others(text, &page[..n]);
 }
 
 // The front of the page: all that the program prints for a listing.
@@ -78,29 +89,29 @@ fn put_digits(bytes: &[u8]) {
 }
 
 // With a listing room one byte too short, an image room one byte too short, and both exact.
-fn put_rooms(text: &[u8], sizes: Sizes) {
+fn put_rooms(asked: Settings, text: &[u8], sizes: Sizes) {
     if sizes.listing > 0 {
-        put_run(text, sizes.listing - 1, sizes.image);
+        put_run(asked, text, sizes.listing - 1, sizes.image);
     }
     if sizes.image > 0 {
-        put_run(text, sizes.listing, sizes.image - 1);
+        put_run(asked, text, sizes.listing, sizes.image - 1);
     }
-    put_run(text, sizes.listing, sizes.image);
+    put_run(asked, text, sizes.listing, sizes.image);
 }
 
 // A run with rooms of these lengths.
-fn put_run(text: &[u8], listing: usize, image: usize) {
+fn put_run(asked: Settings, text: &[u8], listing: usize, image: usize) {
     let mut page = io::large_buffer();
     let mut bytes = io::large_buffer();
     let n = part(listing, &page);
     let m = part(image, &bytes);
-    put_lent(text, &mut page[..n], &mut bytes[..m]);
+    put_lent(asked, text, &mut page[..n], &mut bytes[..m]);
 }
 
 // A line ROOMS with 7F, or with the refusal, and one more where a refusal changed a byte of a room.
-fn put_lent(text: &[u8], page: &mut [u8], image: &mut [u8]) {
+fn put_lent(asked: Settings, text: &[u8], page: &mut [u8], image: &mut [u8]) {
     write_all(STDOUT_FILENO, b"ROOMS ");
-    match optimize_jumps(text, page, image) {
+    match optimize_jumps(asked, text, page, image) {
         Answer::Done(_) => {
             write_all(STDOUT_FILENO, b"7F\n");
         }

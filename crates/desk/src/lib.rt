@@ -2,6 +2,7 @@
 mod answers; // one listing
 mod blocks; // where a block ends
 mod rooms; // what the words of the program share
+mod switches; // a listing under the other settings
 
 use answers::put_answer;
 pub use answers::put_page;
@@ -13,6 +14,8 @@ use libc::STDERR_FILENO;
 use libc::STDIN_FILENO;
 pub use rooms::part;
 pub use rooms::put_pair;
+use rules::Settings;
+pub use switches::numbered;
 ghost use mathlib.Core.Path.{_≡_};
 ghost use lib.ListN.{length};
 
@@ -23,8 +26,9 @@ fn room_for_all() -> [u8; 262144]
     [0; 262144]
 }
 
-// Answers all of standard input, up to 262,143 characters: of a longer one none, so that no listing is cut. `with_rooms` tries each listing with rooms that are too short as well.
-pub fn answer_all(with_rooms: bool) {
+// Answers all of standard input, up to 262,143 characters: of a longer one none, so that no listing is cut. `on_all_sides` tries each listing also with
+// rooms that are too short, and under the other settings.
+pub fn answer_all(asked: Settings, on_all_sides: bool) {
     let mut text = room_for_all();
     let n = read_full(STDIN_FILENO, &mut text);
     if n == 262144 {
@@ -34,15 +38,15 @@ pub fn answer_all(with_rooms: bool) {
         );
         return;
     }
-    answer_blocks(&text[..n], with_rooms);
+    answer_blocks(asked, &text[..n], on_all_sides);
 }
 
-fn answer_blocks(text: &[u8], with_rooms: bool) {
+fn answer_blocks(asked: Settings, text: &[u8], on_all_sides: bool) {
     let mut at = 0;
     while at < text.len() {
         let rest = &text[at..];
         let n = block_end(rest);
-        put_answer(&rest[..n], with_rooms);
+        put_answer(asked, &rest[..n], on_all_sides);
         at = behind(at, n, text.len());
     }
 }

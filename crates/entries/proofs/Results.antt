@@ -12,23 +12,27 @@ use Rattle.rules.specs.declared.Answer.{Answer}
 use Rattle.rules.specs.declared.Answer.the-variants.{Refused}
 use Rattle.rules.specs.declared.Refusal.{Refusal}
 use Rattle.rules.specs.declared.Refusal.the-variants.{Room}
+use Rattle.rules.specs.declared.Settings.{Settings}
 use Rattle.rules.specs.Answers.{Judged, ok, no, _>>=_, _>>_, require, orD, isOk}
 use Rattle.rules.specs.Programs.{Program}
 use Rattle.rules.specs.Listing.{readListing}
+use Rattle.rules.specs.Names.{contextAt}
 use Rattle.rules.specs.Judging.{judge, assembles}
 use Rattle.rules.specs.Rewriting.{Chain, anchor, chain, instrBytes, optimized}
-use Rattle.rules.specs.Output.{writeBack, compact, stems, textOf}
+use Rattle.rules.specs.Output.{writeBack, shown, compact, stems, textOf}
 use Rattle.rules.specs.Run.{Output, outputOf, fits, run}
 use Rattle.promises.specs.Demand2.{Answered, Input, outputProgram}
 use Rattle.promises.proofs.Passes.{judge-passes, assembles-image, image-assembles}
 use Rattle.promises.proofs.Anchors.{instrBytes-anchor}
 use Rattle.promises.proofs.Acceptable.{judge-anchor}
 use Rattle.promises.proofs.ImageOfOutput.{image-of-output}
+use Rattle.promises.proofs.Shows.{judge-shown, shown-context, writeBack-shown}
 use Rattle.slots.specs.Slots.{Slots, programOf}
 use Rattle.image.specs.Tables.{Tables, program, Ready}
 use Rattle.image.specs.Encoding.{encodeSlots}
 use Rattle.image.specs.Image.{imageOf}
 use Rattle.output.specs.Lines.{listingOf, Positioned}
+use Rattle.output.specs.Showing.{Shown}
 use Rattle.asm.specs.declared.Verdict.{Verdict}
 use Rattle.asm.specs.declared.Verdict.the-variants.{Good, Refused as Bad}
 use Rattle.asm.specs.Verdicts.{JudgedAs}
@@ -96,79 +100,97 @@ anchored-stands t u contexts a g f c k =
 
 -- ---- rewritten
 
-pub rewritten-is : (q end : Program) (n : ℕ) → chain (total instrBytes q) q ≡ record { program = end; count = n } → rewritten q ≡ resultOf end n
+pub rewritten-is : (asked : Settings) (q end : Program) (n : ℕ) → chain asked (total instrBytes q) q ≡ record { program = end; count = n } → rewritten asked q ≡ resultOf (shown asked end) n
 unfolding rewritten
-rewritten-is q end n e = ap (λ (c : Chain). resultOf (c .program) (c .count)) e
+rewritten-is asked q end n e = ap (λ (c : Chain). resultOf (shown asked (c .program)) (c .count)) e
+
+-- a program without its comments stands as it stood
+pub shown-stands : (asked : Settings) (t u : Slots) (contexts : List ℕ) → Standing t contexts → assembles (programOf t) ≡ true → length (u .forms) ≡ 1024 → length (u .carry) ≡ 1024
+    → u .count ≡ t .count → Shown asked t u → Standing u contexts × (assembles (programOf u) ≡ true)
+shown-stands asked t u contexts s g f c n h =
+    let i = assembles-image (programOf t) g in
+    let j : judge (programOf u) ≡ ok (i .0) = ap judge (h .program) ∙ judge-shown asked (programOf t) ∙ i .1 in (
+      record {
+        sound = h .sound;
+        forms-full = f;
+        carry-full = c;
+        context = λ k l. s .context k (omega arith) ∙ sym (shown-context asked (programOf t) k) ∙ ap (λ (p : Program). contextAt p k) (sym (h .program));
+        named = judge-passes (programOf u) (i .0) j .once;
+      },
+      image-assembles (programOf u) (i .0) j,
+    )
 
 -- what the rewriting left, handed out
-pub optimized-fitted : (contexts : List ℕ) (t u : Slots) (n : ℕ) {r : Answer} {out image out′ image′ : List ℕ} → Optimized t u contexts n
-    → Fitted (t .count) (resultOf (programOf u) n) r out image out′ image′ → Fitted (t .count) (rewritten (programOf t)) r out image out′ image′
-optimized-fitted contexts t u n {r} {out} {image} {out′} {image′} h d =
-    let e = rewritten-is (programOf t) (programOf u) n (h .chain-is (total instrBytes (programOf t)) (omega arith)) in
+pub optimized-fitted : (asked : Settings) (contexts : List ℕ) (t u v : Slots) (n : ℕ) {r : Answer} {out image out′ image′ : List ℕ} → Optimized asked t u contexts n → Shown asked u v
+    → Fitted (t .count) (resultOf (programOf v) n) r out image out′ image′ → Fitted (t .count) (rewritten asked (programOf t)) r out image out′ image′
+optimized-fitted asked contexts t u v n {r} {out} {image} {out′} {image′} h k d =
+    let e = rewritten-is asked (programOf t) (programOf u) n (h .chain-is (total instrBytes (programOf t)) (omega arith)) ∙ ap (λ (p : Program). resultOf p n) (sym (k .program)) in
     subst (λ (o : Output). Fitted (t .count) o r out image out′ image′) (sym e) d
 
 -- of the same program
-pub fitted-program : (p q : Program) (n : ℕ) {r : Answer} {out image out′ image′ : List ℕ} → p ≡ q
-    → Fitted n (rewritten p) r out image out′ image′ → Fitted n (rewritten q) r out image out′ image′
-fitted-program p q n {r} {out} {image} {out′} {image′} e d = subst (λ (z : Program). Fitted n (rewritten z) r out image out′ image′) e d
+pub fitted-program : (asked : Settings) (p q : Program) (n : ℕ) {r : Answer} {out image out′ image′ : List ℕ} → p ≡ q
+    → Fitted n (rewritten asked p) r out image out′ image′ → Fitted n (rewritten asked q) r out image out′ image′
+fitted-program asked p q n {r} {out} {image} {out′} {image′} e d = subst (λ (z : Program). Fitted n (rewritten asked z) r out image out′ image′) e d
 
 -- what is handed out of an accepted program is document 01's output: the end form's image is the output's
-pub rewritten-output : (p : Program) → Input p → rewritten (anchor p) ≡ outputOf p
+pub rewritten-output : (asked : Settings) (p : Program) → Input p → rewritten asked (anchor p) ≡ outputOf asked p
 unfolding rewritten resultOf outputOf optimized outputProgram
-rewritten-output p h =
-    let i = image-of-output p h in
-    let same : judge (optimized p .program) ≡ judge (compact (writeBack (optimized p .program))) = i .of-end ∙ sym (i .of-output) in
-    ap (λ (fuel : ℕ). (let c = chain fuel (anchor p) in resultOf (c .program) (c .count))) (instrBytes-anchor p)
-    ∙ ap (λ x. record { listing = textOf (compact (writeBack (optimized p .program))); stems = stems (optimized p .program); count = optimized p .count; image = orD x [] }) same
+rewritten-output asked p h =
+    let i = image-of-output asked p h in
+    let end : Program = optimized asked p .program in
+    let same : judge (shown asked end) ≡ judge (compact (shown asked (writeBack end))) = judge-shown asked end ∙ i .of-end ∙ sym (i .of-output) in
+    ap (λ (fuel : ℕ). (let c = chain asked fuel (anchor p) in resultOf (shown asked (c .program)) (c .count))) (instrBytes-anchor p)
+    ∙ ap (λ (q : Program). record { listing = textOf (compact q); stems = stems q; count = optimized asked p .count; image = orD (judge (shown asked end)) [] }) (writeBack-shown asked end)
+    ∙ ap (λ x. record { listing = textOf (compact (shown asked (writeBack end))); stems = stems (shown asked (writeBack end)); count = optimized asked p .count; image = orD x [] }) same
 
 -- ---- the run
 
-module _ (a b : ℕ) (p : Program) where
-  pub judged-no : (q : Refusal) → judge p ≡ no q → judgedRun a b p ≡ no q
+module _ (asked : Settings) (a b : ℕ) (p : Program) where
+  pub judged-no : (q : Refusal) → judge p ≡ no q → judgedRun asked a b p ≡ no q
   unfolding judgedRun _>>_
   judged-no q e = rw e
 
-  judged-ok : (image : List ℕ) → judge p ≡ ok image → judgedRun a b p ≡ roomed (length p) a b (rewritten (anchor p))
+  judged-ok : (image : List ℕ) → judge p ≡ ok image → judgedRun asked a b p ≡ roomed (length p) a b (rewritten asked (anchor p))
   unfolding judgedRun _>>_
   judged-ok image e = rw e
 
-pub judged-delivers : (p : Program) (n : ℕ) {r : Answer} {out image out′ image′ : List ℕ} → length p ≡ n → assembles p ≡ true
-    → Fitted n (rewritten (anchor p)) r out image out′ image′ → Delivers (judgedRun (length out) (length image) p) r out image out′ image′
-judged-delivers p n {r} {out} {image} {out′} {image′} e g h =
+pub judged-delivers : (asked : Settings) (p : Program) (n : ℕ) {r : Answer} {out image out′ image′ : List ℕ} → length p ≡ n → assembles p ≡ true
+    → Fitted n (rewritten asked (anchor p)) r out image out′ image′ → Delivers (judgedRun asked (length out) (length image) p) r out image out′ image′
+judged-delivers asked p n {r} {out} {image} {out′} {image′} e g h =
     let i = assembles-image p g in
-    let z : roomed n (length out) (length image) (rewritten (anchor p)) ≡ judgedRun (length out) (length image) p =
-    ap (λ m. roomed m (length out) (length image) (rewritten (anchor p))) (sym e) ∙ sym (judged-ok (length out) (length image) p (i .0) (i .1)) in
+    let z : roomed n (length out) (length image) (rewritten asked (anchor p)) ≡ judgedRun asked (length out) (length image) p =
+    ap (λ m. roomed m (length out) (length image) (rewritten asked (anchor p))) (sym e) ∙ sym (judged-ok asked (length out) (length image) p (i .0) (i .1)) in
     subst (λ (x : Judged Output). Delivers x r out image out′ image′) z h
 
-pub delivers-program : (p q : Program) {r : Answer} {out image out′ image′ : List ℕ} → p ≡ q
-    → Delivers (judgedRun (length out) (length image) p) r out image out′ image′ → Delivers (judgedRun (length out) (length image) q) r out image out′ image′
-delivers-program p q {r} {out} {image} {out′} {image′} e d =
-    subst (λ (z : Program). Delivers (judgedRun (length out) (length image) z) r out image out′ image′) e d
+pub delivers-program : (asked : Settings) (p q : Program) {r : Answer} {out image out′ image′ : List ℕ} → p ≡ q
+    → Delivers (judgedRun asked (length out) (length image) p) r out image out′ image′ → Delivers (judgedRun asked (length out) (length image) q) r out image out′ image′
+delivers-program asked p q {r} {out} {image} {out′} {image′} e d =
+    subst (λ (z : Program). Delivers (judgedRun asked (length out) (length image) z) r out image out′ image′) e d
 
-module _ (text : List ℕ) (a b : ℕ) where
-  run-no : (q : Refusal) → readListing text ≡ no q → run text a b ≡ no q
+module _ (asked : Settings) (text : List ℕ) (a b : ℕ) where
+  run-no : (q : Refusal) → readListing text ≡ no q → run asked text a b ≡ no q
   unfolding run _>>=_
   run-no q e = rw e
 
-  run-read : (p : Program) → readListing text ≡ ok p → run text a b ≡ judgedRun a b p
+  run-read : (p : Program) → readListing text ≡ ok p → run asked text a b ≡ judgedRun asked a b p
   unfolding run judgedRun _>>=_ _>>_ roomed
   run-read p e = rw e (on (judge p) refl)
     where
-      on : (x : Judged (List ℕ)) → judge p ≡ x → (x >> require (fits a b (outputOf p)) (Room (length p)) (ok (outputOf p))) ≡ (x >> roomed (length p) a b (rewritten (anchor p)))
-      on (ok image) j = ap (λ o. roomed (length p) a b o) (sym (rewritten-output p (record { text = text; reads = e; image = image; assembles = j })))
+      on : (x : Judged (List ℕ)) → judge p ≡ x → (x >> require (fits a b (outputOf asked p)) (Room (length p)) (ok (outputOf asked p))) ≡ (x >> roomed (length p) a b (rewritten asked (anchor p)))
+      on (ok image) j = ap (λ o. roomed (length p) a b o) (sym (rewritten-output asked p (record { text = text; reads = e; image = image; assembles = j })))
       on (no q) j = refl
 
 -- ---- the text
 
-module _ (text out image : List ℕ) where
-  pub answered-unread : (q : Refusal) → readListing text ≡ no q → Answered text out image (Refused q) out image
+module _ (asked : Settings) (text out image : List ℕ) where
+  pub answered-unread : (q : Refusal) → readListing text ≡ no q → Answered asked text out image (Refused q) out image
   answered-unread q e =
-      let d = delivers-no (run text (length out) (length image)) q out image (run-no text (length out) (length image) q e) in
+      let d = delivers-no (run asked text (length out) (length image)) q out image (run-no asked text (length out) (length image) q e) in
       record { answers = d .answers; listing-is = d .listing-is; image-is = d .image-is }
 
   pub answered-read : (p q : Program) {r : Answer} {out′ image′ : List ℕ} → readListing text ≡ ok p → q ≡ p
-      → Delivers (judgedRun (length out) (length image) q) r out image out′ image′ → Answered text out image r out′ image′
+      → Delivers (judgedRun asked (length out) (length image) q) r out image out′ image′ → Answered asked text out image r out′ image′
   answered-read p q {r} {out′} {image′} e f h =
-      let z : judgedRun (length out) (length image) q ≡ run text (length out) (length image) = ap (judgedRun (length out) (length image)) f ∙ sym (run-read text (length out) (length image) p e) in
+      let z : judgedRun asked (length out) (length image) q ≡ run asked text (length out) (length image) = ap (judgedRun asked (length out) (length image)) f ∙ sym (run-read asked text (length out) (length image) p e) in
       let d = subst (λ (x : Judged Output). Delivers x r out image out′ image′) z h in
       record { answers = d .answers; listing-is = d .listing-is; image-is = d .image-is }

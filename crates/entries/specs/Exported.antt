@@ -1,11 +1,18 @@
 -- What the functions for C answer: an answer as seven numbers, the first 0 where nothing is refused.
 use mathlib.Core.Path.{_≡_}
 use Prim.Native.Nat.{ℕ}
+use mathlib.Core.Bool.{not}
+use lib.Dec.{eqb}
 use lib.IntN.{ℤ, pos}
+use Rattle.rules.specs.declared.Settings.{Settings}
 use Rattle.rules.specs.declared.Answer.{Answer}
 use Rattle.rules.specs.declared.Answer.the-variants.{Done, Refused}
 use Rattle.rules.specs.Refusals.{faultOf}
 use Rattle.entries.specs.declared.exported.Reply.{Reply}
+
+-- settings as three bytes: 0 is no, any other yes
+abbrev pub askedBy : (comments callf folds : ℕ) → Settings
+askedBy comments callf folds = record { comments = not (eqb comments 0); callf = not (eqb callf 0); folds = not (eqb folds 0) }
 
 -- "Each returns its number and the statement's place from 0; 12 returns the statement count"
 abbrev pub numberOf : Answer → ℕ

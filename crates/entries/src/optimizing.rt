@@ -1,4 +1,4 @@
-// A listing is read, judged, anchored, rewritten and written. Each phase declares the tables that it fills and hands them on.
+// A listing is read, judged, anchored, rewritten and written, as it is asked for. Each phase declares the tables that it fills and hands them on.
 use crate::finishing::judge_end;
 use anchors::anchor;
 use asm::Verdict;
@@ -9,7 +9,9 @@ use env::fill_contexts;
 use listing::Listed;
 use listing::read_listing;
 use optimize::optimize;
+use output::show;
 use rules::Answer;
+use rules::Settings;
 ghost use mathlib.Core.Path.{_≡_};
 ghost use mathlib.Core.Bool.{true};
 ghost use lib.ListN.{length};
@@ -25,8 +27,9 @@ ghost use Rattle.attempts.specs.Standing.{Standing};
 ghost use Rattle.anchors.specs.Anchored.{AsRead};
 ghost use Rattle.entries.specs.Optimizing.{rewritten, judgedRun, Assembled, Delivers, Fitted};
 
-// Rewrites an anchored program to its end form, and writes it.
+// Rewrites an anchored program to its end form, and writes it, without its comments unless they are asked for.
 fn rewrite_anchored(
+    asked: Settings,
     frames: &[u8],
     starts: &[u16; 1025],
     count: usize,
@@ -39,9 +42,10 @@ fn rewrite_anchored(
     image: &mut [u8],
 ) -> Answer
     requires { ⌜ Standing (slots (now frames) (now starts) count (now forms) (now carry) (now owners) (now offsets)) (now contexts) × (assembles (programOf (slots (now frames) (now starts) count (now forms) (now carry) (now owners) (now offsets))) ≡ true) ⌝ }
-    ensures { λ r. ⌜ Fitted count (rewritten (programOf (slots (now (frames .entry)) (now (starts .entry)) count (now (forms .entry)) (now (carry .entry)) (now (owners .entry)) (now (offsets .entry))))) r (now (out .entry)) (now (image .entry)) (now (out .exit)) (now (image .exit)) ⌝ }
+    ensures { λ r. ⌜ Fitted count (rewritten asked (programOf (slots (now (frames .entry)) (now (starts .entry)) count (now (forms .entry)) (now (carry .entry)) (now (owners .entry)) (now (offsets .entry))))) r (now (out .entry)) (now (image .entry)) (now (out .exit)) (now (image .exit)) ⌝ }
 {
     let rewrites = optimize(
+        asked,
         frames,
         starts,
         count,
@@ -51,6 +55,7 @@ fn rewrite_anchored(
         offsets,
         contexts,
     );
+    show(asked, frames, starts, count, forms);
     judge_end(
         frames,
         starts,
@@ -68,6 +73,7 @@ fn rewrite_anchored(
 
 // Anchors the targets of a program that assembles: `bare` and `none` say that no target is an inner label yet.
 fn anchor_judged(
+    asked: Settings,
     frames: &[u8],
     starts: &[u16; 1025],
     count: usize,
@@ -83,7 +89,7 @@ fn anchor_judged(
     image: &mut [u8],
 ) -> Answer
     requires { ⌜ Assembled (tables (now frames) (now starts) count (now forms) (now carry) (now bare) (now none) (now names) (now contexts) (now values) (now positions)) × AsRead (slots (now frames) (now starts) count (now forms) (now carry) (now bare) (now none)) × (length (now forms) ≡ 1024) × (length (now carry) ≡ 1024) × Any (now frames) (now starts) count (now forms) (λ t. Placed t (now contexts)) ⌝ }
-    ensures { λ r. ⌜ Fitted count (rewritten (rewriting.anchor (programOf (slots (now (frames .entry)) (now (starts .entry)) count (now (forms .entry)) (now (carry .entry)) (now (bare .entry)) (now (none .entry)))))) r (now (out .entry)) (now (image .entry)) (now (out .exit)) (now (image .exit)) ⌝ }
+    ensures { λ r. ⌜ Fitted count (rewritten asked (rewriting.anchor (programOf (slots (now (frames .entry)) (now (starts .entry)) count (now (forms .entry)) (now (carry .entry)) (now (bare .entry)) (now (none .entry)))))) r (now (out .entry)) (now (image .entry)) (now (out .exit)) (now (image .exit)) ⌝ }
 {
     let mut owners = [1024u16; 1024];
     let mut offsets = [0u16; 1024];
@@ -103,6 +109,7 @@ fn anchor_judged(
         &mut offsets,
     );
     rewrite_anchored(
+        asked,
         frames,
         starts,
         count,
@@ -118,6 +125,7 @@ fn anchor_judged(
 
 // Judges a program as read: what does not assemble is refused before anything else.
 fn judge_read(
+    asked: Settings,
     frames: &[u8],
     starts: &[u16; 1025],
     count: usize,
@@ -130,7 +138,7 @@ fn judge_read(
     image: &mut [u8],
 ) -> Answer
     requires { ⌜ Sound (slots (now frames) (now starts) count (now forms) (now carry) (now bare) (now none)) × AsRead (slots (now frames) (now starts) count (now forms) (now carry) (now bare) (now none)) × (length (now forms) ≡ 1024) × (length (now carry) ≡ 1024) × Any (now frames) (now starts) count (now forms) (λ t. Placed t (now contexts)) ⌝ }
-    ensures { λ r. ⌜ Delivers (judgedRun (length (now (out .entry))) (length (now (image .entry))) (programOf (slots (now (frames .entry)) (now (starts .entry)) count (now (forms .entry)) (now (carry .entry)) (now (bare .entry)) (now (none .entry))))) r (now (out .entry)) (now (image .entry)) (now (out .exit)) (now (image .exit)) ⌝ }
+    ensures { λ r. ⌜ Delivers (judgedRun asked (length (now (out .entry))) (length (now (image .entry))) (programOf (slots (now (frames .entry)) (now (starts .entry)) count (now (forms .entry)) (now (carry .entry)) (now (bare .entry)) (now (none .entry))))) r (now (out .entry)) (now (image .entry)) (now (out .exit)) (now (image .exit)) ⌝ }
 {
     let mut names = [65536u32; 1024];
     let mut positions = [0u32; 1025];
@@ -150,6 +158,7 @@ fn judge_read(
     ) {
         Verdict::Refused(r) => Answer::Refused(r),
         Verdict::Good => anchor_judged(
+            asked,
             frames,
             starts,
             count,
@@ -169,6 +178,7 @@ fn judge_read(
 
 // The contexts are found first: they stay the same to the end.
 fn place_read(
+    asked: Settings,
     frames: &[u8],
     starts: &[u16; 1025],
     count: usize,
@@ -180,11 +190,12 @@ fn place_read(
     image: &mut [u8],
 ) -> Answer
     requires { ⌜ Sound (slots (now frames) (now starts) count (now forms) (now carry) (now bare) (now none)) × AsRead (slots (now frames) (now starts) count (now forms) (now carry) (now bare) (now none)) × (length (now forms) ≡ 1024) × (length (now carry) ≡ 1024) ⌝ }
-    ensures { λ r. ⌜ Delivers (judgedRun (length (now (out .entry))) (length (now (image .entry))) (programOf (slots (now (frames .entry)) (now (starts .entry)) count (now (forms .entry)) (now (carry .entry)) (now (bare .entry)) (now (none .entry))))) r (now (out .entry)) (now (image .entry)) (now (out .exit)) (now (image .exit)) ⌝ }
+    ensures { λ r. ⌜ Delivers (judgedRun asked (length (now (out .entry))) (length (now (image .entry))) (programOf (slots (now (frames .entry)) (now (starts .entry)) count (now (forms .entry)) (now (carry .entry)) (now (bare .entry)) (now (none .entry))))) r (now (out .entry)) (now (image .entry)) (now (out .exit)) (now (image .exit)) ⌝ }
 {
     let mut contexts = [0u16; 1024];
     fill_contexts(frames, starts, count, forms, &mut contexts);
     judge_read(
+        asked,
         frames,
         starts,
         count,
@@ -200,6 +211,7 @@ fn place_read(
 
 // The slots of a listing as read: no target is an inner label.
 fn optimize_read(
+    asked: Settings,
     frames: &[u8],
     starts: &[u16; 1025],
     count: usize,
@@ -207,7 +219,7 @@ fn optimize_read(
     image: &mut [u8],
 ) -> Answer
     requires { ⌜ Held (now frames) (now starts) count ⌝ }
-    ensures { λ r. ⌜ Delivers (judgedRun (length (now (out .entry))) (length (now (image .entry))) (inputOf (now (frames .entry)) (now (starts .entry)) count)) r (now (out .entry)) (now (image .entry)) (now (out .exit)) (now (image .exit)) ⌝ }
+    ensures { λ r. ⌜ Delivers (judgedRun asked (length (now (out .entry))) (length (now (image .entry))) (inputOf (now (frames .entry)) (now (starts .entry)) count)) r (now (out .entry)) (now (image .entry)) (now (out .exit)) (now (image .exit)) ⌝ }
 {
     let mut forms = [0u8; 1024];
     let mut carry = [0u16; 1024];
@@ -216,6 +228,7 @@ fn optimize_read(
     let bare = [1024u16; 1024];
     let none = [0u16; 1024];
     place_read(
+        asked,
         frames,
         starts,
         count,
@@ -229,13 +242,13 @@ fn optimize_read(
 }
 
 // Reads a listing, judges it, rewrites it and writes the new listing and its image. On refusal no lent byte changes.
-pub fn optimize_jumps(listing: &[u8], out: &mut [u8], image: &mut [u8]) -> Answer
-    ensures { λ r. ⌜ Answered (now (listing .entry)) (now (out .entry)) (now (image .entry)) r (now (out .exit)) (now (image .exit)) ⌝ }
+pub fn optimize_jumps(asked: Settings, listing: &[u8], out: &mut [u8], image: &mut [u8]) -> Answer
+    ensures { λ r. ⌜ Answered asked (now (listing .entry)) (now (out .entry)) (now (image .entry)) r (now (out .exit)) (now (image .exit)) ⌝ }
 {
     let mut frames = [0u8; 24576];
     let mut starts = [0u16; 1025];
     match read_listing(listing, &mut frames, &mut starts) {
         Listed::Refused(r) => Answer::Refused(r),
-        Listed::Read(count) => optimize_read(&frames, &starts, count, out, image),
+        Listed::Read(count) => optimize_read(asked, &frames, &starts, count, out, image),
     }
 }

@@ -4,28 +4,34 @@ use libc::STDERR_FILENO;
 use libc::STDOUT_FILENO;
 
 pub fn words(fd: i32) {
-    write_all(fd, b"mortarbee [WORD] < LISTING\n");
+    write_all(fd, b"mortarbee [WORD] [OPTIONS] < LISTING\n");
     write_all(
         fd,
-        b"  (no word)    writes the new listing and a last line: 7F, rewrites, image length; or only 7E, number, place, argument, number at fault\n",
+        b"  (no word), optimize   writes the new listing and a last line: 7F, rewrites, image length; or only 7E, number, place, argument, number at fault\n",
     );
     write_all(
         fd,
-        b"  check        whether the form is kept (1 and 2 only): good and the statement count, or the 7E line\n",
+        b"      --comments        keeps the comments, which are left out otherwise\n",
+    );
+    write_all(fd, b"      --no-callf        leaves each Callf as it is\n");
+    write_all(fd, b"      --no-folds        folds no branches\n");
+    write_all(
+        fd,
+        b"  check                 whether the form is kept (1 and 2 only): good and the statement count, or the 7E line\n",
     );
     write_all(
         fd,
-        b"  image        writes the image's bytes, nothing rewritten, or the 7E line; image hex writes digit pairs\n",
+        b"  image                 writes the image's bytes, nothing rewritten, or the 7E line; image hex writes digit pairs\n",
     );
     write_all(
         fd,
-        b"  batch        answers many listings, each ended by a line ==; a line IMAGE has the new image\n",
+        b"  batch                 answers many listings, each ended by a line ==; a line IMAGE has the new image; batch --comments keeps comments\n",
     );
     write_all(
         fd,
-        b"  explain N    what refusal N (1 to 12) means and what to look at\n",
+        b"  explain N             what refusal N (1 to 12) means and what to look at\n",
     );
-    write_all(fd, b"  help         this text\n");
+    write_all(fd, b"  help                  this text\n");
 }
 
 // The number that a word of one or two digits is; 0 for any other.

@@ -6,14 +6,15 @@ use libc::STDIN_FILENO;
 use printing::page_length;
 use printing::print_run;
 use rules::Answer;
+use rules::Settings;
 
 // A text that is longer than the buffer is refused within it: 49,152 characters and 1,024 line feeds are the most that is accepted.
-pub fn optimize() {
+pub fn optimize(asked: Settings) {
     let mut text = io::large_buffer();
     let n = read_full(STDIN_FILENO, &mut text);
     let mut page = [0u8; 50189];
     let mut image = [0u8; 65536];
-    let answer = print_run(&text[..n], &mut page, &mut image);
+    let answer = print_run(asked, &text[..n], &mut page, &mut image);
     put_page(&page, page_length(answer));
     match answer {
         Answer::Done(_) => {}

@@ -12,6 +12,7 @@ use Rattle.laws.proofs.Lists.{total-bound}
 use Rattle.laws.proofs.Options.{said-some}
 use Rattle.laws.proofs.Tests.{sub-lt}
 use Rattle.rules.specs.Programs.{Stmt, gone, instr, label, variable, comment, org, bytes, words, Program}
+use Rattle.rules.specs.declared.Settings.{Settings}
 use Rattle.rules.specs.Judging.{assembles}
 use Rattle.rules.specs.Rewriting.{Chain, more, step, chain, instrBytes}
 use Rattle.instruction.proofs.Numbers.{size-bound}
@@ -47,61 +48,61 @@ abbrev pub ahead : (r : ℕ) → Chain → Chain
 ahead r d = record { program = d .program; count = r + d .count }
 
 -- r rewrites led from p₀ to p, whatever fuel there is for the rest
-pub record Led (p₀ p : Program) (r : ℕ) : Type 0 where
-  pub goes : (fuel : ℕ) → total instrBytes p₀ ≤ fuel → chain fuel p₀ ≡ ahead r (chain (fuel - r) p)
+pub record Led (asked : Settings) (p₀ p : Program) (r : ℕ) : Type 0 where
+  pub goes : (fuel : ℕ) → total instrBytes p₀ ≤ fuel → chain asked fuel p₀ ≡ ahead r (chain asked (fuel - r) p)
   pub few : r + total instrBytes p ≤ total instrBytes p₀
   pub good : assembles p ≡ true
 
 ahead-none : (d : Chain) → d ≡ ahead 0 d
 ahead-none d = let z : d .count ≡ 0 + d .count = omega arith in ap (λ (n : ℕ). record { program = d .program; count = n }) z
 
-pub led-start : (p : Program) → assembles p ≡ true → Led p p 0
-led-start p g = record { goes = λ fuel l. rw sub-zero (ahead-none (chain fuel p)); few = omega arith; good = g }
+pub led-start : (asked : Settings) (p : Program) → assembles p ≡ true → Led asked p p 0
+led-start asked p g = record { goes = λ fuel l. rw sub-zero (ahead-none (chain asked fuel p)); few = omega arith; good = g }
 
 -- one more
-led-more : (p₀ p q : Program) (r : ℕ) → Led p₀ p r → step p ≡ some q → Led p₀ q (r + 1)
-led-more p₀ p q r h e =
-    let less = step-shorter p q e in
+led-more : (asked : Settings) (p₀ p q : Program) (r : ℕ) → Led asked p₀ p r → step asked p ≡ some q → Led asked p₀ q (r + 1)
+led-more asked p₀ p q r h e =
+    let less = step-shorter asked p q e in
     record {
       goes = λ fuel l.
           (let b : r < fuel = omega (arith, h .few) in
           h .goes fuel l
-          ∙ ap (λ (n : ℕ). ahead r (chain n p)) (sub-lt fuel r b)
-          ∙ ap (ahead r) (chain-more (fuel - (r + 1)) p q e)
-          ∙ one-more (chain (fuel - (r + 1)) q));
+          ∙ ap (λ (n : ℕ). ahead r (chain asked n p)) (sub-lt fuel r b)
+          ∙ ap (ahead r) (chain-more asked (fuel - (r + 1)) p q e)
+          ∙ one-more (chain asked (fuel - (r + 1)) q));
       few = omega (arith, h .few);
-      good = acceptable-parts q (step-acceptable p q e) .1;
+      good = acceptable-parts q (step-acceptable asked p q e) .1;
     }
   where
     one-more : (d : Chain) → ahead r (more d) ≡ ahead (r + 1) d
     one-more d = let z : r + suc (d .count) ≡ r + 1 + d .count = omega arith in ap (λ (n : ℕ). record { program = d .program; count = n }) z
 
 -- none remains
-chain-end : (n : ℕ) (p : Program) → step p ≡ none → chain n p ≡ record { program = p; count = 0 }
+chain-end : (asked : Settings) (n : ℕ) (p : Program) → step asked p ≡ none → chain asked n p ≡ record { program = p; count = 0 }
 unfolding chain
-chain-end zero p e = refl
-chain-end (suc n) p e = chain-stop n p e
+chain-end asked zero p e = refl
+chain-end asked (suc n) p e = chain-stop asked n p e
 
-module _ {contexts : List ℕ} (t₀ t u : Slots) (r : ℕ) {s : Bool} (h : Led (programOf t₀) (programOf t) r) (d : Tried (step (programOf t)) contexts t u s) where
+module _ {asked : Settings} {contexts : List ℕ} (t₀ t u : Slots) (r : ℕ) {s : Bool} (h : Led asked (programOf t₀) (programOf t) r) (d : Tried (step asked (programOf t)) contexts t u s) where
   pub record Went : Type 0 where
     pub less : total instrBytes (programOf u) < total instrBytes (programOf t)
-    pub led : Led (programOf t₀) (programOf u) (r + 1)
+    pub led : Led asked (programOf t₀) (programOf u) (r + 1)
 
   pub went : s ≡ true → Went
   went e =
       let p = programOf t in
       let q = programOf u in
-      let rewritten : step p ≡ some q = said-some (step p) p (sym (d .says) ∙ e) ∙ ap some (sym (d .leaves)) in
-      record { less = step-shorter p q rewritten; led = led-more (programOf t₀) p q r h rewritten }
+      let rewritten : step asked p ≡ some q = said-some (step asked p) p (sym (d .says) ∙ e) ∙ ap some (sym (d .leaves)) in
+      record { less = step-shorter asked p q rewritten; led = led-more asked (programOf t₀) p q r h rewritten }
 
-  pub stopped : Standing t₀ contexts → s ≡ false → Optimized t₀ u contexts r
+  pub stopped : Standing t₀ contexts → s ≡ false → Optimized asked t₀ u contexts r
   stopped start e =
       let p = programOf t in
-      let stays = tried-missed (step p) d e in
+      let stays = tried-missed (step asked p) d e in
       let same : programOf u ≡ p = d .leaves ∙ left stays in
       record {
         chain-is = λ fuel l.
-            (h .goes fuel l ∙ ap (ahead r) (chain-end (fuel - r) p stays)
+            (h .goes fuel l ∙ ap (ahead r) (chain-end asked (fuel - r) p stays)
             ∙ ap₂ (λ (q : Program) (n : ℕ). record { program = q; count = n }) (sym same) (omega arith));
         stands = d .stands;
         good = ap assembles same ∙ h .good;
@@ -109,5 +110,5 @@ module _ {contexts : List ℕ} (t₀ t u : Slots) (r : ℕ) {s : Bool} (h : Led 
         bounded = omega (arith, h .few, few-bytes t₀ start);
       }
     where
-      left : step (programOf t) ≡ none → getOr (step (programOf t)) (programOf t) ≡ programOf t
+      left : step asked (programOf t) ≡ none → getOr (step asked (programOf t)) (programOf t) ≡ programOf t
       left z = ap (λ (o : Option Program). getOr o (programOf t)) z

@@ -10,6 +10,7 @@ use borrow.Author.Tests.{ne-eqb}
 use Rattle.laws.specs.Options.{orElse, given, firstOf, bind}
 use Rattle.rules.specs.Forms.{formAt, isTransfer, jmp, jmpf, br, call, callf}
 use Rattle.rules.specs.Programs.{Placeℕ, Stmt, gone, instr, label, variable, comment, org, bytes, words, onInstr, asInstr, argsOf, Program, at, kindOf}
+use Rattle.rules.specs.declared.Settings.{Settings}
 use Rattle.rules.specs.Names.{Entry}
 use Rattle.rules.specs.Rewriting.{isChangeJump, noInteriorLabelAt, candidate, shorter, shrinkAt}
 use Rattle.slots.specs.Slots.{Slots, written, reformed, slotAt, programOf, Agree}
@@ -76,38 +77,43 @@ or-none (some a) = refl
 
 -- ---- what rule 4 tries at a place
 
-module _ (names : List Entry) (t : Slots) (i : Placeℕ) (l : i < t .count) where
+module _ (asked : Settings) (names : List Entry) (t : Slots) (i : Placeℕ) (l : i < t .count) where
   abbrev tries : Stmt → Option Program
   tries s =
       bind (asInstr s) (λ x.
-      firstOf (λ f. given (noInteriorLabelAt (programOf t) i) (candidate (set (programOf t) i (instr f (x .args) (x .carried))))) (shorter names (programOf t) i (x .form)))
+      firstOf (λ f. given (noInteriorLabelAt (programOf t) i) (candidate (set (programOf t) i (instr f (x .args) (x .carried))))) (shorter asked names (programOf t) i (x .form)))
 
-  shrink-stmt : shrinkAt names (programOf t) i ≡ tries (slotAt t i)
+  shrink-stmt : shrinkAt asked names (programOf t) i ≡ tries (slotAt t i)
   unfolding shrinkAt
   shrink-stmt = ap tries (at-program t i l)
 
-  pub shrink-other : (kindOf (slotAt t i) ≡ 1 → ⊥) → shrinkAt names (programOf t) i ≡ none
+  pub shrink-other : (kindOf (slotAt t i) ≡ 1 → ⊥) → shrinkAt asked names (programOf t) i ≡ none
   unfolding bind
   shrink-other n = shrink-stmt ∙ rw (not-instr (slotAt t i) n)
 
   module _ (k : kindOf (slotAt t i) ≡ 1) where
-    shrink-forms : shrinkAt names (programOf t) i ≡ firstOf (shrunk t i) (shorter names (programOf t) i (getD (t .forms) i 0))
+    shrink-forms : shrinkAt asked names (programOf t) i ≡ firstOf (shrunk t i) (shorter asked names (programOf t) i (getD (t .forms) i 0))
     unfolding bind asInstr shrunk
     shrink-forms = shrink-stmt ∙ ap tries (slot-is t i k)
 
-    pub shrink-none : (getD (t .forms) i 0 ≡ jmpf → ⊥) → (getD (t .forms) i 0 ≡ callf → ⊥) → shrinkAt names (programOf t) i ≡ none
+    pub shrink-none : (getD (t .forms) i 0 ≡ jmpf → ⊥) → (getD (t .forms) i 0 ≡ callf → ⊥) → shrinkAt asked names (programOf t) i ≡ none
     unfolding shorter firstOf
     shrink-none n m = shrink-forms ∙ rw (ne-eqb (getD (t .forms) i 0) jmpf n, ne-eqb (getD (t .forms) i 0) callf m)
 
-    pub shrink-call : getD (t .forms) i 0 ≡ callf → shrunk t i call ≡ shrinkAt names (programOf t) i
+    -- Callf, if it is to shrink
+    pub shrink-call : getD (t .forms) i 0 ≡ callf → asked .callf ≡ true → shrunk t i call ≡ shrinkAt asked names (programOf t) i
     unfolding shorter firstOf
-    shrink-call e = sym (shrink-forms ∙ rw e (or-none (shrunk t i call)))
+    shrink-call e h = sym (shrink-forms ∙ rw (e, h) (or-none (shrunk t i call)))
 
-    pub shrink-change : getD (t .forms) i 0 ≡ jmpf → isChangeJump names (programOf t) i ≡ true → shrinkAt names (programOf t) i ≡ none
+    pub shrink-uncalled : getD (t .forms) i 0 ≡ callf → asked .callf ≡ false → shrinkAt asked names (programOf t) i ≡ none
+    unfolding shorter firstOf
+    shrink-uncalled e h = shrink-forms ∙ rw (e, h)
+
+    pub shrink-change : getD (t .forms) i 0 ≡ jmpf → isChangeJump names (programOf t) i ≡ true → shrinkAt asked names (programOf t) i ≡ none
     unfolding shorter firstOf
     shrink-change e h = shrink-forms ∙ rw (e, h)
 
     pub shrink-plain : getD (t .forms) i 0 ≡ jmpf → isChangeJump names (programOf t) i ≡ false
-        → orElse (shrunk t i br) (shrunk t i jmp) ≡ shrinkAt names (programOf t) i
+        → orElse (shrunk t i br) (shrunk t i jmp) ≡ shrinkAt asked names (programOf t) i
     unfolding shorter firstOf
     shrink-plain e h = sym (shrink-forms ∙ rw (e, h) (ap (orElse (shrunk t i br)) (or-none (shrunk t i jmp))))

@@ -4,13 +4,14 @@ use mathlib.Core.List.{List}
 use mathlib.Core.Bool.{true}
 use Prim.Native.Nat.{ℕ, _≤_}
 use Rattle.laws.specs.Lists.{total}
+use Rattle.rules.specs.declared.Settings.{Settings}
 use Rattle.rules.specs.Judging.{assembles}
 use Rattle.rules.specs.Rewriting.{chain, instrBytes}
 use Rattle.slots.specs.Slots.{Slots, programOf}
 use Rattle.attempts.specs.Standing.{Standing}
 
-pub record Optimized (before after : Slots) (contexts : List ℕ) (r : ℕ) : Type 0 where
-  pub chain-is : (fuel : ℕ) → total instrBytes (programOf before) ≤ fuel → chain fuel (programOf before) ≡ record { program = programOf after; count = r }
+pub record Optimized (asked : Settings) (before after : Slots) (contexts : List ℕ) (r : ℕ) : Type 0 where
+  pub chain-is : (fuel : ℕ) → total instrBytes (programOf before) ≤ fuel → chain asked fuel (programOf before) ≡ record { program = programOf after; count = r }
   pub stands : Standing after contexts
   pub good : assembles (programOf after) ≡ true
   pub few : r ≤ total instrBytes (programOf before)

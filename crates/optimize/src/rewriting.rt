@@ -1,6 +1,7 @@
 // Rule 6: "Folds come before shrinks, and after each rewrite all starts again." Rewritten until no rewrite remains.
-use crate::scanning::fold;
+use crate::scanning::fold_asked;
 use crate::shrinking::shrink;
+use rules::Settings;
 ghost use mathlib.Core.Path.{_≡_};
 ghost use mathlib.Core.Bool.{true};
 ghost use Rattle.rules.specs.Judging.{assembles};
@@ -11,6 +12,7 @@ ghost use Rattle.optimize.specs.Optimized.{Optimized};
 
 // One rewrite, if one remains.
 fn rewrite(
+    asked: Settings,
     frames: &[u8],
     starts: &[u16; 1025],
     count: usize,
@@ -21,9 +23,10 @@ fn rewrite(
     contexts: &[u16; 1024],
 ) -> bool
     requires { ⌜ Standing (slots (now frames) (now starts) count (now forms) (now carry) (now owners) (now offsets)) (now contexts) × (assembles (programOf (slots (now frames) (now starts) count (now forms) (now carry) (now owners) (now offsets))) ≡ true) ⌝ }
-    ensures { λ r. ⌜ Tried (step (programOf (slots (now (frames .entry)) (now (starts .entry)) count (now (forms .entry)) (now (carry .entry)) (now (owners .entry)) (now (offsets .entry))))) (now (contexts .entry)) (slots (now (frames .entry)) (now (starts .entry)) count (now (forms .entry)) (now (carry .entry)) (now (owners .entry)) (now (offsets .entry))) (slots (now (frames .entry)) (now (starts .entry)) count (now (forms .exit)) (now (carry .exit)) (now (owners .entry)) (now (offsets .entry))) r ⌝ }
+    ensures { λ r. ⌜ Tried (step asked (programOf (slots (now (frames .entry)) (now (starts .entry)) count (now (forms .entry)) (now (carry .entry)) (now (owners .entry)) (now (offsets .entry))))) (now (contexts .entry)) (slots (now (frames .entry)) (now (starts .entry)) count (now (forms .entry)) (now (carry .entry)) (now (owners .entry)) (now (offsets .entry))) (slots (now (frames .entry)) (now (starts .entry)) count (now (forms .exit)) (now (carry .exit)) (now (owners .entry)) (now (offsets .entry))) r ⌝ }
 {
-    if fold(
+    if fold_asked(
+        asked,
         frames,
         starts,
         count,
@@ -36,6 +39,7 @@ fn rewrite(
         return true;
     }
     shrink(
+        asked,
         frames,
         starts,
         count,
@@ -49,6 +53,7 @@ fn rewrite(
 
 // Rewrites until no rewrite remains, and counts them.
 pub fn optimize(
+    asked: Settings,
     frames: &[u8],
     starts: &[u16; 1025],
     count: usize,
@@ -59,11 +64,12 @@ pub fn optimize(
     contexts: &[u16; 1024],
 ) -> usize
     requires { ⌜ Standing (slots (now frames) (now starts) count (now forms) (now carry) (now owners) (now offsets)) (now contexts) × (assembles (programOf (slots (now frames) (now starts) count (now forms) (now carry) (now owners) (now offsets))) ≡ true) ⌝ }
-    ensures { λ r. ⌜ Optimized (slots (now (frames .entry)) (now (starts .entry)) count (now (forms .entry)) (now (carry .entry)) (now (owners .entry)) (now (offsets .entry))) (slots (now (frames .entry)) (now (starts .entry)) count (now (forms .exit)) (now (carry .exit)) (now (owners .entry)) (now (offsets .entry))) (now (contexts .entry)) r ⌝ }
+    ensures { λ r. ⌜ Optimized asked (slots (now (frames .entry)) (now (starts .entry)) count (now (forms .entry)) (now (carry .entry)) (now (owners .entry)) (now (offsets .entry))) (slots (now (frames .entry)) (now (starts .entry)) count (now (forms .exit)) (now (carry .exit)) (now (owners .entry)) (now (offsets .entry))) (now (contexts .entry)) r ⌝ }
 {
     let mut rewrites = 0;
     loop {
         if rewrite(
+            asked,
             frames,
             starts,
             count,

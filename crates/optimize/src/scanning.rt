@@ -4,9 +4,10 @@ use attempts::try_trampoline;
 use patterns::Pattern;
 use patterns::list::pattern;
 use rules::Place;
+use rules::Settings;
 ghost use Prim.Native.Nat.{_<_};
 ghost use Rattle.laws.specs.Options.{firstOf};
-ghost use Rattle.rules.specs.Rewriting.{patterns, patternAt, anywhere};
+ghost use Rattle.rules.specs.Rewriting.{patterns, patternsFor, patternAt, anywhere};
 ghost use Rattle.slots.specs.Slots.{slots, programOf};
 ghost use Rattle.patterns.specs.Order.{patternAt as nth};
 ghost use Rattle.attempts.specs.Standing.{Standing, Tried};
@@ -93,7 +94,7 @@ fn fold_with(
 }
 
 // The first pattern that counts somewhere.
-pub fn fold(
+fn fold(
     frames: &[u8],
     starts: &[u16; 1025],
     count: usize,
@@ -124,4 +125,34 @@ pub fn fold(
         k += 1;
     }
     false
+}
+
+// The same, if folds are asked for: "whether folds run" (C-24).
+pub fn fold_asked(
+    asked: Settings,
+    frames: &[u8],
+    starts: &[u16; 1025],
+    count: usize,
+    forms: &mut [u8; 1024],
+    carry: &mut [u16; 1024],
+    owners: &[u16; 1024],
+    offsets: &[u16; 1024],
+    contexts: &[u16; 1024],
+) -> bool
+    requires { ⌜ Standing (slots (now frames) (now starts) count (now forms) (now carry) (now owners) (now offsets)) (now contexts) ⌝ }
+    ensures { λ r. ⌜ Tried (firstOf (λ x. anywhere (patternAt (programOf (slots (now (frames .entry)) (now (starts .entry)) count (now (forms .entry)) (now (carry .entry)) (now (owners .entry)) (now (offsets .entry)))) x) (programOf (slots (now (frames .entry)) (now (starts .entry)) count (now (forms .entry)) (now (carry .entry)) (now (owners .entry)) (now (offsets .entry))))) (patternsFor asked)) (now (contexts .entry)) (slots (now (frames .entry)) (now (starts .entry)) count (now (forms .entry)) (now (carry .entry)) (now (owners .entry)) (now (offsets .entry))) (slots (now (frames .entry)) (now (starts .entry)) count (now (forms .exit)) (now (carry .exit)) (now (owners .entry)) (now (offsets .entry))) r ⌝ }
+{
+    if !asked.folds {
+        return false;
+    }
+    fold(
+        frames,
+        starts,
+        count,
+        forms,
+        carry,
+        owners,
+        offsets,
+        contexts,
+    )
 }

@@ -1,4 +1,4 @@
-// Shrinks: "first place first: Jmpf not a change jump tries Br, then Jmp; Callf tries Call."
+// Shrinks: "first place first: Jmpf not a change jump tries Br, then Jmp; Callf tries Call", if that is asked for.
 use anchors::is_change_jump;
 use asm::name_and_lay;
 use attempts::fill_deepest;
@@ -10,6 +10,7 @@ use instruction::tables::CALLF;
 use instruction::tables::JMP;
 use instruction::tables::JMPF;
 use rules::Place;
+use rules::Settings;
 use slots::kind_at;
 ghost use mathlib.Core.Path.{_≡_};
 ghost use mathlib.Core.Bool.{true};
@@ -74,6 +75,7 @@ fn try_br_then_jmp(
 
 // "Jmpf not a change jump"
 fn shrink_jump(
+    asked: Settings,
     frames: &[u8],
     starts: &[u16; 1025],
     count: usize,
@@ -89,7 +91,7 @@ fn shrink_jump(
     at: Place,
 ) -> bool
     requires { ⌜ Standing (slots (now frames) (now starts) count (now forms) (now carry) (now owners) (now offsets)) (now contexts) × Deepest (slots (now frames) (now starts) count (now forms) (now carry) (now owners) (now offsets)) (now deepest) × Ready (tables (now frames) (now starts) count (now forms) (now carry) (now owners) (now offsets) (now names) (now contexts) (now values) (now positions)) × ((tables (now frames) (now starts) count (now forms) (now carry) (now owners) (now offsets) (now names) (now contexts) (now values) (now positions)) .entries ≡ namesOf (programOf (slots (now frames) (now starts) count (now forms) (now carry) (now owners) (now offsets)))) × (at .0 < count) × (kindOf (slotAt (slots (now frames) (now starts) count (now forms) (now carry) (now owners) (now offsets)) (at .0)) ≡ 1) × (getD (now forms) (at .0) 0 ≡ jmpf) ⌝ }
-    ensures { λ r. ⌜ Tried (shrinkAt (namesOf (programOf (slots (now (frames .entry)) (now (starts .entry)) count (now (forms .entry)) (now (carry .entry)) (now (owners .entry)) (now (offsets .entry))))) (programOf (slots (now (frames .entry)) (now (starts .entry)) count (now (forms .entry)) (now (carry .entry)) (now (owners .entry)) (now (offsets .entry)))) (at .0)) (now (contexts .entry)) (slots (now (frames .entry)) (now (starts .entry)) count (now (forms .entry)) (now (carry .entry)) (now (owners .entry)) (now (offsets .entry))) (slots (now (frames .entry)) (now (starts .entry)) count (now (forms .exit)) (now (carry .entry)) (now (owners .entry)) (now (offsets .entry))) r ⌝ }
+    ensures { λ r. ⌜ Tried (shrinkAt asked (namesOf (programOf (slots (now (frames .entry)) (now (starts .entry)) count (now (forms .entry)) (now (carry .entry)) (now (owners .entry)) (now (offsets .entry))))) (programOf (slots (now (frames .entry)) (now (starts .entry)) count (now (forms .entry)) (now (carry .entry)) (now (owners .entry)) (now (offsets .entry)))) (at .0)) (now (contexts .entry)) (slots (now (frames .entry)) (now (starts .entry)) count (now (forms .entry)) (now (carry .entry)) (now (owners .entry)) (now (offsets .entry))) (slots (now (frames .entry)) (now (starts .entry)) count (now (forms .exit)) (now (carry .entry)) (now (owners .entry)) (now (offsets .entry))) r ⌝ }
 {
     if is_change_jump(
         frames,
@@ -123,6 +125,7 @@ fn shrink_jump(
 
 // The shorter forms of the instruction at a place.
 fn shrink_at(
+    asked: Settings,
     frames: &[u8],
     starts: &[u16; 1025],
     count: usize,
@@ -138,7 +141,7 @@ fn shrink_at(
     at: Place,
 ) -> bool
     requires { ⌜ Standing (slots (now frames) (now starts) count (now forms) (now carry) (now owners) (now offsets)) (now contexts) × Deepest (slots (now frames) (now starts) count (now forms) (now carry) (now owners) (now offsets)) (now deepest) × Ready (tables (now frames) (now starts) count (now forms) (now carry) (now owners) (now offsets) (now names) (now contexts) (now values) (now positions)) × ((tables (now frames) (now starts) count (now forms) (now carry) (now owners) (now offsets) (now names) (now contexts) (now values) (now positions)) .entries ≡ namesOf (programOf (slots (now frames) (now starts) count (now forms) (now carry) (now owners) (now offsets)))) × (at .0 < count) ⌝ }
-    ensures { λ r. ⌜ Tried (shrinkAt (namesOf (programOf (slots (now (frames .entry)) (now (starts .entry)) count (now (forms .entry)) (now (carry .entry)) (now (owners .entry)) (now (offsets .entry))))) (programOf (slots (now (frames .entry)) (now (starts .entry)) count (now (forms .entry)) (now (carry .entry)) (now (owners .entry)) (now (offsets .entry)))) (at .0)) (now (contexts .entry)) (slots (now (frames .entry)) (now (starts .entry)) count (now (forms .entry)) (now (carry .entry)) (now (owners .entry)) (now (offsets .entry))) (slots (now (frames .entry)) (now (starts .entry)) count (now (forms .exit)) (now (carry .entry)) (now (owners .entry)) (now (offsets .entry))) r ⌝ }
+    ensures { λ r. ⌜ Tried (shrinkAt asked (namesOf (programOf (slots (now (frames .entry)) (now (starts .entry)) count (now (forms .entry)) (now (carry .entry)) (now (owners .entry)) (now (offsets .entry))))) (programOf (slots (now (frames .entry)) (now (starts .entry)) count (now (forms .entry)) (now (carry .entry)) (now (owners .entry)) (now (offsets .entry)))) (at .0)) (now (contexts .entry)) (slots (now (frames .entry)) (now (starts .entry)) count (now (forms .entry)) (now (carry .entry)) (now (owners .entry)) (now (offsets .entry))) (slots (now (frames .entry)) (now (starts .entry)) count (now (forms .exit)) (now (carry .entry)) (now (owners .entry)) (now (offsets .entry))) r ⌝ }
 {
     if kind_at(frames, starts, count, forms, at) != 1 {
         return false;
@@ -147,6 +150,7 @@ fn shrink_at(
     let form = forms[i];
     if form == JMPF {
         return shrink_jump(
+            asked,
             frames,
             starts,
             count,
@@ -163,6 +167,9 @@ fn shrink_at(
         );
     }
     if form == CALLF {
+        if !asked.callf {
+            return false;
+        }
         return try_form(
             frames,
             starts,
@@ -182,6 +189,7 @@ fn shrink_at(
 
 // The shorter forms at the first place where one counts.
 fn shrink_first(
+    asked: Settings,
     frames: &[u8],
     starts: &[u16; 1025],
     count: usize,
@@ -196,11 +204,12 @@ fn shrink_first(
     deepest: &[u32; 1024],
 ) -> bool
     requires { ⌜ Standing (slots (now frames) (now starts) count (now forms) (now carry) (now owners) (now offsets)) (now contexts) × Deepest (slots (now frames) (now starts) count (now forms) (now carry) (now owners) (now offsets)) (now deepest) × Ready (tables (now frames) (now starts) count (now forms) (now carry) (now owners) (now offsets) (now names) (now contexts) (now values) (now positions)) × ((tables (now frames) (now starts) count (now forms) (now carry) (now owners) (now offsets) (now names) (now contexts) (now values) (now positions)) .entries ≡ namesOf (programOf (slots (now frames) (now starts) count (now forms) (now carry) (now owners) (now offsets)))) ⌝ }
-    ensures { λ r. ⌜ Tried (anywhere (shrinkAt (namesOf (programOf (slots (now (frames .entry)) (now (starts .entry)) count (now (forms .entry)) (now (carry .entry)) (now (owners .entry)) (now (offsets .entry))))) (programOf (slots (now (frames .entry)) (now (starts .entry)) count (now (forms .entry)) (now (carry .entry)) (now (owners .entry)) (now (offsets .entry))))) (programOf (slots (now (frames .entry)) (now (starts .entry)) count (now (forms .entry)) (now (carry .entry)) (now (owners .entry)) (now (offsets .entry))))) (now (contexts .entry)) (slots (now (frames .entry)) (now (starts .entry)) count (now (forms .entry)) (now (carry .entry)) (now (owners .entry)) (now (offsets .entry))) (slots (now (frames .entry)) (now (starts .entry)) count (now (forms .exit)) (now (carry .entry)) (now (owners .entry)) (now (offsets .entry))) r ⌝ }
+    ensures { λ r. ⌜ Tried (anywhere (shrinkAt asked (namesOf (programOf (slots (now (frames .entry)) (now (starts .entry)) count (now (forms .entry)) (now (carry .entry)) (now (owners .entry)) (now (offsets .entry))))) (programOf (slots (now (frames .entry)) (now (starts .entry)) count (now (forms .entry)) (now (carry .entry)) (now (owners .entry)) (now (offsets .entry))))) (programOf (slots (now (frames .entry)) (now (starts .entry)) count (now (forms .entry)) (now (carry .entry)) (now (owners .entry)) (now (offsets .entry))))) (now (contexts .entry)) (slots (now (frames .entry)) (now (starts .entry)) count (now (forms .entry)) (now (carry .entry)) (now (owners .entry)) (now (offsets .entry))) (slots (now (frames .entry)) (now (starts .entry)) count (now (forms .exit)) (now (carry .entry)) (now (owners .entry)) (now (offsets .entry))) r ⌝ }
 {
     let mut i = 0;
     while i < count {
         if shrink_at(
+            asked,
             frames,
             starts,
             count,
@@ -224,6 +233,7 @@ fn shrink_first(
 
 // The names of a program that assembles are found once, and how deep its inner labels reach: no shrink counts until one is done.
 pub fn shrink(
+    asked: Settings,
     frames: &[u8],
     starts: &[u16; 1025],
     count: usize,
@@ -234,7 +244,7 @@ pub fn shrink(
     contexts: &[u16; 1024],
 ) -> bool
     requires { ⌜ Standing (slots (now frames) (now starts) count (now forms) (now carry) (now owners) (now offsets)) (now contexts) × (assembles (programOf (slots (now frames) (now starts) count (now forms) (now carry) (now owners) (now offsets))) ≡ true) ⌝ }
-    ensures { λ r. ⌜ Tried (anywhere (shrinkAt (namesOf (programOf (slots (now (frames .entry)) (now (starts .entry)) count (now (forms .entry)) (now (carry .entry)) (now (owners .entry)) (now (offsets .entry))))) (programOf (slots (now (frames .entry)) (now (starts .entry)) count (now (forms .entry)) (now (carry .entry)) (now (owners .entry)) (now (offsets .entry))))) (programOf (slots (now (frames .entry)) (now (starts .entry)) count (now (forms .entry)) (now (carry .entry)) (now (owners .entry)) (now (offsets .entry))))) (now (contexts .entry)) (slots (now (frames .entry)) (now (starts .entry)) count (now (forms .entry)) (now (carry .entry)) (now (owners .entry)) (now (offsets .entry))) (slots (now (frames .entry)) (now (starts .entry)) count (now (forms .exit)) (now (carry .entry)) (now (owners .entry)) (now (offsets .entry))) r ⌝ }
+    ensures { λ r. ⌜ Tried (anywhere (shrinkAt asked (namesOf (programOf (slots (now (frames .entry)) (now (starts .entry)) count (now (forms .entry)) (now (carry .entry)) (now (owners .entry)) (now (offsets .entry))))) (programOf (slots (now (frames .entry)) (now (starts .entry)) count (now (forms .entry)) (now (carry .entry)) (now (owners .entry)) (now (offsets .entry))))) (programOf (slots (now (frames .entry)) (now (starts .entry)) count (now (forms .entry)) (now (carry .entry)) (now (owners .entry)) (now (offsets .entry))))) (now (contexts .entry)) (slots (now (frames .entry)) (now (starts .entry)) count (now (forms .entry)) (now (carry .entry)) (now (owners .entry)) (now (offsets .entry))) (slots (now (frames .entry)) (now (starts .entry)) count (now (forms .exit)) (now (carry .entry)) (now (owners .entry)) (now (offsets .entry))) r ⌝ }
 {
     let mut names = [65536u32; 1024];
     let mut positions = [0u32; 1025];
@@ -262,6 +272,7 @@ pub fn shrink(
     ) {
         Checked::Refused(_) => false,
         Checked::Passes => shrink_first(
+            asked,
             frames,
             starts,
             count,

@@ -3,6 +3,7 @@ pub mod Frames
 pub mod Targets
 pub mod Slots
 pub mod Listings
+pub mod Shows
 pub mod Sizes
 pub mod Hexes
 pub mod Readers

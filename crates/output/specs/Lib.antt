@@ -2,4 +2,5 @@
 pub mod Digits
 pub mod Lines
 pub mod Stems
+pub mod Showing
 pub mod Writable

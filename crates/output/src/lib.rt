@@ -2,6 +2,7 @@
 mod digits; // bytes to digit pairs
 mod last; // the last line
 mod lines; // how long each slot's line is, and the text
+mod showing; // which slots are shown
 mod stems; // which slots the lines stem from
 mod text; // the lines themselves
 
@@ -10,5 +11,6 @@ pub use last::done_line;
 pub use last::refused_line;
 pub use lines::line_length_at;
 pub use lines::text_length;
+pub use showing::show;
 pub use stems::write_stems;
 pub use text::write_text;

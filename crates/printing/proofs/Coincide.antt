@@ -3,11 +3,12 @@ use mathlib.Core.Path.{_≡_, sym, _∙_}
 use mathlib.Core.List.{List}
 use Prim.Native.Nat.{ℕ, _≤_}
 use Rattle.rules.specs.declared.Answer.{Answer}
+use Rattle.rules.specs.declared.Settings.{Settings}
 use Rattle.printing.specs.Page.{pageLength, PrintedRun}
 
 -- `print_run`: the answer, and every byte of the page and of the image's room
-pub one-printed : (text page image : List ℕ) (r s : Answer) (x y u v : List ℕ) → PrintedRun text page image r x u → PrintedRun text page image s y v → (r ≡ s) × (x ≡ y) × (u ≡ v)
-one-printed text page image r s x y u v a b = (a .answers ∙ sym (b .answers), a .page-is ∙ sym (b .page-is), a .image-is ∙ sym (b .image-is))
+pub one-printed : (asked : Settings) (text page image : List ℕ) (r s : Answer) (x y u v : List ℕ) → PrintedRun asked text page image r x u → PrintedRun asked text page image s y v → (r ≡ s) × (x ≡ y) × (u ≡ v)
+one-printed asked text page image r s x y u v a b = (a .answers ∙ sym (b .answers), a .page-is ∙ sym (b .page-is), a .image-is ∙ sym (b .image-is))
 
 -- `page_length`
 pub one-length : (answer : Answer) (m n : ℕ) → (m ≡ pageLength answer) × (m ≤ 50189) → (n ≡ pageLength answer) × (n ≤ 50189) → m ≡ n

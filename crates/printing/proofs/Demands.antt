@@ -12,6 +12,7 @@ use Rattle.laws.proofs.Stores.{front-take, front-drop}
 use Rattle.rules.specs.declared.Answer.{Answer}
 use Rattle.rules.specs.declared.Answer.the-variants.{Done, Refused}
 use Rattle.rules.specs.declared.Sizes.{Sizes}
+use Rattle.rules.specs.declared.Settings.{Settings}
 use Rattle.rules.specs.declared.Refusal.{Refusal}
 use Rattle.rules.specs.declared.Refusal.the-variants.{Broken, Limit, Again, NoName, Back, Beyond, NoValue, Range, Outside, Far, Page, Room}
 use Rattle.rules.specs.Refusals.{faultOf}
@@ -29,9 +30,9 @@ use Rattle.entries.proofs.Demands.{in-front}
 use Rattle.printing.specs.Page.{pageLength, PrintedRun, Prints}
 
 -- ---- `print_run`
-module _ (text page image page′ image′ : List ℕ) where
+module _ (asked : Settings) (text page image page′ image′ : List ℕ) where
   abbrev whole : Judged Output
-  whole = run text listingRoomOfProgram imageRoomOfProgram
+  whole = run asked text listingRoomOfProgram imageRoomOfProgram
 
   -- 12 is only the rooms'
   not-twelve : (s : Refusal) → whole ≡ no s → faultOf s .number ≡ 12 → ⊥
@@ -46,16 +47,16 @@ module _ (text page image page′ image′ : List ℕ) where
   not-twelve (Outside i j v) e n = absurd (omega (arith, n))
   not-twelve (Far i j v) e n = absurd (omega (arith, n))
   not-twelve (Page i j v) e n = absurd (omega (arith, n))
-  not-twelve (Room m) e n = never-room text m e
+  not-twelve (Room m) e n = never-room asked text m e
 
   refused-so : (s : Refusal) (j : Judged Output) → Refused s ≡ answerOf j → j ≡ no s
   refused-so s (ok o) e = clash (cc)
   refused-so s (no r) e = cc
 
   -- prints: the front of the page is what the program prints, the rest of it is what it was, and 12 is never printed
-  pub prints : (r : Answer) → PrintedRun text page image r page′ image′ → Prints text page r page′
+  pub prints : (r : Answer) → PrintedRun asked text page image r page′ image′ → Prints asked text page r page′
   prints r x =
-      let page-is = in-front (program text) page page′ (pageLength r) (x .page-length) (x .page-is) in
+      let page-is = in-front (program asked text) page page′ (pageLength r) (x .page-length) (x .page-is) in
       record {
         printed = page-is .0;
         beyond = page-is .1;
@@ -63,12 +64,12 @@ module _ (text page image page′ image′ : List ℕ) where
       }
 
   -- printed-promised: the demands hold of the listing that is printed, of the image and of the count
-  pub printed-promised : (sizes : Sizes) → PrintedRun text page image (Done sizes) page′ image′ → Promised text (take (sizes .listing) page′) (take (sizes .image) image′) (sizes .rewrites)
+  pub printed-promised : (sizes : Sizes) → PrintedRun asked text page image (Done sizes) page′ image′ → Promised asked text (take (sizes .listing) page′) (take (sizes .image) image′) (sizes .rewrites)
   unfolding program
   printed-promised sizes x = on whole refl (x .answers) (x .page-is) (x .image-is)
     where
       on : (j : Judged Output) → whole ≡ j → Done sizes ≡ answerOf j → page′ ≡ printed j ++ drop (length (printed j)) page → image′ ≡ imageAfter j image
-          → Promised text (take (sizes .listing) page′) (take (sizes .image) image′) (sizes .rewrites)
+          → Promised asked text (take (sizes .listing) page′) (take (sizes .image) image′) (sizes .rewrites)
       on (ok o) e d f g =
           let z : sizes ≡ record { listing = length (o .listing); rewrites = o .count; image = length (o .image) } = cc in
           let line : List ℕ = doneLine (o .count) (length (o .image)) in
@@ -77,11 +78,11 @@ module _ (text page image page′ image′ : List ℕ) where
           ap (take (sizes .listing)) (f ∙ append-assoc (o .listing) line rest) ∙ take-at (o .listing) (line ++ rest) (sizes .listing) (sym (ap (λ (s : Sizes). s .listing) z)) in
           let bytes : take (sizes .image) image′ ≡ o .image = in-front (o .image) image image′ (sizes .image) (ap (λ (s : Sizes). s .image) z) g .0 in
           let count : sizes .rewrites ≡ o .count = ap (λ (s : Sizes). s .rewrites) z in
-          rw (written, bytes, count) (promised text listingRoomOfProgram imageRoomOfProgram o e)
+          rw (written, bytes, count) (promised asked text listingRoomOfProgram imageRoomOfProgram o e)
       on (no s) e d f g = clash (cc)
 
   -- printed-refused: "On refusal it writes only 7E, number, place in two bytes" and what C-12 adds: the rest of the page and the image's room are what they were
-  pub printed-refused : (s : Refusal) → PrintedRun text page image (Refused s) page′ image′
+  pub printed-refused : (s : Refusal) → PrintedRun asked text page image (Refused s) page′ image′
       → (take 19 page′ ≡ refusedLine (faultOf s)) × (drop 19 page′ ≡ drop 19 page) × (image′ ≡ image)
   unfolding program
   printed-refused s x =

@@ -15,6 +15,7 @@ use Rattle.rules.specs.declared.Answer.{Answer}
 use Rattle.rules.specs.declared.Answer.the-variants.{Done, Refused}
 use Rattle.rules.specs.declared.Refusal.{Refusal}
 use Rattle.rules.specs.declared.Sizes.{Sizes}
+use Rattle.rules.specs.declared.Settings.{Settings}
 use Rattle.rules.specs.Refusals.{Fault, faultOf}
 use Rattle.rules.specs.Answers.{Judged, ok, no}
 use Rattle.rules.specs.Expressions.{pair, four}
@@ -62,42 +63,42 @@ front-part result page n h k =
     ∙ ap (λ (l : List ℕ). result ++ l)
     (sym (drop-append-le (length result) (take n page) (drop n page) (omega (arith, length-take n page))) ∙ ap (drop (length result)) (take-append-drop n page))
 
-module _ (text : List ℕ) where
+module _ (asked : Settings) (text : List ℕ) where
   -- of a run with the first n bytes for its listing
-  listing-part : (page : List ℕ) (n imageRoom : ℕ) → n ≤ length page → listingAfter (run text n imageRoom) (take n page) ++ drop n page ≡ listingAfter (run text n imageRoom) page
-  listing-part page n imageRoom h = on (run text n imageRoom) refl
+  listing-part : (page : List ℕ) (n imageRoom : ℕ) → n ≤ length page → listingAfter (run asked text n imageRoom) (take n page) ++ drop n page ≡ listingAfter (run asked text n imageRoom) page
+  listing-part page n imageRoom h = on (run asked text n imageRoom) refl
     where
-      on : (x : Judged Output) → run text n imageRoom ≡ x → listingAfter x (take n page) ++ drop n page ≡ listingAfter x page
-      on (ok o) e = front-part (o .listing) page n (accepted-iff text n imageRoom o .0 e .listing-fits) h
+      on : (x : Judged Output) → run asked text n imageRoom ≡ x → listingAfter x (take n page) ++ drop n page ≡ listingAfter x page
+      on (ok o) e = front-part (o .listing) page n (accepted-iff asked text n imageRoom o .0 e .listing-fits) h
       on (no r) e = take-append-drop n page
 
-  pub lent-front : (page image part image′ : List ℕ) (r : Answer) → listingRoomOfProgram ≤ length page → Answered text (take listingRoomOfProgram page) image r part image′
-      → Lent text page image r (part ++ drop listingRoomOfProgram page) image′
+  pub lent-front : (page image part image′ : List ℕ) (r : Answer) → listingRoomOfProgram ≤ length page → Answered asked text (take listingRoomOfProgram page) image r part image′
+      → Lent asked text page image r (part ++ drop listingRoomOfProgram page) image′
   lent-front page image part image′ r h a =
       let size : length (take listingRoomOfProgram page) ≡ listingRoomOfProgram = omega (arith, length-take listingRoomOfProgram page) in
       lent (length (take listingRoomOfProgram page)) size (a .answers) (a .listing-is) (a .image-is)
     where
-      lent : (n : ℕ) → n ≡ listingRoomOfProgram → r ≡ answerOf (run text n (length image)) → part ≡ listingAfter (run text n (length image)) (take listingRoomOfProgram page)
-          → image′ ≡ imageAfter (run text n (length image)) image → Lent text page image r (part ++ drop listingRoomOfProgram page) image′
+      lent : (n : ℕ) → n ≡ listingRoomOfProgram → r ≡ answerOf (run asked text n (length image)) → part ≡ listingAfter (run asked text n (length image)) (take listingRoomOfProgram page)
+          → image′ ≡ imageAfter (run asked text n (length image)) image → Lent asked text page image r (part ++ drop listingRoomOfProgram page) image′
       lent n e x y z =
           record {
-            answers = x ∙ ap (λ (m : ℕ). answerOf (run text m (length image))) e;
+            answers = x ∙ ap (λ (m : ℕ). answerOf (run asked text m (length image))) e;
             page-is =
-                ap (λ (l : List ℕ). l ++ drop listingRoomOfProgram page) (y ∙ ap (λ (m : ℕ). listingAfter (run text m (length image)) (take listingRoomOfProgram page)) e)
+                ap (λ (l : List ℕ). l ++ drop listingRoomOfProgram page) (y ∙ ap (λ (m : ℕ). listingAfter (run asked text m (length image)) (take listingRoomOfProgram page)) e)
                 ∙ listing-part page listingRoomOfProgram (length image) h;
-            image-is = z ∙ ap (λ (m : ℕ). imageAfter (run text m (length image)) image) e;
+            image-is = z ∙ ap (λ (m : ℕ). imageAfter (run asked text m (length image)) image) e;
           }
 
   abbrev whole : Judged Output
-  whole = run text listingRoomOfProgram imageRoomOfProgram
+  whole = run asked text listingRoomOfProgram imageRoomOfProgram
 
   -- ---- what it answers has room in the last line, and the last line on the page
   answer-fits : (room : ℕ) (x : Judged Output) → whole ≡ x → 50189 ≤ room → Printable (answerOf x) room
   answer-fits room (ok o) e h =
-      let a = accepted-iff text listingRoomOfProgram imageRoomOfProgram o .0 e in
-      let few : o .count ≤ 3072 = rw (a .result) (few-rewrites text (a .program) (a .keeps-rules)) in
+      let a = accepted-iff asked text listingRoomOfProgram imageRoomOfProgram o .0 e in
+      let few : o .count ≤ 3072 = rw (a .result) (few-rewrites asked text (a .program) (a .keeps-rules)) in
       record { rewrites = omega arith; image = a .image-fits; listing = omega (arith, a .listing-fits) }
-  answer-fits room (no r) e h = (omega (arith, refused-early text listingRoomOfProgram imageRoomOfProgram r e), refused-argument text listingRoomOfProgram imageRoomOfProgram r e, omega arith)
+  answer-fits room (no r) e h = (omega (arith, refused-early asked text listingRoomOfProgram imageRoomOfProgram r e), refused-argument asked text listingRoomOfProgram imageRoomOfProgram r e, omega arith)
 
   -- and makes up what is printed
   answer-page : (page : List ℕ) (x : Judged Output) → lastAfter (answerOf x) (listingAfter x page) ≡ front (printed x) page
@@ -110,26 +111,26 @@ module _ (text : List ℕ) where
   answer-length : (x : Judged Output) → whole ≡ x → pageLength (answerOf x) ≡ length (printed x)
   answer-length (ok o) e =
       let l : ℕ = length (o .listing) in
-      let a = accepted-iff text listingRoomOfProgram imageRoomOfProgram o .0 e in
+      let a = accepted-iff asked text listingRoomOfProgram imageRoomOfProgram o .0 e in
       cond-true (leb l listingRoomOfProgram) (l + 13) (listingRoomOfProgram + 13) (le-leb l listingRoomOfProgram (a .listing-fits))
       ∙ omega (arith, length-append (o .listing) (doneLine (o .count) (length (o .image))), length-done (o .count) (length (o .image)))
   answer-length (no r) e = sym (length-refused (faultOf r))
 
   -- ---- both together
-  module _ (page image page₁ image₁ : List ℕ) (r : Answer) (room : length image ≡ imageRoomOfProgram) (lent : Lent text page image r page₁ image₁) where
+  module _ (page image page₁ image₁ : List ℕ) (r : Answer) (room : length image ≡ imageRoomOfProgram) (lent : Lent asked text page image r page₁ image₁) where
     answered : r ≡ answerOf whole
-    answered = lent .answers ∙ ap (λ (m : ℕ). answerOf (run text listingRoomOfProgram m)) room
+    answered = lent .answers ∙ ap (λ (m : ℕ). answerOf (run asked text listingRoomOfProgram m)) room
 
     pub lent-printable : (n : ℕ) → 50189 ≤ n → Printable r n
     lent-printable n h = rw answered (answer-fits n whole refl h)
 
-    pub lent-printed : (page₂ : List ℕ) → page₂ ≡ lastAfter r page₁ → PrintedRun text page image r page₂ image₁
+    pub lent-printed : (page₂ : List ℕ) → page₂ ≡ lastAfter r page₁ → PrintedRun asked text page image r page₂ image₁
     unfolding program
     lent-printed page₂ e =
-        let after : page₁ ≡ listingAfter whole page = lent .page-is ∙ ap (λ (m : ℕ). listingAfter (run text listingRoomOfProgram m) page) room in
+        let after : page₁ ≡ listingAfter whole page = lent .page-is ∙ ap (λ (m : ℕ). listingAfter (run asked text listingRoomOfProgram m) page) room in
         record {
           answers = answered;
           page-is = e ∙ ap (λ (x : Answer). lastAfter x page₁) answered ∙ ap (lastAfter (answerOf whole)) after ∙ answer-page page whole;
-          image-is = lent .image-is ∙ ap (λ (m : ℕ). imageAfter (run text listingRoomOfProgram m) image) room;
+          image-is = lent .image-is ∙ ap (λ (m : ℕ). imageAfter (run asked text listingRoomOfProgram m) image) room;
           page-length = ap pageLength answered ∙ answer-length whole refl;
         }

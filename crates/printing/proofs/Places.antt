@@ -14,6 +14,7 @@ use Rattle.laws.proofs.Tests.{and-true, clash}
 use Rattle.laws.proofs.Lists.{total-bound}
 use Rattle.rules.specs.declared.Refusal.{Refusal}
 use Rattle.rules.specs.declared.Refusal.the-variants.{Broken, Limit, Again, NoName, Back, Beyond, NoValue, Range, Outside, Far, Page, Room}
+use Rattle.rules.specs.declared.Settings.{Settings}
 use Rattle.rules.specs.declared.Kind.{Kind}
 use Rattle.rules.specs.declared.Kind.the-variants.{Reg, I8, D9, Bit, Rel8, A12, A16, Rel16}
 use Rattle.rules.specs.Refusals.{faultOf}
@@ -189,13 +190,13 @@ unfolding readListing
 read-early text r e = says-no Any Early (readLines 0 0 (linesOf text)) r (lines-early 0 0 (linesOf text) (omega arith)) e
 
 -- every refusal of a run
-pub refused-early : (text : List ℕ) (listingRoom imageRoom : ℕ) (r : Refusal) → run text listingRoom imageRoom ≡ no r → faultOf r .place ≤ 1024
-refused-early text listingRoom imageRoom r e = on (refused-once text listingRoom imageRoom r .0 e)
+pub refused-early : (asked : Settings) (text : List ℕ) (listingRoom imageRoom : ℕ) (r : Refusal) → run asked text listingRoom imageRoom ≡ no r → faultOf r .place ≤ 1024
+refused-early asked text listingRoom imageRoom r e = on (refused-once asked text listingRoom imageRoom r .0 e)
   where
     few : (p : Program) → readListing text ≡ ok p → length p ≤ 1024
     few p d = read-limits text p d .0
 
-    on : Cause text listingRoom imageRoom r → faultOf r .place ≤ 1024
+    on : Cause asked text listingRoom imageRoom r → faultOf r .place ≤ 1024
     on (reading d x) = read-early text r d
     on (naming p d a x) = omega (arith, x .place, few p d)
     on (laying p d a b x) = omega (arith, x .place, few p d)
@@ -239,10 +240,10 @@ encoded-argument p names i r w (of-item es j v (inl e) l x a) = let s : SoundStm
 encoded-argument p names i r w (of-item es j v (inr e) l x a) = let s : SoundStmt (words es) = subst SoundStmt e (w .sound i) in omega (arith, amount-argument a, s .1)
 
 -- every refusal of a run
-pub refused-argument : (text : List ℕ) (listingRoom imageRoom : ℕ) (r : Refusal) → run text listingRoom imageRoom ≡ no r → faultOf r .argument < 256
-refused-argument text listingRoom imageRoom r e = on (refused-once text listingRoom imageRoom r .0 e)
+pub refused-argument : (asked : Settings) (text : List ℕ) (listingRoom imageRoom : ℕ) (r : Refusal) → run asked text listingRoom imageRoom ≡ no r → faultOf r .argument < 256
+refused-argument asked text listingRoom imageRoom r e = on (refused-once asked text listingRoom imageRoom r .0 e)
   where
-    on : Cause text listingRoom imageRoom r → faultOf r .argument < 256
+    on : Cause asked text listingRoom imageRoom r → faultOf r .argument < 256
     on (reading d x) = omega (arith, no-argument (1 ∷ 2 ∷ []) r refl refl refl refl x)
     on (naming p d a x) = omega (arith, no-argument (3 ∷ []) r refl refl refl refl (x .number))
     on (laying p d a b x) = omega (arith, no-argument (5 ∷ 6 ∷ []) r refl refl refl refl (x .number))
@@ -263,7 +264,7 @@ instr-small (org l) = omega arith
 instr-small (bytes es) = omega arith
 instr-small (words es) = omega arith
 
-pub few-rewrites : (text : List ℕ) (p : Program) → readListing text ≡ ok p → outputOf p .count ≤ 3072
-few-rewrites text p e =
-    let b = rewrites-bound p in
+pub few-rewrites : (asked : Settings) (text : List ℕ) (p : Program) → readListing text ≡ ok p → outputOf asked p .count ≤ 3072
+few-rewrites asked text p e =
+    let b = rewrites-bound asked p in
     omega (arith, b .counted, b .bounded, total-bound instrBytes 3 p instr-small, read-limits text p e .0)

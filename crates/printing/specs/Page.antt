@@ -9,15 +9,16 @@ use Rattle.rules.specs.declared.Answer.{Answer}
 use Rattle.rules.specs.declared.Answer.the-variants.{Done, Refused}
 use Rattle.rules.specs.declared.Sizes.{Sizes}
 use Rattle.rules.specs.declared.Refusal.{Refusal}
+use Rattle.rules.specs.declared.Settings.{Settings}
 use Rattle.rules.specs.Refusals.{faultOf}
 use Rattle.rules.specs.Output.{doneLine, refusedLine}
 use Rattle.rules.specs.Run.{run, answerOf, front, listingAfter, imageAfter, listingRoomOfProgram, imageRoomOfProgram, program}
 
 -- a run that is lent the page's first 50,176 bytes for its listing
-pub record Lent (text page image : List ℕ) (r : Answer) (page′ image′ : List ℕ) : Type 0 where
-  pub answers : r ≡ answerOf (run text listingRoomOfProgram (length image))
-  pub page-is : page′ ≡ listingAfter (run text listingRoomOfProgram (length image)) page
-  pub image-is : image′ ≡ imageAfter (run text listingRoomOfProgram (length image)) image
+pub record Lent (asked : Settings) (text page image : List ℕ) (r : Answer) (page′ image′ : List ℕ) : Type 0 where
+  pub answers : r ≡ answerOf (run asked text listingRoomOfProgram (length image))
+  pub page-is : page′ ≡ listingAfter (run asked text listingRoomOfProgram (length image)) page
+  pub image-is : image′ ≡ imageAfter (run asked text listingRoomOfProgram (length image)) image
 
 -- "a last line: 7F, rewrites in two bytes, image length in three": 13 characters, behind the listing
 pub record LineFits (s : Sizes) (room : ℕ) : Type 0 where
@@ -42,14 +43,14 @@ pageLength (Done s) = cond (leb (s .listing) listingRoomOfProgram) (s .listing +
 pageLength (Refused r) = 19
 
 -- "The program reads a listing .. and writes the new one and a last line": the page's front is what is printed, what lies behind is unchanged
-pub record PrintedRun (text page image : List ℕ) (r : Answer) (page′ image′ : List ℕ) : Type 0 where
-  pub answers : r ≡ answerOf (run text listingRoomOfProgram imageRoomOfProgram)
-  pub page-is : page′ ≡ front (program text) page
-  pub image-is : image′ ≡ imageAfter (run text listingRoomOfProgram imageRoomOfProgram) image
-  pub page-length : pageLength r ≡ length (program text)
+pub record PrintedRun (asked : Settings) (text page image : List ℕ) (r : Answer) (page′ image′ : List ℕ) : Type 0 where
+  pub answers : r ≡ answerOf (run asked text listingRoomOfProgram imageRoomOfProgram)
+  pub page-is : page′ ≡ front (program asked text) page
+  pub image-is : image′ ≡ imageAfter (run asked text listingRoomOfProgram imageRoomOfProgram) image
+  pub page-length : pageLength r ≡ length (program asked text)
 
 -- so the first `page_length` bytes of the page are what the program prints, and the program never gives 12
-pub record Prints (text page : List ℕ) (r : Answer) (page′ : List ℕ) : Type 0 where
-  pub printed : take (pageLength r) page′ ≡ program text
+pub record Prints (asked : Settings) (text page : List ℕ) (r : Answer) (page′ : List ℕ) : Type 0 where
+  pub printed : take (pageLength r) page′ ≡ program asked text
   pub beyond : drop (pageLength r) page′ ≡ drop (pageLength r) page
   pub never-12 : (s : Refusal) → r ≡ Refused s → faultOf s .number ≡ 12 → ⊥

@@ -4,17 +4,18 @@ use entries::optimize_jumps;
 use output::done_line;
 use output::refused_line;
 use rules::Answer;
+use rules::Settings;
 ghost use mathlib.Core.Path.{_≡_};
 ghost use Prim.Native.Nat.{_≤_};
 ghost use lib.ListN.{length};
 ghost use Rattle.printing.specs.Page.{Lent, Printable, lastAfter, PrintedRun, pageLength};
 
 // The run has the page's front for its listing: what lies behind is kept for the last line.
-fn run_into(listing: &[u8], page: &mut [u8], image: &mut [u8]) -> Answer
+fn run_into(asked: Settings, listing: &[u8], page: &mut [u8], image: &mut [u8]) -> Answer
     requires { ⌜ 50176 ≤ length (now page) ⌝ }
-    ensures { λ r. ⌜ Lent (now (listing .entry)) (now (page .entry)) (now (image .entry)) r (now (page .exit)) (now (image .exit)) ⌝ }
+    ensures { λ r. ⌜ Lent asked (now (listing .entry)) (now (page .entry)) (now (image .entry)) r (now (page .exit)) (now (image .exit)) ⌝ }
 {
-    optimize_jumps(listing, &mut page[..50176], image)
+    optimize_jumps(asked, listing, &mut page[..50176], image)
 }
 
 // The last line behind the listing, or the 7E line in front.
@@ -35,10 +36,15 @@ fn end_page(answer: Answer, page: &mut [u8])
 }
 
 // All that the program prints stands at the front of the page.
-pub fn print_run(listing: &[u8], page: &mut [u8; 50189], image: &mut [u8; 65536]) -> Answer
-    ensures { λ r. ⌜ PrintedRun (now (listing .entry)) (now (page .entry)) (now (image .entry)) r (now (page .exit)) (now (image .exit)) ⌝ }
+pub fn print_run(
+    asked: Settings,
+    listing: &[u8],
+    page: &mut [u8; 50189],
+    image: &mut [u8; 65536],
+) -> Answer
+    ensures { λ r. ⌜ PrintedRun asked (now (listing .entry)) (now (page .entry)) (now (image .entry)) r (now (page .exit)) (now (image .exit)) ⌝ }
 {
-    let answer = run_into(listing, page, image);
+    let answer = run_into(asked, listing, page, image);
     end_page(answer, page);
     answer
 }

@@ -12,6 +12,7 @@ use borrow.Author.Tests.{leb-false, lt-ltb}
 use Rattle.laws.specs.Lists.{total, every}
 use Rattle.laws.proofs.Tests.{and-true, and-both, false-true}
 use Rattle.laws.proofs.Lists.{every-all, every-weaken}
+use Rattle.rules.specs.declared.Settings.{Settings}
 use Rattle.rules.specs.declared.Outcome.{Outcome}
 use Rattle.rules.specs.declared.Outcome.the-variants.{Is, Unknown}
 use Rattle.rules.specs.Answers.{ok}
@@ -143,11 +144,11 @@ module _ (p : Program) where
       (λ i h. let l = low-all w i (at p i) refl in ap (λ (s : Stmt). every (ofInner below-owner) (argsOf s)) (at-anchor p i) ∙ anchored-keeps Low p i (l .0) (l .1)))
       (image-assembles (anchor p) image (judge-anchor ∙ e))
 
-  -- every step leaves an acceptable program
-  pub step-acceptable : (q : Program) → step p ≡ some q → acceptable q ≡ true
-  step-acceptable q e = step-good p q (step-some p q e)
+-- every step leaves an acceptable program
+pub step-acceptable : (asked : Settings) (p q : Program) → step asked p ≡ some q → acceptable q ≡ true
+step-acceptable asked p q e = step-good p q (step-some asked p q e)
 
-  -- so the end form is acceptable
-  pub end-acceptable : WellMade p → (image : List ℕ) → judge p ≡ ok image → acceptable (optimized p .program) ≡ true
-  unfolding optimized
-  end-acceptable w image e = chain-keeps (λ q. acceptable q ≡ true) (λ r q s h. step-good r q s) (total instrBytes p) (anchor p) (anchor-acceptable w image e)
+-- so the end form is acceptable
+pub end-acceptable : (asked : Settings) (p : Program) → WellMade p → (image : List ℕ) → judge p ≡ ok image → acceptable (optimized asked p .program) ≡ true
+unfolding optimized
+end-acceptable asked p w image e = chain-keeps asked (λ q. acceptable q ≡ true) (λ r q s h. step-good r q s) (total instrBytes p) (anchor p) (anchor-acceptable p w image e)

@@ -8,6 +8,7 @@ use lib.Dec.{leb}
 use lib.ListN.{length}
 use borrow.Author.Tests.{leb-true, le-leb}
 use Rattle.laws.proofs.Tests.{and-true, and-both}
+use Rattle.rules.specs.declared.Settings.{Settings}
 use Rattle.rules.specs.declared.Refusal.the-variants.{Room}
 use Rattle.rules.specs.Answers.{ok, _>>=_, _>>_, require}
 use Rattle.rules.specs.Programs.{Program}
@@ -17,7 +18,7 @@ use Rattle.rules.specs.Run.{Output, outputOf, fits, run}
 use Rattle.rules.proofs.Laws.{then-ok, next-ok, require-ok}
 use Rattle.promises.specs.Demand2.{Accepted}
 
-module _ (text : List ℕ) (listingRoom imageRoom : ℕ) (o : Output) where
+module _ (asked : Settings) (text : List ℕ) (listingRoom imageRoom : ℕ) (o : Output) where
   -- both rooms hold the result
   fits-both : fits listingRoom imageRoom o ≡ true ↔ ((length (o .listing) ≤ listingRoom) × (length (o .image) ≤ imageRoom))
   unfolding fits
@@ -27,14 +28,14 @@ module _ (text : List ℕ) (listingRoom imageRoom : ℕ) (o : Output) where
   )
 
   -- what an accepted run says
-  accepted-only : run text listingRoom imageRoom ≡ ok o → Accepted text listingRoom imageRoom o
+  accepted-only : run asked text listingRoom imageRoom ≡ ok o → Accepted asked text listingRoom imageRoom o
   unfolding run
   accepted-only e =
       let read = then-ok (readListing text) _ o e in
       let p : Program = read .0 in
       let judged = next-ok (judge p) _ o (read .2) in
-      let room = require-ok (fits listingRoom imageRoom (outputOf p)) (Room (length p)) (ok (outputOf p)) o (judged .2) in
-      let same : o ≡ outputOf p = cc in
+      let room = require-ok (fits listingRoom imageRoom (outputOf asked p)) (Room (length p)) (ok (outputOf asked p)) o (judged .2) in
+      let same : o ≡ outputOf asked p = cc in
       let both = fits-both .0 (ap (fits listingRoom imageRoom) same ∙ room .0) in
       record {
         program = p;
@@ -47,12 +48,12 @@ module _ (text : List ℕ) (listingRoom imageRoom : ℕ) (o : Output) where
       }
 
   -- and back
-  accepted-if : Accepted text listingRoom imageRoom o → run text listingRoom imageRoom ≡ ok o
+  accepted-if : Accepted asked text listingRoom imageRoom o → run asked text listingRoom imageRoom ≡ ok o
   unfolding run _>>=_ _>>_ require
   accepted-if a =
       let both : fits listingRoom imageRoom o ≡ true = fits-both .1 (a .listing-fits, a .image-fits) in
       rw (a .keeps-rules, _>>=_, a .assembles, _>>_, ← a .result, both)
 
   -- accepted-iff: a run answers o exactly when the text reads, the program assembles as given, and both rooms hold the result
-  pub accepted-iff : run text listingRoom imageRoom ≡ ok o ↔ Accepted text listingRoom imageRoom o
+  pub accepted-iff : run asked text listingRoom imageRoom ≡ ok o ↔ Accepted asked text listingRoom imageRoom o
   accepted-iff = (accepted-only, accepted-if)

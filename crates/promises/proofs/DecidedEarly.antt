@@ -16,6 +16,7 @@ use Rattle.rules.specs.Programs.{Stmt, Program}
 use Rattle.rules.specs.Listing.{Line, ontoLine, linesOf, unhex, readFrame, withinLimits, wellFormed, readLines, readListing}
 use Rattle.rules.specs.Run.{Output, run, assembled, printed, program, listingRoomOfProgram, imageRoomOfProgram}
 use Rattle.promises.specs.Room.{inputRoomOfProgram, readIn, DecidedEarly}
+use Rattle.rules.specs.declared.Settings.{Settings}
 use Rattle.promises.proofs.Listings.{read-limits, read-whole}
 
 -- ---- the lines of a text's first n characters, beside the lines of the text: the same, up to a line that the cut may have shortened
@@ -110,9 +111,9 @@ alike-assembled : (s t : List ℕ) → readListing s ≡ readListing t → (imag
 unfolding assembled
 alike-assembled s t e imageRoom = rw e
 
-alike-run : (s t : List ℕ) → readListing s ≡ readListing t → (listingRoom imageRoom : ℕ) → run s listingRoom imageRoom ≡ run t listingRoom imageRoom
+alike-run : (s t : List ℕ) → readListing s ≡ readListing t → (asked : Settings) (listingRoom imageRoom : ℕ) → run asked s listingRoom imageRoom ≡ run asked t listingRoom imageRoom
 unfolding run
-alike-run s t e listingRoom imageRoom = rw e
+alike-run s t e asked listingRoom imageRoom = rw e
 
 -- decided-early: the first 65,536 characters of a text are read, assembled, run and printed as the whole text is
 pub decided-early : (text : List ℕ) → DecidedEarly text
@@ -124,5 +125,5 @@ decided-early text =
       reads = e;
       assembles = alike-assembled (readIn text) text e;
       runs = alike-run (readIn text) text e;
-      prints = ap (λ (o : Judged Output). printed o) (alike-run (readIn text) text e listingRoomOfProgram imageRoomOfProgram);
+      prints = λ asked. ap (λ (o : Judged Output). printed o) (alike-run (readIn text) text e asked listingRoomOfProgram imageRoomOfProgram);
     }

@@ -7,6 +7,7 @@ use native.Mathlib.Omega.{arith}
 use lib.ListN.{length, getD, take}
 use Rattle.laws.specs.Lists.{total}
 use Rattle.laws.proofs.Tests.{clash}
+use Rattle.rules.specs.declared.Settings.{Settings}
 use Rattle.rules.specs.declared.Refusal.{Refusal}
 use Rattle.rules.specs.declared.Refusal.the-variants.{Broken, Limit, Again}
 use Rattle.rules.specs.Refusals.{faultOf}
@@ -216,10 +217,10 @@ module _ (r : Refusal) (i : Placeℕ) where
       says-no Nothing-more (λ s. Tells (4 ∷ 7 ∷ 8 ∷ 9 ∷ 10 ∷ 11 ∷ []) Here s) (encodeAt names p i) r (encode-says Here names p i (contextAt p i) (position p i) (at p i) refl) e .place
 
 -- first-fault: a refusal is that of the first statement, or line, that its check refuses, and names its place
-pub first-fault : (text : List ℕ) (listingRoom imageRoom : ℕ) (r : Refusal) → run text listingRoom imageRoom ≡ no r → FirstFault text r
-first-fault text listingRoom imageRoom r e = on (refused-once text listingRoom imageRoom r .0 e)
+pub first-fault : (asked : Settings) (text : List ℕ) (listingRoom imageRoom : ℕ) (r : Refusal) → run asked text listingRoom imageRoom ≡ no r → FirstFault text r
+first-fault asked text listingRoom imageRoom r e = on (refused-once asked text listingRoom imageRoom r .0 e)
   where
-    on : Cause text listingRoom imageRoom r → FirstFault text r
+    on : Cause asked text listingRoom imageRoom r → FirstFault text r
     on (reading d x) = line (at-fault _ _ r (λ i. line-names i (charactersIn (take i (linesOf text))) (lineIn (linesOf text) i) r) (line-first text r d))
     on (naming p d a x) = named p d (at-fault _ _ r (λ i. name-names r i p) (named-first p r a))
     on (laying p d a b x) = laid p d (at-fault _ _ r (λ i. settle-names r i p) (laid-first p r b))

@@ -11,15 +11,17 @@ use borrow.Author.Tests.{leb-false}
 use Rattle.laws.specs.Lists.{total, every, each}
 use Rattle.laws.proofs.Tests.{clash, and-true, false-true}
 use Rattle.laws.proofs.Lists.{every-any, total-ext}
+use Rattle.rules.specs.declared.Settings.{Settings}
 use Rattle.rules.specs.declared.Outcome.the-variants.{Unknown}
 use Rattle.rules.specs.Expressions.{Expr, num, name, two, one, evalTree, mentions, holdsName, bytesOf}
 use Rattle.rules.specs.Programs.{Placeℕ, Operand, register, value, inner, Stmt, gone, Program, at, onInstr, lastOf, onLast, retarget}
 use Rattle.rules.specs.Layout.{Origin, origin}
 use Rattle.rules.specs.Rewriting.{innerAt, anchorTarget, anchor, optimized, instrBytes}
-use Rattle.rules.specs.Output.{plainTarget, writeBack, operandBytes, frameOf}
+use Rattle.rules.specs.Output.{plainTarget, writeBack, operandBytes, frameOf, shown}
 use Rattle.promises.specs.Demand2.{outputProgram}
 use Rattle.promises.specs.Room.{frameBytes}
 use Rattle.rules.proofs.Laws.{by-instr, by-change, other}
+use Rattle.promises.proofs.Shows.{by-spoken, at-shown, length-shown}
 use Rattle.promises.proofs.General.{total-below, total-alike}
 use Rattle.promises.proofs.Steps.{Step, invert, bounce, shrink}
 use Rattle.promises.proofs.Weights.{weigh-inverted, weigh-trampoline, weigh-shrunk}
@@ -152,13 +154,20 @@ made-plain : (p : Program) → WellMade p → (i : Placeℕ) (s : Stmt) → at p
 unfolding every
 made-plain p w i = by-instr (λ s. at p i ≡ s → plainStmt s ≡ true) (λ f xs c e. made-instr p w i f xs c e .1) (λ s n e. ap (every isPlain) (other [] _ s n))
 
+-- nor do comments that go
+shown-frames : (asked : Settings) (p : Program) → total frameBytes (shown asked p) ≤ total frameBytes p
+unfolding frameOf
+shown-frames asked p =
+    total-below frameBytes frameBytes (shown asked p) p gone gone (length-shown asked p)
+    (λ i h. rw (at-shown asked p i) (by-spoken (λ s t. frameBytes t ≤ frameBytes s) asked (λ s. omega arith) (λ x. omega arith) (at p i)))
+
 -- the output needs no more frame bytes than the input
-pub output-frames : (p : Program) → WellMade p → total frameBytes (outputProgram p) ≤ total frameBytes p
+pub output-frames : (asked : Settings) (p : Program) → WellMade p → total frameBytes (outputProgram asked p) ≤ total frameBytes p
 unfolding outputProgram optimized
-output-frames p w =
-    let e : Program = optimized p .program in
+output-frames asked p w =
+    let e : Program = optimized asked p .program in
     let start : total frameBytes p ≡ total frameRoom p = total-ext frameBytes frameRoom p gone (λ i k. plain-room (at p i) (made-plain p w i (at p i) refl)) in
     let kept : total frameRoom e ≤ total frameRoom p =
-    chain-keeps (λ q. total frameRoom q ≤ total frameRoom p) (λ r t st h. omega (arith, step-room r t st)) (total instrBytes p) (anchor p) (anchor-room p) in
-    let written : total frameBytes (writeBack e) ≡ total frameRoom (writeBack e) = plain-total (writeBack e) (writeBack-plain e (inner-end p w)) in
-    omega (arith, total-compact frameBytes (unfold frameOf in refl) (writeBack e), writeBack-room e)
+    chain-keeps asked (λ q. total frameRoom q ≤ total frameRoom p) (λ r t st h. omega (arith, step-room r t st)) (total instrBytes p) (anchor p) (anchor-room p) in
+    let written : total frameBytes (writeBack e) ≡ total frameRoom (writeBack e) = plain-total (writeBack e) (writeBack-plain e (inner-end asked p w)) in
+    omega (arith, total-compact frameBytes (unfold frameOf in refl) (shown asked (writeBack e)), shown-frames asked (writeBack e), writeBack-room e)

@@ -34,7 +34,9 @@ pub mod RunEnds
 pub mod Acceptable
 -- ---- the output
 pub mod WritesBack
+pub mod Shows
 pub mod ImageOfOutput
+pub mod CommentsAside
 -- ---- targets
 pub mod Ranks
 pub mod Carried

@@ -8,14 +8,16 @@ use lib.ListN.{length, length-append}
 use borrow.Author.Tests.{le-leb}
 use Rattle.laws.specs.Lists.{total, each}
 use Rattle.laws.proofs.Tests.{false-true, and-both, both-ways}
+use Rattle.rules.specs.declared.Settings.{Settings}
 use Rattle.rules.specs.declared.Refusal.the-variants.{Room}
 use Rattle.rules.specs.Programs.{Program}
 use Rattle.rules.specs.Rewriting.{anchor, instrBytes, optimized}
-use Rattle.rules.specs.Output.{hexByte, frameOf, lineOf, textOf, writeBack, compact}
+use Rattle.rules.specs.Output.{hexByte, frameOf, lineOf, textOf, writeBack, compact, shown}
 use Rattle.rules.specs.Run.{outputOf, fits, listingRoomOfProgram, imageRoomOfProgram}
 use Rattle.promises.specs.Demand1.{Cause, reading, naming, laying, defining, encoding, room}
 use Rattle.promises.specs.Demand2.{Input, outputProgram}
 use Rattle.promises.specs.Room.{frameBytes, OutputRoom, NeverRoom}
+use Rattle.promises.proofs.Shows.{length-shown}
 use Rattle.promises.proofs.Weights.{step-length}
 use Rattle.promises.proofs.Chains.{chain-keeps}
 use Rattle.promises.proofs.Anchors.{length-anchor}
@@ -43,19 +45,20 @@ text-length [] = refl
 text-length (s ∷ p) = omega (arith, length-append (lineOf (frameOf s)) (textOf p), line-length (frameOf s), text-length p)
 
 -- one slot for each statement of the input
-end-length : (p : Program) → length (optimized p .program) ≡ length p
+end-length : (asked : Settings) (p : Program) → length (optimized asked p .program) ≡ length p
 unfolding optimized
-end-length p = chain-keeps (λ q. length q ≡ length p) (λ r t st h. step-length r t st ∙ h) (total instrBytes p) (anchor p) (length-anchor p)
+end-length asked p = chain-keeps asked (λ q. length q ≡ length p) (λ r t st h. step-length r t st ∙ h) (total instrBytes p) (anchor p) (length-anchor p)
 
 -- output-room: no more frame bytes, statements or text than the input, and both results fit in the program's rooms
-pub output-room : (p : Program) (h : Input p) → OutputRoom (h .text) p
+pub output-room : (asked : Settings) (p : Program) (h : Input p) → OutputRoom asked (h .text) p
 unfolding outputOf outputProgram
-output-room p h =
-    let q : Program = compact (writeBack (optimized p .program)) in
-    let frames : total frameBytes q ≤ total frameBytes p = unfold outputProgram in output-frames p (read-made (h .text) p (h .reads)) in
+output-room asked p h =
+    let left : Program = shown asked (writeBack (optimized asked p .program)) in
+    let q : Program = compact left in
+    let frames : total frameBytes q ≤ total frameBytes p = unfold outputProgram in output-frames asked p (read-made (h .text) p (h .reads)) in
     let limits = read-limits (h .text) p (h .reads) in
-    let image = image-of-output p h in
-    let fewer : length q ≤ length p = omega (arith, length-compact (writeBack (optimized p .program)), length-writeBack (optimized p .program), end-length p) in
+    let image = image-of-output asked p h in
+    let fewer : length q ≤ length p = omega (arith, length-compact left, length-shown asked (writeBack (optimized asked p .program)), length-writeBack (optimized asked p .program), end-length asked p) in
     record {
       frames = frames;
       statements = fewer;
@@ -65,17 +68,17 @@ output-room p h =
     }
 
 -- never-room: 12 never comes from the program
-pub never-room : (text : List ℕ) → NeverRoom text
+pub never-room : (asked : Settings) (text : List ℕ) → NeverRoom asked text
 unfolding fits
-never-room text n e = on (refused-once text listingRoomOfProgram imageRoomOfProgram (Room n) .0 e)
+never-room asked text n e = on (refused-once asked text listingRoomOfProgram imageRoomOfProgram (Room n) .0 e)
   where
-    on : Cause text listingRoomOfProgram imageRoomOfProgram (Room n) → ⊥
+    on : Cause asked text listingRoomOfProgram imageRoomOfProgram (Room n) → ⊥
     on (reading d x) = false-true x
     on (naming p d a x) = false-true (x .number)
     on (laying p d a b x) = false-true (x .number)
     on (defining p d a b c x) = false-true (x .number)
     on (encoding p names d a b c f x) = false-true (x .number)
     on (room p image d j f x) =
-        let o = output-room p (record { text = text; reads = d; image = image; assembles = j }) in
-        both-ways (fits listingRoomOfProgram imageRoomOfProgram (outputOf p))
-        (and-both (leb (length (outputOf p .listing)) listingRoomOfProgram) (leb (length (outputOf p .image)) imageRoomOfProgram) (le-leb _ _ (o .listing)) (le-leb _ _ (o .image))) f
+        let o = output-room asked p (record { text = text; reads = d; image = image; assembles = j }) in
+        both-ways (fits listingRoomOfProgram imageRoomOfProgram (outputOf asked p))
+        (and-both (leb (length (outputOf asked p .listing)) listingRoomOfProgram) (leb (length (outputOf asked p .image)) imageRoomOfProgram) (le-leb _ _ (o .listing)) (le-leb _ _ (o .image))) f

@@ -12,17 +12,19 @@ use Rattle.laws.specs.Lists.{every, each}
 use Rattle.laws.specs.Counts.{allTo}
 use Rattle.laws.proofs.Lists.{every-any}
 use Rattle.laws.proofs.Counts.{all-at}
+use Rattle.rules.specs.declared.Settings.{Settings}
 use Rattle.rules.specs.Answers.{ok}
 use Rattle.rules.specs.Forms.{formAt, operandsAt}
 use Rattle.rules.specs.Programs.{Placeℕ, Operand, register, value, inner, Stmt, gone, instr, label, variable, comment, org, bytes, words, Program, at, asName}
 use Rattle.rules.specs.Listing.{readListing}
 use Rattle.rules.specs.Judging.{judge, encode}
 use Rattle.rules.specs.Rewriting.{optimized}
-use Rattle.rules.specs.Output.{operandBytes, frameOf, writeBack, compact}
+use Rattle.rules.specs.Output.{operandBytes, frameOf, writeBack, compact, shown}
 use Rattle.rules.specs.Run.{outputOf}
 use Rattle.promises.specs.Demand2.{Input, outputProgram, own, ownFrom, ReadsBack}
 use Rattle.promises.specs.Room.{frameBytes}
 use Rattle.rules.proofs.Laws.{by-change}
+use Rattle.promises.proofs.Shows.{by-spoken, at-shown, shown-plain}
 use Rattle.promises.proofs.Sounds.{shapes, Sound, Sounds}
 use Rattle.promises.proofs.Listings.{read-made, read-limits}
 use Rattle.promises.proofs.Compacts.{plainStmt, View, is-gone, is-live, view, compact-live}
@@ -73,6 +75,10 @@ frame-short (bytes es) k = leb-true (frameBytes (bytes es)) 120 (k .short)
 frame-short (words es) k = leb-true (frameBytes (words es)) 120 (k .short)
 
 -- ---- what is left can be written
+shown-sound : (asked : Settings) (p : Program) → ((i : Placeℕ) → Kept-sound (at p i)) → (i : Placeℕ) → Kept-sound (at (shown asked p) i)
+unfolding frameOf
+shown-sound asked p k i = rw (at-shown asked p i) (by-spoken (λ s t. Kept-sound s → Kept-sound t) asked (λ s h. h) (λ x h. record { sound = tt; short = refl }) (at p i) (k i))
+
 compact-writable : (p : Program) → ((i : Placeℕ) → Kept-sound (at p i)) → ((i : Placeℕ) → plainStmt (at p i) ≡ true) → AllWritable (compact p)
 unfolding compact
 compact-writable [] k h = tt
@@ -122,23 +128,24 @@ judge-own p =
     judge-alike p (ownFrom 0 p) (length-own 0 p, λ i h. rw (at-own 0 p i) (own-alike p (ownFrom 0 p) kept (0 + i) (at p i)))
 
 -- reads-back: the output's listing reads as the output's statements, and assembles to the image that is handed out
-pub reads-back : (p : Program) → Input p → ReadsBack p
+pub reads-back : (asked : Settings) (p : Program) → Input p → ReadsBack asked p
 unfolding outputProgram outputOf readListing
-reads-back p h =
+reads-back asked p h =
     let w = read-made (h .text) p (h .reads) in
-    let e : Program = optimized p .program in
-    let q : Program = compact (writeBack e) in
-    let plain = writeBack-plain e (inner-end p w) in
+    let e : Program = optimized asked p .program in
+    let left : Program = shown asked (writeBack e) in
+    let q : Program = compact left in
+    let plain = shown-plain asked (writeBack e) (writeBack-plain e (inner-end asked p w)) in
     let writable : AllWritable q =
-    compact-writable (writeBack e) (written-sound p w (end-acceptable p w (h .image) (h .assembles))) (λ i. every-any plainStmt (writeBack e) i gone (unfold every in refl) plain) in
-    let room = output-room p h in
+    compact-writable left (shown-sound asked (writeBack e) (written-sound asked p w (end-acceptable asked p w (h .image) (h .assembles)))) (λ i. every-any plainStmt left i gone (unfold every in refl) plain) in
+    let room = output-room asked p h in
     let limits = read-limits (h .text) p (h .reads) in
-    let image = image-of-output p h in
+    let image = image-of-output asked p h in
     record {
       reads = text-back 0 0 q writable (omega (arith, room .statements, limits .0)) (omega (arith, room .frames, limits .1));
       assembles = judge-own q ∙ image .of-output ∙ ap ok (sym (image .handed-out));
     }
 
 -- the output is an accepted input again
-pub output-again : (p : Program) → Input p → Input (ownFrom 0 (outputProgram p))
-output-again p h = let b = reads-back p h in record { text = outputOf p .listing; reads = b .reads; image = outputOf p .image; assembles = b .assembles }
+pub output-again : (asked : Settings) (p : Program) → Input p → Input (ownFrom 0 (outputProgram asked p))
+output-again asked p h = let b = reads-back asked p h in record { text = outputOf asked p .listing; reads = b .reads; image = outputOf asked p .image; assembles = b .assembles }

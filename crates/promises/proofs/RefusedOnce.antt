@@ -6,6 +6,7 @@ use mathlib.Core.Bool.{Bool, true, false}
 use Prim.Native.Nat.{ℕ}
 use lib.ListN.{length}
 use Rattle.laws.proofs.Tests.{clash}
+use Rattle.rules.specs.declared.Settings.{Settings}
 use Rattle.rules.specs.declared.Refusal.{Refusal}
 use Rattle.rules.specs.declared.Refusal.the-variants.{Room}
 use Rattle.rules.specs.Answers.{Judged, ok, no, Check, _>>=_, _>>_, require}
@@ -20,14 +21,14 @@ use Rattle.promises.proofs.Listings.{read-refuses}
 use Rattle.promises.proofs.Numbers.{naming-says, laying-says, defining-says, encoding-says}
 
 -- judging's refusal, by the pass that gives it
-module _ (text : List ℕ) (listingRoom imageRoom : ℕ) (r : Refusal) (p : Program) (read : readListing text ≡ ok p) where
+module _ (asked : Settings) (text : List ℕ) (listingRoom imageRoom : ℕ) (r : Refusal) (p : Program) (read : readListing text ≡ ok p) where
   of-encoding : (names : List Entry) → noNameTwice [] (placed p) ≡ ok tt → positionsFit (placed p) ≡ ok tt → defineAll [] (placed p) ≡ ok names
-      → encodeAll names p (placed p) ≡ no r → Cause text listingRoom imageRoom r
+      → encodeAll names p (placed p) ≡ no r → Cause asked text listingRoom imageRoom r
   of-encoding names a b c e =
       encoding p names read a b c e (says-no Nothing-more (Blames (4 ∷ 7 ∷ 8 ∷ 9 ∷ 10 ∷ 11 ∷ []) (length p)) (encodeAll names p (placed p)) r (encoding-says p names) e)
 
   of-defining : noNameTwice [] (placed p) ≡ ok tt → positionsFit (placed p) ≡ ok tt → (x : Judged (List Entry)) → defineAll [] (placed p) ≡ x
-      → x >>= (λ names. encodeAll names p (placed p)) ≡ no r → Cause text listingRoom imageRoom r
+      → x >>= (λ names. encodeAll names p (placed p)) ≡ no r → Cause asked text listingRoom imageRoom r
   unfolding _>>=_
   of-defining a b (ok names) c e = of-encoding names a b c e
   of-defining a b (no s) c e =
@@ -35,7 +36,7 @@ module _ (text : List ℕ) (listingRoom imageRoom : ℕ) (r : Refusal) (p : Prog
       defining p read a b d (says-no Nothing-more (Blames (4 ∷ 7 ∷ []) (length p)) (defineAll [] (placed p)) r (defining-says p) d)
 
   of-laying : noNameTwice [] (placed p) ≡ ok tt → (x : Check) → positionsFit (placed p) ≡ x → x >> (defineAll [] (placed p) >>= (λ names. encodeAll names p (placed p))) ≡ no r
-      → Cause text listingRoom imageRoom r
+      → Cause asked text listingRoom imageRoom r
   unfolding _>>_
   of-laying a (ok t) b e = of-defining a b (defineAll [] (placed p)) refl e
   of-laying a (no s) b e =
@@ -43,48 +44,48 @@ module _ (text : List ℕ) (listingRoom imageRoom : ℕ) (r : Refusal) (p : Prog
       laying p read a d (says-no Nothing-more (Blames (5 ∷ 6 ∷ []) (length p)) (positionsFit (placed p)) r (laying-says p) d)
 
   of-naming : (x : Check) → noNameTwice [] (placed p) ≡ x
-      → x >> (positionsFit (placed p) >> (defineAll [] (placed p) >>= (λ names. encodeAll names p (placed p)))) ≡ no r → Cause text listingRoom imageRoom r
+      → x >> (positionsFit (placed p) >> (defineAll [] (placed p) >>= (λ names. encodeAll names p (placed p)))) ≡ no r → Cause asked text listingRoom imageRoom r
   unfolding _>>_
   of-naming (ok t) a e = of-laying a (positionsFit (placed p)) refl e
   of-naming (no s) a e =
       let d : noNameTwice [] (placed p) ≡ no r = a ∙ ap no (cc) in
       naming p read d (says-no Nothing-more (Blames (3 ∷ []) (length p)) (noNameTwice [] (placed p)) r (naming-says p) d)
 
-  of-judging : judge p ≡ no r → Cause text listingRoom imageRoom r
+  of-judging : judge p ≡ no r → Cause asked text listingRoom imageRoom r
   unfolding judge
   of-judging e = of-naming (noNameTwice [] (placed p)) refl e
 
-  of-room : (image : List ℕ) → judge p ≡ ok image → (b : Bool) → fits listingRoom imageRoom (outputOf p) ≡ b
-      → require b (Room (length p)) (ok (outputOf p)) ≡ no r → Cause text listingRoom imageRoom r
+  of-room : (image : List ℕ) → judge p ≡ ok image → (b : Bool) → fits listingRoom imageRoom (outputOf asked p) ≡ b
+      → require b (Room (length p)) (ok (outputOf asked p)) ≡ no r → Cause asked text listingRoom imageRoom r
   unfolding require
   of-room image j true f e = clash (cc)
   of-room image j false f e = room p image read j f (cc)
 
-  of-program : (x : Judged (List ℕ)) → judge p ≡ x → x >> require (fits listingRoom imageRoom (outputOf p)) (Room (length p)) (ok (outputOf p)) ≡ no r
-      → Cause text listingRoom imageRoom r
+  of-program : (x : Judged (List ℕ)) → judge p ≡ x → x >> require (fits listingRoom imageRoom (outputOf asked p)) (Room (length p)) (ok (outputOf asked p)) ≡ no r
+      → Cause asked text listingRoom imageRoom r
   unfolding _>>_
-  of-program (ok image) j e = of-room image j (fits listingRoom imageRoom (outputOf p)) refl e
+  of-program (ok image) j e = of-room image j (fits listingRoom imageRoom (outputOf asked p)) refl e
   of-program (no s) j e = of-judging (j ∙ ap no (cc))
 
-module _ (text : List ℕ) (listingRoom imageRoom : ℕ) (r : Refusal) where
+module _ (asked : Settings) (text : List ℕ) (listingRoom imageRoom : ℕ) (r : Refusal) where
   of-text : (x : Judged Program) → readListing text ≡ x
-      → x >>= (λ p. judge p >> require (fits listingRoom imageRoom (outputOf p)) (Room (length p)) (ok (outputOf p))) ≡ no r → Cause text listingRoom imageRoom r
+      → x >>= (λ p. judge p >> require (fits listingRoom imageRoom (outputOf asked p)) (Room (length p)) (ok (outputOf asked p))) ≡ no r → Cause asked text listingRoom imageRoom r
   unfolding _>>=_
-  of-text (ok p) d e = of-program text listingRoom imageRoom r p d (judge p) refl e
+  of-text (ok p) d e = of-program asked text listingRoom imageRoom r p d (judge p) refl e
   of-text (no s) d e =
       let g : readListing text ≡ no r = d ∙ ap no (cc) in
       reading g (read-refuses text r g)
 
-  refused-by-cause : run text listingRoom imageRoom ≡ no r → Cause text listingRoom imageRoom r
+  refused-by-cause : run asked text listingRoom imageRoom ≡ no r → Cause asked text listingRoom imageRoom r
   unfolding run
   refused-by-cause e = of-text (readListing text) refl e
 
-  room-refuses : (p : Program) (image : List ℕ) → readListing text ≡ ok p → judge p ≡ ok image → fits listingRoom imageRoom (outputOf p) ≡ false → r ≡ Room (length p)
-      → run text listingRoom imageRoom ≡ no r
+  room-refuses : (p : Program) (image : List ℕ) → readListing text ≡ ok p → judge p ≡ ok image → fits listingRoom imageRoom (outputOf asked p) ≡ false → r ≡ Room (length p)
+      → run asked text listingRoom imageRoom ≡ no r
   unfolding run _>>=_ _>>_ require
   room-refuses p image d j f e = rw (d, _>>=_, j, _>>_, f, e)
 
-  cause-refuses : Cause text listingRoom imageRoom r → run text listingRoom imageRoom ≡ no r
+  cause-refuses : Cause asked text listingRoom imageRoom r → run asked text listingRoom imageRoom ≡ no r
   unfolding run judge _>>=_ _>>_ require
   cause-refuses (reading e n) = rw (e, _>>=_)
   cause-refuses (naming p d e n) = rw (d, _>>=_, e, _>>_)
@@ -94,11 +95,11 @@ module _ (text : List ℕ) (listingRoom imageRoom : ℕ) (r : Refusal) where
   cause-refuses (room p image d j f e) = room-refuses p image d j f e
 
   -- refused-once: a run is refused with r exactly when r has its cause, the causes before it having passed
-  pub refused-once : run text listingRoom imageRoom ≡ no r ↔ Cause text listingRoom imageRoom r
+  pub refused-once : run asked text listingRoom imageRoom ≡ no r ↔ Cause asked text listingRoom imageRoom r
   refused-once = (refused-by-cause, cause-refuses)
 
 -- two causes are the cause of one refusal
-pub one-refusal : (text : List ℕ) (listingRoom imageRoom : ℕ) (r s : Refusal) → Cause text listingRoom imageRoom r → Cause text listingRoom imageRoom s → r ≡ s
-one-refusal text listingRoom imageRoom r s a b =
-    let e : no r ≡ no s = sym (refused-once text listingRoom imageRoom r .1 a) ∙ refused-once text listingRoom imageRoom s .1 b in
+pub one-refusal : (asked : Settings) (text : List ℕ) (listingRoom imageRoom : ℕ) (r s : Refusal) → Cause asked text listingRoom imageRoom r → Cause asked text listingRoom imageRoom s → r ≡ s
+one-refusal asked text listingRoom imageRoom r s a b =
+    let e : no r ≡ no s = sym (refused-once asked text listingRoom imageRoom r .1 a) ∙ refused-once asked text listingRoom imageRoom s .1 b in
     cc

@@ -9,6 +9,7 @@ use lib.Dec.{eqb}
 use borrow.Author.Tests.{eqb-true}
 use Rattle.laws.specs.Lists.{total}
 use Rattle.laws.proofs.Tests.{or-true}
+use Rattle.rules.specs.declared.Settings.{Settings}
 use Rattle.rules.specs.Forms.{sizeAt, formAt, isUnconditional, isTransfer, br, jmp, jmpf}
 use Rattle.rules.specs.Programs.{Program, at}
 use Rattle.rules.specs.Rewriting.{step, instrBytes}
@@ -45,5 +46,5 @@ step-falls p q (shrink h) =
     omega (arith, weigh-shrunk h instrBytes, h .smaller)
 
 -- step-shorter: each rewrite drops an instruction byte
-pub step-shorter : (p q : Program) → step p ≡ some q → total instrBytes q < total instrBytes p
-step-shorter p q e = step-falls p q (step-some p q e)
+pub step-shorter : (asked : Settings) (p q : Program) → step asked p ≡ some q → total instrBytes q < total instrBytes p
+step-shorter asked p q e = step-falls p q (step-some asked p q e)

@@ -14,6 +14,7 @@ use borrow.Author.Tests.{leb-true, ltb-true, le-leb}
 use Rattle.laws.specs.Lists.{total, every}
 use Rattle.laws.proofs.Tests.{clash, and-true}
 use Rattle.laws.proofs.Lists.{every-any}
+use Rattle.rules.specs.declared.Settings.{Settings}
 use Rattle.rules.specs.declared.Outcome.the-variants.{Unknown}
 use Rattle.rules.specs.Answers.{ok}
 use Rattle.rules.specs.Expressions.{Expr, num, evalTree, holdsName, bytesOf}
@@ -146,9 +147,9 @@ kept-step p q (shrink s) h =
     rw (s .new)
     (all-set Kept-sound p (s .i) (instr (s .f) (s .x .args) (s .x .carried)) gone (record { sound = (s .new-form, rw (s .same-shapes) (b .sound .1)); short = refl }) h)
 
-end-kept : (p : Program) → WellMade p → AllKept (optimized p .program)
+end-kept : (asked : Settings) (p : Program) → WellMade p → AllKept (optimized asked p .program)
 unfolding optimized
-end-kept p w = chain-keeps AllKept kept-step (total instrBytes p) (anchor p) (anchor-kept p w)
+end-kept asked p w = chain-keeps asked AllKept kept-step (total instrBytes p) (anchor p) (anchor-kept p w)
 
 -- ---- a byte of a statement lies below 65,536
 reaches-end : (i : Placeℕ) (q : Addressℕ) (s : Stmt) → settles i q s ≡ ok tt → 1 ≤ byteCount s → q + byteCount s ≤ 65536
@@ -196,13 +197,13 @@ kept-written p l s =
     (λ f xs c t k. record { sound = (k .sound .0, sounds-written p l (shapes f) xs t (k .sound .1)); short = refl }) (λ s n t k. k) s
 
 -- the end form, written back
-pub written-sound : (p : Program) → WellMade p → acceptable (optimized p .program) ≡ true → (i : Placeℕ) → Kept-sound (at (writeBack (optimized p .program)) i)
+pub written-sound : (asked : Settings) (p : Program) → WellMade p → acceptable (optimized asked p .program) ≡ true → (i : Placeℕ) → Kept-sound (at (writeBack (optimized asked p .program)) i)
 unfolding AllKept everyInnerLabel
-written-sound p w good i =
-    let e : Program = optimized p .program in
+written-sound asked p w good i =
+    let e : Program = optimized asked p .program in
     let parts = acceptable-parts e good in
     let image = assembles-image e (parts .1) in
     let laid = judge-passes e (image .0) (image .1) .laid in
     rw (at-writeBack e i)
     (kept-written e laid (at e i)
-    (every-any (λ s. every (ofInner (λ owner o. ltb o (byteCount (at e owner)))) (argsOf s)) e i gone (unfold every in refl) (parts .0)) (end-kept p w i))
+    (every-any (λ s. every (ofInner (λ owner o. ltb o (byteCount (at e owner)))) (argsOf s)) e i gone (unfold every in refl) (parts .0)) (end-kept asked p w i))

@@ -12,12 +12,13 @@ use Rattle.laws.specs.Lists.{every}
 use Rattle.laws.proofs.Tests.{and-true}
 use Rattle.laws.proofs.Lists.{every-at}
 use Rattle.laws.proofs.Options.{bind-some, given-some, orElse-either, firstOf-some, firstFrom-some}
+use Rattle.rules.specs.declared.Settings.{Settings}
 use Rattle.rules.specs.Expressions.{name}
 use Rattle.rules.specs.Forms.{sizeAt, formAt, isTransfer, isUnconditional, jmp, jmpf, br, call, callf, Pair, pairs}
 use Rattle.rules.specs.Programs.{Placeℕ, value, instr, label, Program, at, Instruction, asInstr, lastOf}
 use Rattle.rules.specs.Names.{isLocal, contextAt, Entry}
 use Rattle.rules.specs.Judging.{namesOf}
-use Rattle.rules.specs.Rewriting.{isChangeJump, noInnerLabelBetween, noInteriorLabelAt, acceptable, candidate, next, branch, unconditional, localLabel, namesBare, aimed, dropAll, invertedAt, references, trampolineAt, Pattern, inverted, trampoline, patterns, patternAt, shorter, shrinkAt, anywhere, step}
+use Rattle.rules.specs.Rewriting.{isChangeJump, noInnerLabelBetween, noInteriorLabelAt, acceptable, candidate, next, branch, unconditional, localLabel, namesBare, aimed, dropAll, invertedAt, references, trampolineAt, Pattern, inverted, trampoline, patterns, patternAt, shorter, shrinkAt, anywhere, step, patternsFor}
 use Rattle.promises.proofs.General.{sameTests, sameTests-true}
 use Rattle.promises.proofs.Sounds.{shapes}
 use Rattle.promises.proofs.Looks.{asInstr-some, branch-some, unconditional-some, localLabel-some, namesBare-true}
@@ -145,9 +146,13 @@ abbrev fine : Pattern → Bool
 fine (inverted a b) = eqb (sizeAt b) (sizeAt a) && (stands-for a b && (not (isUnconditional a) && eqb b (otherOf pairs a)))
 fine (trampoline f) = isTransfer f && not (isUnconditional f)
 
-patterns-fine : every fine patterns ≡ true
+patterns-fine : (asked : Settings) → every fine (patternsFor asked) ≡ true
 unfolding every isTransfer formAt
-patterns-fine = refl
+patterns-fine asked = on (asked .folds)
+  where
+    on : (b : Bool) → every fine (cond b patterns []) ≡ true
+    on true = refl
+    on false = refl
 
 candidate-some : (q r : Program) → candidate q ≡ some r → (acceptable r ≡ true) × (r ≡ q)
 unfolding candidate
@@ -281,28 +286,29 @@ patternAt-some (trampoline f) ok p i q e = bounce (trampoline-some f ok p i q e)
 abbrev tries : ℕ → ℕ → Bool
 tries f g = ltb (sizeAt g) (sizeAt f) && (stands-for f g && ((isUnconditional f && isUnconditional g) || eqb f callf))
 
-tried : (names : List Entry) (p : Program) (i : Placeℕ) (f : ℕ) → every (tries f) (shorter names p i f) ≡ true
+tried : (asked : Settings) (names : List Entry) (p : Program) (i : Placeℕ) (f : ℕ) → every (tries f) (shorter asked names p i f) ≡ true
 unfolding shorter every isTransfer formAt
-tried names p i f = on (eqb f jmpf) refl (isChangeJump names p i) (eqb f callf) refl
+tried asked names p i f = on (eqb f jmpf) refl (isChangeJump names p i) (eqb f callf) refl (asked .callf)
   where
-    on : (a : Bool) → eqb f jmpf ≡ a → (c : Bool) (b : Bool) → eqb f callf ≡ b
-        → every (tries f) (cond a (cond c [] (br ∷ jmp ∷ [])) (cond b (call ∷ []) [])) ≡ true
-    on true e true b d = refl
-    on true e false b d = rw (eqb-true f jmpf e)
-    on false e c true d = rw (eqb-true f callf d)
-    on false e c false d = refl
+    on : (a : Bool) → eqb f jmpf ≡ a → (c : Bool) (b : Bool) → eqb f callf ≡ b → (w : Bool)
+        → every (tries f) (cond a (cond c [] (br ∷ jmp ∷ [])) (cond b (cond w (call ∷ []) []) [])) ≡ true
+    on true e true b d w = refl
+    on true e false b d w = rw (eqb-true f jmpf e)
+    on false e c true d true = rw (eqb-true f callf d)
+    on false e c true d false = refl
+    on false e c false d w = refl
 
-shrinkAt-some : (p : Program) (i : Placeℕ) (q : Program) → shrinkAt (namesOf p) p i ≡ some q → Shrunk p q
+shrinkAt-some : (asked : Settings) (p : Program) (i : Placeℕ) (q : Program) → shrinkAt asked (namesOf p) p i ≡ some q → Shrunk p q
 unfolding shrinkAt
-shrinkAt-some p i q e =
+shrinkAt-some asked p i q e =
     let b = bind-some (asInstr (at p i)) _ q e in
     let x : Instruction = b .0 in
-    let o = firstOf-some _ (shorter (namesOf p) p i (x .form)) 0 q (b .2) in
-    let f : ℕ = getD (shorter (namesOf p) p i (x .form)) (o .place) 0 in
+    let o = firstOf-some _ (shorter asked (namesOf p) p i (x .form)) 0 q (b .2) in
+    let f : ℕ = getD (shorter asked (namesOf p) p i (x .form)) (o .place) 0 in
     let new : Program = set p i (instr f (x .args) (x .carried)) in
     let g = given-some (noInteriorLabelAt p i) (candidate new) q (o .holds) in
     let c = candidate-some new q (g .1) in
-    let t = every-at (tries (x .form)) (shorter (namesOf p) p i (x .form)) (o .place) 0 (o .within) (tried (namesOf p) p i (x .form)) in
+    let t = every-at (tries (x .form)) (shorter asked (namesOf p) p i (x .form)) (o .place) 0 (o .within) (tried asked (namesOf p) p i (x .form)) in
     let k = and-true (ltb (sizeAt f) (sizeAt (x .form))) (stands-for (x .form) f && ((isUnconditional (x .form) && isUnconditional f) || eqb (x .form) callf)) t in
     let l = and-true (stands-for (x .form) f) ((isUnconditional (x .form) && isUnconditional f) || eqb (x .form) callf) (k .1) in
     let kk = stands-for-true (x .form) f (l .0) in
@@ -328,16 +334,16 @@ unfolding anywhere
 anywhere-some f p q e = let r = firstFrom-some f (length p) 0 q e in (r .place, r .holds)
 
 -- the first rewrite is an inverted fold, a trampoline or a shrink
-pub step-some : (p q : Program) → step p ≡ some q → Step p q
+pub step-some : (asked : Settings) (p q : Program) → step asked p ≡ some q → Step p q
 unfolding step
-step-some p q = orElse-either (firstOf (λ x. anywhere (patternAt p x) p) patterns) (anywhere (shrinkAt (namesOf p) p) p) q folds shrinks
+step-some asked p q = orElse-either (firstOf (λ x. anywhere (patternAt p x) p) (patternsFor asked)) (anywhere (shrinkAt asked (namesOf p) p) p) q folds shrinks
   where
-    folds : firstOf (λ x. anywhere (patternAt p x) p) patterns ≡ some q → Step p q
+    folds : firstOf (λ x. anywhere (patternAt p x) p) (patternsFor asked) ≡ some q → Step p q
     folds e =
-        let o = firstOf-some (λ x. anywhere (patternAt p x) p) patterns (trampoline 0) q e in
-        let x : Pattern = getD patterns (o .place) (trampoline 0) in
+        let o = firstOf-some (λ x. anywhere (patternAt p x) p) (patternsFor asked) (trampoline 0) q e in
+        let x : Pattern = getD (patternsFor asked) (o .place) (trampoline 0) in
         let g = anywhere-some (patternAt p x) p q (o .holds) in
-        patternAt-some x (every-at fine patterns (o .place) (trampoline 0) (o .within) patterns-fine) p (g .0) q (g .1)
+        patternAt-some x (every-at fine (patternsFor asked) (o .place) (trampoline 0) (o .within) (patterns-fine asked)) p (g .0) q (g .1)
 
-    shrinks : anywhere (shrinkAt (namesOf p) p) p ≡ some q → Step p q
-    shrinks e = let g = anywhere-some (shrinkAt (namesOf p) p) p q e in shrink (shrinkAt-some p (g .0) q (g .1))
+    shrinks : anywhere (shrinkAt asked (namesOf p) p) p ≡ some q → Step p q
+    shrinks e = let g = anywhere-some (shrinkAt asked (namesOf p) p) p q e in shrink (shrinkAt-some asked p (g .0) q (g .1))

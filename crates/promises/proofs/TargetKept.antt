@@ -14,6 +14,7 @@ use borrow.Author.Tests.{ltb-true, eq-eqb}
 use Rattle.laws.specs.Lists.{total, every}
 use Rattle.laws.proofs.Tests.{and-true, eq-or-not}
 use Rattle.laws.proofs.Lists.{total-one, total-some, total-two-any, every-any}
+use Rattle.rules.specs.declared.Settings.{Settings}
 use Rattle.rules.specs.declared.Outcome.the-variants.{Is, Unknown}
 use Rattle.rules.specs.Answers.{ok}
 use Rattle.rules.specs.Expressions.{evalTree}
@@ -22,10 +23,11 @@ use Rattle.rules.specs.Layout.{position, origin}
 use Rattle.rules.specs.Names.{placed}
 use Rattle.rules.specs.Judging.{positionsFit, judge}
 use Rattle.rules.specs.Rewriting.{isAnchored, innerAt, anchorTarget, anchor, ofInner, everyInnerLabel, instrBytes, optimized}
-use Rattle.rules.specs.Output.{plainTarget, writeBack, compact}
+use Rattle.rules.specs.Output.{plainTarget, writeBack, compact, spoken, shown}
 use Rattle.rules.specs.Run.{outputOf}
 use Rattle.promises.specs.Demand2.{Input, outputProgram}
 use Rattle.promises.specs.Demand3.{Aims, carries, TargetKept}
+use Rattle.promises.proofs.Shows.{by-spoken, at-shown, length-shown, shown-room, shown-position}
 use Rattle.promises.proofs.General.{total-alike}
 use Rattle.promises.proofs.Looks.{lastOf-onLast}
 use Rattle.promises.proofs.Weights.{instr-inside}
@@ -47,7 +49,7 @@ every-last f [] z h = z
 every-last f (x ∷ []) z h = and-true (f x) true h .0
 every-last f (x ∷ y ∷ xs) z h = every-last f (y ∷ xs) z (and-true (f x) (every f (y ∷ xs)) h .1)
 
-module _ (p : Program) (w : WellMade p) (i s o : ℕ) (a : Aims p i s o) where
+module _ (asked : Settings) (p : Program) (w : WellMade p) (i s o : ℕ) (a : Aims p i s o) where
   -- ---- the start: the transfer at place i, anchored
   own : a .carried ≡ i
   own = made-instr p w i (a .form) (a .args) (a .carried) (a .stands) .0
@@ -87,17 +89,17 @@ module _ (p : Program) (w : WellMade p) (i s o : ℕ) (a : Aims p i s o) where
 
   -- ---- the end form
   abbrev end : Program
-  end = optimized p .program
+  end = optimized asked p .program
 
   -- one transfer of the end form carries the target
   pub ends-once : total (carries i s o) end ≡ 1
   unfolding optimized
-  ends-once = chain-keeps (λ r. total (carries i s o) r ≡ 1) (λ r t st h. carries-step i s o r t st ∙ h) (total instrBytes p) (anchor p) starts-once
+  ends-once = chain-keeps asked (λ r. total (carries i s o) r ≡ 1) (λ r t st h. carries-step i s o r t st ∙ h) (total instrBytes p) (anchor p) starts-once
 
   ends-alone : total (ofPlace i) end ≤ 1
   unfolding optimized
   ends-alone =
-      chain-keeps (λ r. total (ofPlace i) r ≤ 1) (λ r t st h. omega (arith, ofPlace-step i r t st)) (total instrBytes p) (anchor p) starts-alone
+      chain-keeps asked (λ r. total (ofPlace i) r ≤ 1) (λ r t st h. omega (arith, ofPlace-step i r t st)) (total instrBytes p) (anchor p) starts-alone
 
   -- the transfer that carries it there
   carrier-at : (j : ℕ) × (Carrier i s o (at end j))
@@ -107,7 +109,7 @@ module _ (p : Program) (w : WellMade p) (i s o : ℕ) (a : Aims p i s o) where
   has-byte : (image : List ℕ) → judge p ≡ ok image → o < byteCount (at end s)
   unfolding everyInnerLabel
   has-byte image e =
-      let good = acceptable-parts end (end-acceptable p w image e) .0 in
+      let good = acceptable-parts end (end-acceptable asked p w image e) .0 in
       let test : Operand → Bool = ofInner (λ owner o. ltb o (byteCount (at end owner))) in
       let k = carrier-at .1 in
       let args-pass : every test (k .args) ≡ true =
@@ -118,74 +120,81 @@ module _ (p : Program) (w : WellMade p) (i s o : ℕ) (a : Aims p i s o) where
   abbrev written : Program
   written = writeBack end
 
+  abbrev left : Program
+  left = shown asked written
+
   -- one instruction of the output at most carries anything of place i
-  output-alone : total (ofPlace i) (compact written) ≤ 1
+  output-alone : total (ofPlace i) (compact left) ≤ 1
   output-alone =
       let same : total (ofPlace i) written ≡ total (ofPlace i) end =
       total-alike (ofPlace i) (ofPlace i) written end gone gone (length-writeBack end)
       (λ j h. ap (ofPlace i) (at-writeBack end j) ∙ ofPlace-retarget i (plainTarget end) (at end j)) in
-      omega (arith, total-compact (ofPlace i) refl written, ends-alone)
+      let spared : total (ofPlace i) left ≡ total (ofPlace i) written =
+      total-alike (ofPlace i) (ofPlace i) left written gone gone (length-shown asked written)
+      (λ j h. ap (ofPlace i) (at-shown asked written j) ∙ by-spoken (λ s t. ofPlace i t ≡ ofPlace i s) asked (λ s. refl) (λ x. refl) (at written j)) in
+      omega (arith, total-compact (ofPlace i) refl left, ends-alone)
 
   -- the transfer, written back
   stands-written : at written (carrier-at .0) ≡ instr (carrier-at .1 .form) (onLast (plainTarget end) (carrier-at .1 .args)) i
   stands-written = at-writeBack end (carrier-at .0) ∙ ap (retarget (plainTarget end)) (carrier-at .1 .is)
 
-  stands-output : at (compact written) (rank end (carrier-at .0)) ≡ instr (carrier-at .1 .form) (onLast (plainTarget end) (carrier-at .1 .args)) i
-  stands-output =
-      ap (at (compact written)) (sym (rank-writeBack end (carrier-at .0)))
-      ∙ at-rank written (carrier-at .0) (ap isGone stands-written)
-      ∙ stands-written
+  stands-left : at left (carrier-at .0) ≡ instr (carrier-at .1 .form) (onLast (plainTarget end) (carrier-at .1 .args)) i
+  stands-left = at-shown asked written (carrier-at .0) ∙ ap (spoken asked) stands-written
 
-  only-output : (j : Placeℕ) (f : ℕ) (xs : List Operand) → at (compact written) j ≡ instr f xs i → j ≡ rank end (carrier-at .0)
-  only-output j f xs e = on (eq-or-not j (rank end (carrier-at .0)))
+  stands-output : at (compact left) (rank left (carrier-at .0)) ≡ instr (carrier-at .1 .form) (onLast (plainTarget end) (carrier-at .1 .args)) i
+  stands-output = at-rank left (carrier-at .0) (ap isGone stands-left) ∙ stands-left
+
+  only-output : (j : Placeℕ) (f : ℕ) (xs : List Operand) → at (compact left) j ≡ instr f xs i → j ≡ rank left (carrier-at .0)
+  only-output j f xs e = on (eq-or-not j (rank left (carrier-at .0)))
     where
-      on : (j ≡ rank end (carrier-at .0)) ⊎ (j ≡ rank end (carrier-at .0) → ⊥) → j ≡ rank end (carrier-at .0)
+      on : (j ≡ rank left (carrier-at .0)) ⊎ (j ≡ rank left (carrier-at .0) → ⊥) → j ≡ rank left (carrier-at .0)
       on (inl q) = q
       on (inr n) =
-          let one : ofPlace i (at (compact written) j) ≡ 1 = ap (ofPlace i) e ∙ ofPlace-own i f xs in
-          let two : ofPlace i (at (compact written) (rank end (carrier-at .0))) ≡ 1 = ap (ofPlace i) stands-output ∙ ofPlace-own i (carrier-at .1 .form) (onLast (plainTarget end) (carrier-at .1 .args)) in
-          absurd (omega (arith, total-two-any (ofPlace i) (compact written) j (rank end (carrier-at .0)) gone refl n, output-alone))
+          let one : ofPlace i (at (compact left) j) ≡ 1 = ap (ofPlace i) e ∙ ofPlace-own i f xs in
+          let two : ofPlace i (at (compact left) (rank left (carrier-at .0))) ≡ 1 = ap (ofPlace i) stands-output ∙ ofPlace-own i (carrier-at .1 .form) (onLast (plainTarget end) (carrier-at .1 .args)) in
+          absurd (omega (arith, total-two-any (ofPlace i) (compact left) j (rank left (carrier-at .0)) gone refl n, output-alone))
 
   -- the byte that the number names
-  module _ (byte : o < byteCount (at end s)) (laid : positionsFit (placed (compact written)) ≡ ok tt) where
-    byte-written : o < byteCount (at written s)
-    byte-written = omega (arith, writeBack-room end .1 s .as-big, byte)
+  module _ (byte : o < byteCount (at end s)) (laid : positionsFit (placed (compact left)) ≡ ok tt) where
+    byte-left : o < byteCount (at left s)
+    byte-left = omega (arith, shown-room asked written .1 s .as-big, writeBack-room end .1 s .as-big, byte)
 
-    live : isGone (at written s) ≡ false
-    live = byte-live (at written s) o byte-written
+    live : isGone (at left s) ≡ false
+    live = byte-live (at left s) o byte-left
 
-    byte-output : o < byteCount (at (compact written) (rank end s))
-    byte-output = rw (← rank-writeBack end s, at-rank written s live) byte-written
+    byte-output : o < byteCount (at (compact left) (rank left s))
+    byte-output = rw (at-rank left s live) byte-left
 
-    position-is : position (compact written) (rank end s) ≡ position end s
-    position-is = ap (position (compact written)) (sym (rank-writeBack end s)) ∙ position-rank written s live ∙ writeBack-position end s
+    position-is : position (compact left) (rank left s) ≡ position end s
+    position-is = position-rank left s live ∙ shown-position asked written s ∙ writeBack-position end s
 
-    names-output : origin (compact written) (Is (pos (position end s + o))) ≡ some (record { place = rank end s; offset = o })
-    names-output = ap (λ (n : ℕ). origin (compact written) (Is (pos (n + o)))) (sym position-is) ∙ origin-at (compact written) (rank end s) o laid byte-output
+    names-output : origin (compact left) (Is (pos (position end s + o))) ≡ some (record { place = rank left s; offset = o })
+    names-output = ap (λ (n : ℕ). origin (compact left) (Is (pos (n + o)))) (sym position-is) ∙ origin-at (compact left) (rank left s) o laid byte-output
 
 -- target-kept: each such target of the input is, in the output, the number of the same byte of the same statement
-pub target-kept : (p : Program) → Input p → (i s : Placeℕ) (o : ℕ) → Aims p i s o → TargetKept p i s o
+pub target-kept : (asked : Settings) (p : Program) → Input p → (i s : Placeℕ) (o : ℕ) → Aims p i s o → TargetKept asked p i s o
 unfolding outputProgram outputOf
-target-kept p h i s o a =
+target-kept asked p h i s o a =
     let w = read-made (h .text) p (h .reads) in
-    let e : Program = optimized p .program in
-    let k = carrier-at p w i s o a in
-    let byte : o < byteCount (at e s) = has-byte p w i s o a (h .image) (h .assembles) in
-    let q = image-of-output p h in
-    let laid : positionsFit (placed (compact (writeBack e))) ≡ ok tt = judge-passes (compact (writeBack e)) (q .image) (q .of-output) .laid in
-    let st = stems-rank e s 0 (byte-live (at e s) o byte) in
+    let e : Program = optimized asked p .program in
+    let left : Program = shown asked (writeBack e) in
+    let k = carrier-at asked p w i s o a in
+    let byte : o < byteCount (at e s) = has-byte asked p w i s o a (h .image) (h .assembles) in
+    let q = image-of-output asked p h in
+    let laid : positionsFit (placed (compact left)) ≡ ok tt = judge-passes (compact left) (q .image) (q .of-output) .laid in
+    let st = stems-rank left s 0 (live asked p w i s o a byte laid) in
     record {
-      once-in-end = ends-once p w i s o a;
-      place = rank e (k .0);
+      once-in-end = ends-once asked p w i s o a;
+      place = rank left (k .0);
       form = k .1 .form;
       args = onLast (plainTarget e) (k .1 .args);
-      stands = stands-output p w i s o a;
+      stands = stands-output asked p w i s o a;
       transfers = k .1 .transfers;
-      only = only-output p w i s o a;
+      only = only-output asked p w i s o a;
       address = position e s + o;
       target-is = lastOf-onLast (plainTarget e) (k .1 .args) refl ∙ ap (plainTarget e) (k .1 .target-is);
-      owner = rank e s;
-      names-byte = names-output p w i s o a byte laid;
+      owner = rank left s;
+      names-byte = names-output asked p w i s o a byte laid;
       listed = st .0;
       stems-from = st .1;
     }

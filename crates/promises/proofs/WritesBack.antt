@@ -7,6 +7,7 @@ use lib.ListN.{length, length-map, List·getD-map}
 use Rattle.laws.specs.Lists.{total, every}
 use Rattle.laws.proofs.Tests.{and-true, and-both}
 use Rattle.laws.proofs.Lists.{every-any, every-all, every-set}
+use Rattle.rules.specs.declared.Settings.{Settings}
 use Rattle.rules.specs.Expressions.{evalTree}
 use Rattle.rules.specs.Programs.{Placeℕ, Operand, register, value, inner, Stmt, gone, instr, Program, at, argsOf, onLast, retarget}
 use Rattle.rules.specs.Layout.{position}
@@ -116,9 +117,9 @@ inner-step p q (shrink s) h =
     rw (s .new) (every-set innerLast p (s .i) (instr (s .f) (s .x .args) (s .x .carried)) (ap innerLast (sym (s .far-at)) ∙ old) h)
 
 -- so of the end form
-pub inner-end : (p : Program) → WellMade p → every innerLast (optimized p .program) ≡ true
+pub inner-end : (asked : Settings) (p : Program) → WellMade p → every innerLast (optimized asked p .program) ≡ true
 unfolding optimized
-inner-end p w = chain-keeps (λ q. every innerLast q ≡ true) inner-step (total instrBytes p) (anchor p) (inner-anchor p w)
+inner-end asked p w = chain-keeps asked (λ q. every innerLast q ≡ true) inner-step (total instrBytes p) (anchor p) (inner-anchor p w)
 
 -- ---- so none is left
 plain-last : (p : Program) (xs : List Operand) → frontPlain xs ≡ true → every isPlain (onLast (plainTarget p) xs) ≡ true

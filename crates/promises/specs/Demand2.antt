@@ -3,6 +3,7 @@ use mathlib.Core.Path.{_≡_}
 use mathlib.Core.List.{List, [], _∷_}
 use Prim.Native.Nat.{ℕ, suc, _≤_}
 use lib.ListN.{length, take, drop}
+use Rattle.rules.specs.declared.Settings.{Settings}
 use Rattle.rules.specs.declared.Answer.{Answer}
 use Rattle.rules.specs.declared.Sizes.{Sizes}
 use Rattle.rules.specs.Answers.{ok}
@@ -10,25 +11,26 @@ use Rattle.rules.specs.Programs.{Placeℕ, Stmt, instr, Program, onInstr}
 use Rattle.rules.specs.Listing.{readListing}
 use Rattle.rules.specs.Judging.{judge}
 use Rattle.rules.specs.Rewriting.{optimized}
-use Rattle.rules.specs.Output.{writeBack, compact}
+use Rattle.rules.specs.Output.{writeBack, shown, compact}
 use Rattle.rules.specs.Run.{Output, outputOf, run, answerOf, listingAfter, imageAfter}
+use mathlib.Core.Bool.{Bool, true, false}
 
 -- "A listing is accepted exactly when it keeps the listing rules, assembles as given and the lent room holds the result."
-pub record Accepted (text : List ℕ) (listingRoom imageRoom : ℕ) (o : Output) : Type 0 where
+pub record Accepted (asked : Settings) (text : List ℕ) (listingRoom imageRoom : ℕ) (o : Output) : Type 0 where
   pub program : Program
   pub keeps-rules : readListing text ≡ ok program
   pub image : List ℕ
   pub assembles : judge program ≡ ok image
-  pub result : o ≡ outputOf program
+  pub result : o ≡ outputOf asked program
   pub listing-fits : length (o .listing) ≤ listingRoom
   pub image-fits : length (o .image) ≤ imageRoom
 
 -- "Every public function states its result and the final content of each lent buffer": what the entry states of its answer, if it is lent the
 -- rooms `listing` and `image` and leaves `listing′` and `image′` in them
-pub record Answered (text listing image : List ℕ) (answer : Answer) (listing′ image′ : List ℕ) : Type 0 where
-  pub answers : answer ≡ answerOf (run text (length listing) (length image))
-  pub listing-is : listing′ ≡ listingAfter (run text (length listing) (length image)) listing
-  pub image-is : image′ ≡ imageAfter (run text (length listing) (length image)) image
+pub record Answered (asked : Settings) (text listing image : List ℕ) (answer : Answer) (listing′ image′ : List ℕ) : Type 0 where
+  pub answers : answer ≡ answerOf (run asked text (length listing) (length image))
+  pub listing-is : listing′ ≡ listingAfter (run asked text (length listing) (length image)) listing
+  pub image-is : image′ ≡ imageAfter (run asked text (length listing) (length image)) image
 
 -- "On acceptance, room beyond the result is unchanged": a room that holds a result in front, and is otherwise what it was
 pub record Filled (result room room′ : List ℕ) : Type 0 where
@@ -37,9 +39,9 @@ pub record Filled (result room room′ : List ℕ) : Type 0 where
   pub as-long : length room′ ≡ length room
 
 -- both rooms of an accepted run, and the sizes that it answers
-pub record Delivered (text listing image : List ℕ) (sizes : Sizes) (listing′ image′ : List ℕ) : Type 0 where
+pub record Delivered (asked : Settings) (text listing image : List ℕ) (sizes : Sizes) (listing′ image′ : List ℕ) : Type 0 where
   pub output : Output
-  pub accepted : run text (length listing) (length image) ≡ ok output
+  pub accepted : run asked text (length listing) (length image) ≡ ok output
   pub listing-size : sizes .listing ≡ length (output .listing)
   pub rewrites : sizes .rewrites ≡ output .count
   pub image-size : sizes .image ≡ length (output .image)
@@ -56,15 +58,26 @@ pub record Input (p : Program) : Type 0 where
   pub assembles : judge p ≡ ok image
 
 -- the statements of the output's listing
-unfoldable pub outputProgram : Program → Program
-outputProgram p = compact (writeBack (optimized p .program))
+unfoldable pub outputProgram : (asked : Settings) → Program → Program
+outputProgram asked p = compact (shown asked (writeBack (optimized asked p .program)))
 
 -- "the listing and image": the image that is handed out is the end form's, and what the output's own statements assemble to
-pub record ImageOfOutput (p : Program) : Type 0 where
+pub record ImageOfOutput (asked : Settings) (p : Program) : Type 0 where
   pub image : List ℕ
-  pub of-end : judge (optimized p .program) ≡ ok image
-  pub of-output : judge (outputProgram p) ≡ ok image
-  pub handed-out : outputOf p .image ≡ image
+  pub of-end : judge (optimized asked p .program) ≡ ok image
+  pub of-output : judge (outputProgram asked p) ≡ ok image
+  pub handed-out : outputOf asked p .image ≡ image
+
+-- C-18: "Image, count and demands are as before in either mode": with comments and without there is one end form, one image and one count, and the
+-- one listing has the other's statements, without the comments
+abbrev pub askedFor : (comments callf folds : Bool) → Settings
+askedFor comments callf folds = record { comments = comments; callf = callf; folds = folds }
+
+pub record CommentsAside (callf folds : Bool) (p : Program) : Type 0 where
+  pub end : optimized (askedFor false callf folds) p ≡ optimized (askedFor true callf folds) p
+  pub image : outputOf (askedFor false callf folds) p .image ≡ outputOf (askedFor true callf folds) p .image
+  pub count : outputOf (askedFor false callf folds) p .count ≡ outputOf (askedFor true callf folds) p .count
+  pub statements : outputProgram (askedFor false callf folds) p ≡ compact (shown (askedFor false callf folds) (outputProgram (askedFor true callf folds) p))
 
 -- ---- the listing
 
@@ -77,6 +90,6 @@ ownFrom i [] = []
 ownFrom i (s ∷ p) = own i s ∷ ownFrom (suc i) p
 
 -- the listing that is handed out keeps the listing rules, reads as the output's statements, and assembles as given to the image that is handed out
-pub record ReadsBack (p : Program) : Type 0 where
-  pub reads : readListing (outputOf p .listing) ≡ ok (ownFrom 0 (outputProgram p))
-  pub assembles : judge (ownFrom 0 (outputProgram p)) ≡ ok (outputOf p .image)
+pub record ReadsBack (asked : Settings) (p : Program) : Type 0 where
+  pub reads : readListing (outputOf asked p .listing) ≡ ok (ownFrom 0 (outputProgram asked p))
+  pub assembles : judge (ownFrom 0 (outputProgram asked p)) ≡ ok (outputOf asked p .image)

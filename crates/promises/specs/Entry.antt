@@ -8,6 +8,7 @@ use Prim.Native.Nat.{ℕ, _≤_}
 use lib.ListN.{length, take, drop}
 use lib.IntN.{pos}
 use Rattle.laws.specs.Lists.{total}
+use Rattle.rules.specs.declared.Settings.{Settings}
 use Rattle.rules.specs.declared.Outcome.the-variants.{Is}
 use Rattle.rules.specs.declared.Sizes.{Sizes}
 use Rattle.rules.specs.declared.Refusal.{Refusal}
@@ -26,10 +27,10 @@ use Rattle.promises.specs.Demand3.{Aims, TargetKept, Demand3}
 -- ---- an acceptance: `written` and `bytes` are the listing and the image that were handed out, and `rewrites` the count
 
 -- "They and the rewrite count, which the port adds, are proved equal to definitions written from document 01."
-pub record AsDefined (p : Program) (written bytes : List ℕ) (rewrites : ℕ) : Type 0 where
-  pub listing : written ≡ outputOf p .listing
-  pub image : bytes ≡ outputOf p .image
-  pub count : rewrites ≡ optimized p .count
+pub record AsDefined (asked : Settings) (p : Program) (written bytes : List ℕ) (rewrites : ℕ) : Type 0 where
+  pub listing : written ≡ outputOf asked p .listing
+  pub image : bytes ≡ outputOf asked p .image
+  pub count : rewrites ≡ optimized asked p .count
 
 -- "Who has read the shrunk code back?": what was written keeps the listing rules and reads as `again`, which assembles as given to the image
 pub record ReadAgain (written bytes : List ℕ) (again : Program) : Type 0 where
@@ -39,25 +40,25 @@ pub record ReadAgain (written bytes : List ℕ) (again : Program) : Type 0 where
 -- "In the output that target .. names the same offset of the statement that stems from the one it first named": read from what was written, the
 -- transfer that carries the target of the input's transfer at place i stands where TargetKept has it, and its number is the address of byte o of
 -- that statement there
-pub record TargetWritten (p again : Program) (i s : Placeℕ) (o : ℕ) (kept : TargetKept p i s o) : Type 0 where
+pub record TargetWritten (asked : Settings) (p again : Program) (i s : Placeℕ) (o : ℕ) (kept : TargetKept asked p i s o) : Type 0 where
   pub stands : at again (kept .place) ≡ instr (kept .form) (kept .args) (kept .place)
   pub names-byte : origin again (Is (pos (kept .address))) ≡ some (record { place = kept .owner; offset = o })
 
 -- the three demands of an accepted text, and of what was handed out for it
-pub record Promised (text written bytes : List ℕ) (rewrites : ℕ) : Type 0 where
+pub record Promised (asked : Settings) (text written bytes : List ℕ) (rewrites : ℕ) : Type 0 where
   -- "it keeps the listing rules, assembles as given"
   pub program : Program
   pub keeps-rules : readListing text ≡ ok program
   pub image : List ℕ
   pub assembles : judge program ≡ ok image
   -- demand 2
-  pub as-defined : AsDefined program written bytes rewrites
+  pub as-defined : AsDefined asked program written bytes rewrites
   pub again : Program
-  pub again-is : again ≡ ownFrom 0 (outputProgram program)
+  pub again-is : again ≡ ownFrom 0 (outputProgram asked program)
   pub read-again : ReadAgain written bytes again
   -- demand 3
-  pub demand-3 : Demand3 program
-  pub targets-written : (i s : Placeℕ) (o : ℕ) (a : Aims program i s o) → TargetWritten program again i s o (demand-3 .targets-kept i s o a)
+  pub demand-3 : Demand3 asked program
+  pub targets-written : (i s : Placeℕ) (o : ℕ) (a : Aims program i s o) → TargetWritten asked program again i s o (demand-3 .targets-kept i s o a)
   pub bounded : rewrites ≤ total instrBytes program
 
 -- "On acceptance, room beyond the result is unchanged": a result of n bytes stands in front
@@ -67,8 +68,8 @@ pub record BeyondKept (n : ℕ) (room room′ : List ℕ) : Type 0 where
   pub as-long : length room′ ≡ length room
 
 -- what the answer `Done sizes` says
-pub record OnAcceptance (text listing image : List ℕ) (sizes : Sizes) (listing′ image′ : List ℕ) : Type 0 where
-  pub promised : Promised text (take (sizes .listing) listing′) (take (sizes .image) image′) (sizes .rewrites)
+pub record OnAcceptance (asked : Settings) (text listing image : List ℕ) (sizes : Sizes) (listing′ image′ : List ℕ) : Type 0 where
+  pub promised : Promised asked text (take (sizes .listing) listing′) (take (sizes .image) image′) (sizes .rewrites)
   pub listing-room : BeyondKept (sizes .listing) listing listing′
   pub image-room : BeyondKept (sizes .image) image image′
 
@@ -79,10 +80,10 @@ twelve = 1 ∷ 2 ∷ 3 ∷ 4 ∷ 5 ∷ 6 ∷ 7 ∷ 8 ∷ 9 ∷ 10 ∷ 11 ∷ 12 
 
 -- what the answer `Refused r` says: "one of twelve numbered refusals naming a statement, and a refusal changes no byte we lent"; "No number is given
 -- without its cause", and no other number has one
-pub record OnRefusal (text listing image : List ℕ) (r : Refusal) (listing′ image′ : List ℕ) : Type 0 where
+pub record OnRefusal (asked : Settings) (text listing image : List ℕ) (r : Refusal) (listing′ image′ : List ℕ) : Type 0 where
   pub listing-kept : listing′ ≡ listing
   pub image-kept : image′ ≡ image
   pub numbered : hasNumber twelve r ≡ true
-  pub cause : Cause text (length listing) (length image) r
+  pub cause : Cause asked text (length listing) (length image) r
   pub first : FirstFault text r
-  pub only : (s : Refusal) → Cause text (length listing) (length image) s → s ≡ r
+  pub only : (s : Refusal) → Cause asked text (length listing) (length image) s → s ≡ r

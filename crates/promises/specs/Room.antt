@@ -4,6 +4,7 @@ use mathlib.Core.List.{List}
 use Prim.Native.Nat.{ℕ, _≤_}
 use lib.ListN.{length, take}
 use Rattle.laws.specs.Lists.{total}
+use Rattle.rules.specs.declared.Settings.{Settings}
 use Rattle.rules.specs.declared.Refusal.the-variants.{Room}
 use Rattle.rules.specs.Answers.{ok, no}
 use Rattle.rules.specs.Programs.{Stmt, Program}
@@ -18,16 +19,16 @@ frameBytes s = length (frameOf s)
 
 -- "The output never needs more frame bytes than the input": nor more statements, nor more text than the text that p was read from; and both results
 -- fit in the program's rooms, 49,152 characters with 1,024 line feeds, and 65,536 bytes
-pub record OutputRoom (text : List ℕ) (p : Program) : Type 0 where
-  pub frames : total frameBytes (outputProgram p) ≤ total frameBytes p
-  pub statements : length (outputProgram p) ≤ length p
-  pub as-text : length (outputOf p .listing) ≤ length text
-  pub listing : length (outputOf p .listing) ≤ listingRoomOfProgram
-  pub image : length (outputOf p .image) ≤ imageRoomOfProgram
+pub record OutputRoom (asked : Settings) (text : List ℕ) (p : Program) : Type 0 where
+  pub frames : total frameBytes (outputProgram asked p) ≤ total frameBytes p
+  pub statements : length (outputProgram asked p) ≤ length p
+  pub as-text : length (outputOf asked p .listing) ≤ length text
+  pub listing : length (outputOf asked p .listing) ≤ listingRoomOfProgram
+  pub image : length (outputOf asked p .image) ≤ imageRoomOfProgram
 
 -- so the program itself never gives 12
-abbrev pub NeverRoom : List ℕ → Type 0
-NeverRoom text = (n : ℕ) → run text listingRoomOfProgram imageRoomOfProgram ≡ no (Room n) → ⊥
+abbrev pub NeverRoom : (asked : Settings) → List ℕ → Type 0
+NeverRoom asked text = (n : ℕ) → run asked text listingRoomOfProgram imageRoomOfProgram ≡ no (Room n) → ⊥
 
 -- ---- "The program reads a listing on standard input"
 
@@ -44,5 +45,5 @@ pub record DecidedEarly (text : List ℕ) : Type 0 where
   pub short : (p : Program) → readListing text ≡ ok p → length text ≤ listingRoomOfProgram
   pub reads : readListing (readIn text) ≡ readListing text
   pub assembles : (imageRoom : ℕ) → assembled (readIn text) imageRoom ≡ assembled text imageRoom
-  pub runs : (listingRoom imageRoom : ℕ) → run (readIn text) listingRoom imageRoom ≡ run text listingRoom imageRoom
-  pub prints : program (readIn text) ≡ program text
+  pub runs : (asked : Settings) (listingRoom imageRoom : ℕ) → run asked (readIn text) listingRoom imageRoom ≡ run asked text listingRoom imageRoom
+  pub prints : (asked : Settings) → program asked (readIn text) ≡ program asked text

@@ -5,6 +5,7 @@ use Prim.Native.Nat.{ℕ}
 use lib.ListN.{take}
 use Rattle.rules.specs.declared.Answer.the-variants.{Done}
 use Rattle.rules.specs.declared.Sizes.{Sizes}
+use Rattle.rules.specs.declared.Settings.{Settings}
 use Rattle.rules.specs.Programs.{Program}
 use Rattle.promises.specs.Demand2.{Answered, Input}
 use Rattle.promises.proofs.Entry.{on-acceptance}
@@ -13,10 +14,10 @@ use Rattle.walk.specs.Entry.{WalkedAlike}
 use Rattle.walk.proofs.SameWalks.{same-walk-again, output-walked}
 
 -- walked-alike: `Done sizes` says that the front of the listing room reads again, and that it walks as the input does
-pub walked-alike : (text listing image : List ℕ) (sizes : Sizes) (listing′ image′ : List ℕ) → Answered text listing image (Done sizes) listing′ image′
-    → WalkedAlike text (take (sizes .listing) listing′)
-walked-alike text listing image sizes listing′ image′ x =
-    let a = on-acceptance text listing image sizes listing′ image′ x .promised in
+pub walked-alike : (asked : Settings) (text listing image : List ℕ) (sizes : Sizes) (listing′ image′ : List ℕ) → Answered asked text listing image (Done sizes) listing′ image′
+    → WalkedAlike asked text (take (sizes .listing) listing′)
+walked-alike asked text listing image sizes listing′ image′ x =
+    let a = on-acceptance asked text listing image sizes listing′ image′ x .promised in
     let p : Program = a .program in
     let in-p : Input p = record { text = text; reads = a .keeps-rules; image = a .image; assembles = a .assembles } in
     record {
@@ -24,6 +25,6 @@ walked-alike text listing image sizes listing′ image′ x =
       reads = a .keeps-rules;
       again = a .again;
       reads-again = a .read-again .reads;
-      walks = λ only. subst (λ (q : Program). SameWalk p q (stemOf p)) (sym (a .again-is)) (same-walk-again p in-p only);
-      walked-again = λ only. ap onlyWalked (a .again-is) ∙ output-walked p in-p only;
+      walks = λ only. subst (λ (q : Program). SameWalk p q (stemOf asked p)) (sym (a .again-is)) (same-walk-again asked p in-p only);
+      walked-again = λ only. ap onlyWalked (a .again-is) ∙ output-walked asked p in-p only;
     }

@@ -18,6 +18,7 @@ pub mod OneStep
 -- ---- the input, the output
 pub mod Inputs
 pub mod Outputs
+pub mod Comments
 pub mod Shows
 pub mod Again
 -- ---- the whole, down to the entry

@@ -1,6 +1,6 @@
 -- C-23: input and output walk alike.
-use mathlib.Core.Path.{_≡_, sym, _∙_, ap}
-use mathlib.Core.List.{[]}
+use mathlib.Core.Path.{_≡_, sym, _∙_, ap, subst}
+use mathlib.Core.List.{List, []}
 use mathlib.Core.Logic.{⊎-elim}
 use mathlib.Core.Option.{none}
 use mathlib.Core.Bool.{true, false}
@@ -10,16 +10,19 @@ use lib.ListN.{length, getD}
 use lib.IntN.{pos}
 use Rattle.laws.specs.Lists.{total}
 use Rattle.laws.proofs.Tests.{clash, none-some, true-false}
+use Rattle.rules.specs.declared.Settings.{Settings}
 use Rattle.rules.specs.declared.Outcome.the-variants.{Is}
-use Rattle.rules.specs.Programs.{Program}
+use Rattle.rules.specs.Programs.{Placeℕ, Program}
 use Rattle.rules.specs.Layout.{origin}
 use Rattle.rules.specs.Rewriting.{anchor, optimized, instrBytes}
-use Rattle.rules.specs.Output.{stems}
+use Rattle.rules.specs.Judging.{judge}
+use Rattle.rules.specs.Output.{writeBack, shown, compact, stems}
 use Rattle.rules.specs.Run.{outputOf}
 use Rattle.promises.specs.Demand2.{Input, outputProgram, ownFrom}
 use Rattle.promises.proofs.Chains.{chain-keeps}
 use Rattle.promises.proofs.ImageOfOutput.{image-of-output}
 use Rattle.promises.proofs.ReadsBack.{reads-back}
+use Rattle.promises.proofs.Shows.{writeBack-shown}
 use Rattle.walk.specs.Walk.{offTheEnd, Walk, meets, halts, walkFrom, walk, told}
 use Rattle.walk.specs.SameWalk.{onlyWalked, Keeps, Empty, SameWalk, stemOf}
 use Rattle.walk.proofs.Machines.{Deed, pass, list, jump, test, Machine, deed, isPass, does, steps, go, Head, found, nothing, head, steps-found, steps-nothing, go-stop, go-known}
@@ -31,6 +34,7 @@ use Rattle.walk.proofs.OneStep.{step-alike}
 use Rattle.walk.proofs.Inputs.{machine, first-laid, machine-worth, input-walk, anchor-resolved}
 use Rattle.walk.proofs.Outputs.{Shown, shown-walk}
 use Rattle.walk.proofs.Shows.{stems-length, shows-output, shows-again}
+use Rattle.walk.proofs.Comments.{stems-written, shown-resolved}
 use Rattle.walk.proofs.Again.{again-walked}
 
 -- ---- with no byte at address 0
@@ -55,21 +59,26 @@ ends-at-once m e = split (head m 0)
     split (nothing h) = h
 
 -- one-stem-each: the list of stems has an entry for each statement of the output
-pub one-stem-each : (p : Program) → length (outputOf p .stems) ≡ length (outputProgram p)
+pub one-stem-each : (asked : Settings) (p : Program) → length (outputOf asked p .stems) ≡ length (outputProgram asked p)
 unfolding outputProgram outputOf
-one-stem-each p = stems-length (optimized p .program)
+one-stem-each asked p =
+    rw (← writeBack-shown asked (optimized asked p .program)) (ap length (stems-written (shown asked (optimized asked p .program))) ∙ stems-length (shown asked (optimized asked p .program)))
 
-module _ (p : Program) (in-p : Input p) (only : onlyWalked p ≡ true) where
+module _ (asked : Settings) (p : Program) (in-p : Input p) (only : onlyWalked p ≡ true) where
+  -- the end form as it is shown: with its comments or without
   abbrev end : Program
-  end = optimized p .program
+  end = shown asked (optimized asked p .program)
 
   -- ---- the chain
-  ends : (m : Machine) × Resolved end m × Alike (machine p in-p only) m
+  chained : (m : Machine) × Resolved (optimized asked p .program) m × Alike (machine p in-p only) m
   unfolding optimized
-  ends =
-      chain-keeps (λ r. (m : Machine) × Resolved r m × Alike (machine p in-p only) m)
+  chained =
+      chain-keeps asked (λ r. (m : Machine) × Resolved r m × Alike (machine p in-p only) m)
       (λ r q st h. let k = step-alike r q (h .0) st (h .1) in (k .0, k .1, alike-trans (machine p in-p only) (h .0) (k .0) (h .2) (k .2)))
       (total instrBytes p) (anchor p) (machine p in-p only, anchor-resolved p in-p only, alike-same (machine p in-p only))
+
+  ends : (m : Machine) × Resolved end m × Alike (machine p in-p only) m
+  ends = (chained .0, shown-resolved asked (chained .1), chained .2)
 
   no-byte-end : origin p (Is (pos 0)) ≡ none → origin end (Is (pos 0)) ≡ none
   no-byte-end e = last (ends .1) (off (ends .2 .no-more 0 []))
@@ -121,25 +130,43 @@ module _ (p : Program) (in-p : Input p) (only : onlyWalked p ≡ true) where
           let d = close-trans (told (λ i. getD (stems end) i 0) w′) a w (close-same _ _ e) (close-trans a b w c (close-same b w f)) in
           record { nops = d .nops; left = d .left; stops = λ h. ⊎-elim (λ g. absurd (h g)) (λ g. g) (d .stops) }
 
+  written-is : compact (writeBack end) ≡ outputProgram asked p
+  unfolding outputProgram
+  written-is = ap compact (writeBack-shown asked (optimized asked p .program))
+
+  stems-are : stems end ≡ outputOf asked p .stems
+  unfolding outputOf
+  stems-are = sym (stems-written end) ∙ ap stems (writeBack-shown asked (optimized asked p .program))
+
+  as-output : (o : Program) → SameWalk p o (λ i. getD (stems end) i 0) → SameWalk p o (stemOf asked p)
+  as-output o w = subst (λ (l : List Placeℕ). SameWalk p o (λ i. getD l i 0)) stems-are w
+
+  shows : Shown end (outputProgram asked p)
+  shows =
+      let i = image-of-output asked p in-p in
+      subst (λ (q : Program). Shown end q) written-is (shows-output end (plain (ends .1)) (i .image) (ap judge written-is ∙ i .of-output))
+
+  shows-read : Shown end (ownFrom 0 (compact (writeBack end)))
+  shows-read = let b = reads-back asked p in-p in shows-again end (plain (ends .1)) _ (ap (λ (q : Program). judge (ownFrom 0 q)) written-is ∙ b .assembles)
+
   -- same-walk: the statements of the output walk as the input does
-  pub same-walk : SameWalk p (outputProgram p) (stemOf p)
-  unfolding outputProgram outputOf
-  same-walk = let i = image-of-output p in-p in shown-same (outputProgram p) (shows-output end (plain (ends .1)) (i .image) (i .of-output))
+  pub same-walk : SameWalk p (outputProgram asked p) (stemOf asked p)
+  same-walk = as-output (outputProgram asked p) (shown-same (outputProgram asked p) shows)
 
   -- same-walk-again: and so does what is read again from the output's listing
-  pub same-walk-again : SameWalk p (ownFrom 0 (outputProgram p)) (stemOf p)
-  unfolding outputProgram outputOf
-  same-walk-again = let b = reads-back p in-p in shown-same (ownFrom 0 (outputProgram p)) (shows-again end (plain (ends .1)) _ (b .assembles))
+  pub same-walk-again : SameWalk p (ownFrom 0 (outputProgram asked p)) (stemOf asked p)
+  same-walk-again =
+      as-output (ownFrom 0 (outputProgram asked p))
+      (subst (λ (q : Program). SameWalk p (ownFrom 0 q) (λ i. getD (stems end) i 0)) written-is (shown-same (ownFrom 0 (compact (writeBack end))) shows-read))
 
   -- output-walked: the listing that is handed out is such as C-23 speaks of
-  pub output-walked : onlyWalked (ownFrom 0 (outputProgram p)) ≡ true
-  unfolding outputProgram
-  output-walked = let b = reads-back p in-p in again-walked (ends .1) (shows-again end (plain (ends .1)) _ (unfold outputProgram in b .assembles))
+  pub output-walked : onlyWalked (ownFrom 0 (outputProgram asked p)) ≡ true
+  output-walked = ap (λ (q : Program). onlyWalked (ownFrom 0 q)) (sym written-is) ∙ again-walked (ends .1) shows-read
 
-  input-again : Input (ownFrom 0 (outputProgram p))
-  input-again = let b = reads-back p in-p in record { text = outputOf p .listing; reads = b .reads; image = outputOf p .image; assembles = b .assembles }
+  input-again : Input (ownFrom 0 (outputProgram asked p))
+  input-again = let b = reads-back asked p in-p in record { text = outputOf asked p .listing; reads = b .reads; image = outputOf asked p .image; assembles = b .assembles }
 
--- second-run: what a second run makes of the output walks as the output does
-pub second-run : (p : Program) → Input p → onlyWalked p ≡ true
-    → SameWalk (ownFrom 0 (outputProgram p)) (ownFrom 0 (outputProgram (ownFrom 0 (outputProgram p)))) (stemOf (ownFrom 0 (outputProgram p)))
-second-run p in-p only = same-walk-again (ownFrom 0 (outputProgram p)) (input-again p in-p only) (output-walked p in-p only)
+-- second-run: what a second run makes of the output, under whatever settings, walks as the output does
+pub second-run : (asked then : Settings) (p : Program) → Input p → onlyWalked p ≡ true
+    → SameWalk (ownFrom 0 (outputProgram asked p)) (ownFrom 0 (outputProgram then (ownFrom 0 (outputProgram asked p)))) (stemOf then (ownFrom 0 (outputProgram asked p)))
+second-run asked then p in-p only = same-walk-again then (ownFrom 0 (outputProgram asked p)) (input-again asked p in-p only) (output-walked asked p in-p only)

@@ -7,10 +7,10 @@ use Rattle.desk.proofs.answer_blocks.Statement.{statement}
 use Rattle.desk.proofs.answer_blocks.Tie as tie
 
 abbrev Inv-loop : tie.InvT-loop
-Inv-loop text with-rooms at₀ at = at ≤ length text
+Inv-loop asked text on-all-sides at₀ at = at ≤ length text
 
 abbrev μ-loop : tie.MeasureT-loop
-μ-loop text with-rooms at₀ at = length text - at
+μ-loop asked text on-all-sides at₀ at = length text - at
 
 loop-holds : tie.Need-loop-holds Inv-loop μ-loop
 loop-holds c = omega arith

@@ -27,7 +27,7 @@ returns : tie.Need-returns
 returns c =
     let o = c .before .before .before .before in
     let s = o .before .before .before .before .before .before in
-    lent-front (s .args .listing .now) (s .args .page .now) (s .args .image .now) _ _ _ (s .pre) (o .optimize-jumps .ensures)
+    lent-front (s .args .asked) (s .args .listing .now) (s .args .page .now) (s .args .image .now) _ _ _ (s .pre) (o .optimize-jumps .ensures)
 
 pub run-into-spec : {M : Type 1} → statement M
 run-into-spec =

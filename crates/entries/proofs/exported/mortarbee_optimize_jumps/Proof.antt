@@ -1,8 +1,11 @@
 -- `entries::exported::mortarbee_optimize_jumps` meets its contract, on every input.
 use borrow.Author.Needs.{needs}
-use Rattle.entries.proofs.Replies.{says-same}
+use Rattle.entries.proofs.Replies.{says-same, as-asked}
 use Rattle.entries.proofs.exported.mortarbee_optimize_jumps.Statement.{statement}
 use Rattle.entries.proofs.exported.mortarbee_optimize_jumps.Tie as tie
+
+settings-of-requires : tie.Need-settings-of-requires
+settings-of-requires c κs = search needs
 
 optimize-jumps-requires : tie.Need-optimize-jumps-requires
 optimize-jumps-requires c κs = search needs
@@ -17,7 +20,12 @@ same-length-2 : tie.Need-same-length-2
 same-length-2 c = search needs
 
 returns : tie.Need-returns
-returns c = let a = c .before .before .before .before .before .optimize-jumps .ensures in (says-same _ _ _ (a .answers) (c .reply-of .ensures), (a .listing-is, a .image-is))
+returns c =
+    let o = c .before .before .before .before .before in
+    let asked = o .before .before .before .settings-of .ensures in
+    let s = o .before .before .before .before .before .before .before in
+    let a = as-asked (s .args .listing .now) (s .args .out .now) (s .args .image .now) _ _ _ _ _ asked (o .optimize-jumps .ensures) in
+    (says-same _ _ _ (a .answers) (c .reply-of .ensures), (a .listing-is, a .image-is))
 
 pub mortarbee-optimize-jumps-spec : {M : Type 1} → statement M
-mortarbee-optimize-jumps-spec = tie.close (tie.spec optimize-jumps-requires reply-of-requires same-length same-length-2 returns)
+mortarbee-optimize-jumps-spec = tie.close (tie.spec settings-of-requires optimize-jumps-requires reply-of-requires same-length same-length-2 returns)

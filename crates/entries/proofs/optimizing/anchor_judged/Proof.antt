@@ -31,7 +31,7 @@ returns c =
     let w = c .before .before .before .before in
     let a = w .before .before .before .before .before .before .before in
     let s = a .before .before .before .before .before .before .before .before in
-    fitted-program _ _ (s .args .count) (a .anchor .ensures .0 .program) (w .rewrite-anchored .ensures)
+    fitted-program (s .args .asked) _ _ (s .args .count) (a .anchor .ensures .0 .program) (w .rewrite-anchored .ensures)
 
 pub anchor-judged-spec : {M : Type 1} → statement M
 anchor-judged-spec =

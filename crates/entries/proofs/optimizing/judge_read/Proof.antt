@@ -41,7 +41,7 @@ returns c =
     let out = s .args .out .now in
     let image = s .args .image .now in
     delivers-no _ _ out image
-    (judged-no (length out) (length image) p _ (bad-no (judge p) _ (sym (c .before .r .given .1) ∙ j .judge .ensures .answer)))
+    (judged-no (s .args .asked) (length out) (length image) p _ (bad-no (judge p) _ (sym (c .before .r .given .1) ∙ j .judge .ensures .answer)))
 
 same-length : tie.Need-same-length
 same-length c = search needs
@@ -55,7 +55,7 @@ returns-2 c =
     let e = a .before .before .before .before .before .before .before .before in
     let j = e .before .before in
     let s = j .before .before .before .before .before .before .before .before .before in
-    judged-delivers (programOf (here s)) (s .args .count) (length-program (here s)) (assembled-by _ _ (e .enum-told .given .1) (j .judge .ensures) .good) (a .anchor-judged .ensures)
+    judged-delivers (s .args .asked) (programOf (here s)) (s .args .count) (length-program (here s)) (assembled-by _ _ (e .enum-told .given .1) (j .judge .ensures) .good) (a .anchor-judged .ensures)
 
 pub judge-read-spec : {M : Type 1} → statement M
 judge-read-spec =

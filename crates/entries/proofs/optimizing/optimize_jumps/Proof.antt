@@ -30,7 +30,7 @@ returns : tie.Need-returns
 returns c =
     let l = c .before .before .before in
     let s = l .before .before .before .before .before .before in
-    answered-unread (s .args .listing .now) (s .args .out .now) (s .args .image .now) _
+    answered-unread (s .args .asked) (s .args .listing .now) (s .args .out .now) (s .args .image .now) _
     (listed-refused _ _ _ (readListing (s .args .listing .now)) _ (c .before .r .given .1) (l .read-listing .ensures .0))
 
 same-length : tie.Need-same-length
@@ -46,7 +46,7 @@ returns-2 c =
     let l = k .before .before in
     let s = l .before .before .before .before .before .before in
     let h = listed-read _ _ _ (readListing (s .args .listing .now)) _ (k .count .given .1) (l .read-listing .ensures .0) in
-    answered-read (s .args .listing .now) (s .args .out .now) (s .args .image .now) (h .0) _ (h .1) (h .2 .input) (a .optimize-read .ensures)
+    answered-read (s .args .asked) (s .args .listing .now) (s .args .out .now) (s .args .image .now) (h .0) _ (h .1) (h .2 .input) (a .optimize-read .ensures)
 
 pub optimize-jumps-spec : {M : Type 1} → statement M
 optimize-jumps-spec =

@@ -1,7 +1,8 @@
--- `entries::optimizing::rewrite_anchored` meets its contract.
+-- `entries::optimizing::rewrite_anchored` meets its contract: comments go once all rewriting is done.
+use mathlib.Core.Path.{refl}
 use borrow.Author.Needs.{needs}
 use Rattle.slots.specs.Slots.{Slots, slots}
-use Rattle.entries.proofs.Results.{optimized-fitted}
+use Rattle.entries.proofs.Results.{shown-stands, optimized-fitted}
 use Rattle.entries.proofs.optimizing.rewrite_anchored.Statement.{statement}
 use Rattle.entries.proofs.optimizing.rewrite_anchored.Tie as tie
 
@@ -11,8 +12,15 @@ here c = slots (c .args .frames .now) (c .args .starts .now) (c .args .count) (c
 optimize-requires : tie.Need-optimize-requires
 optimize-requires c κs = search needs
 
+show-requires : tie.Need-show-requires
+show-requires c κs = let o = c .before .optimize .ensures in (o .stands .sound .held, o .stands .forms-full)
+
 judge-end-requires : tie.Need-judge-end-requires
-judge-end-requires c κs = let o = c .before .before .before .before .optimize .ensures in (o .stands, o .good)
+judge-end-requires c κs =
+    let h = c .before .before .before .before in
+    let o = h .before .before .optimize .ensures in
+    let s = h .before .before .before .before .before .before .before .before in
+    shown-stands (s .args .asked) _ _ (s .args .contexts .now) (o .stands) (o .good) (h .show .ensures .0) (o .stands .carry-full) refl (h .show .ensures .1 _ _ _ (o .stands .sound))
 
 same-length : tie.Need-same-length
 same-length c = search needs
@@ -23,10 +31,11 @@ same-length-2 c = search needs
 returns : tie.Need-returns
 returns c =
     let e = c .before .before .before .before in
-    let o = e .before .before .before .before .before in
-    let s = o .before .before .before .before .before .before in
-    optimized-fitted (s .args .contexts .now) (here s) _ _ (o .optimize .ensures) (e .judge-end .ensures)
+    let h = e .before .before .before .before .before in
+    let o = h .before .before .optimize .ensures in
+    let s = h .before .before .before .before .before .before .before .before in
+    optimized-fitted (s .args .asked) (s .args .contexts .now) (here s) _ _ _ o (h .show .ensures .1 _ _ _ (o .stands .sound)) (e .judge-end .ensures)
 
 pub rewrite-anchored-spec : {M : Type 1} → statement M
 rewrite-anchored-spec =
-    tie.close (tie.spec optimize-requires judge-end-requires same-length same-length-2 returns)
+    tie.close (tie.spec optimize-requires show-requires judge-end-requires same-length same-length-2 returns)

@@ -3,9 +3,10 @@ use mathlib.Core.Path.{ap, _∙_}
 use mathlib.Core.Option.{Option}
 use borrow.Author.Needs.{needs}
 use Rattle.laws.specs.Options.{firstOf}
+use Rattle.rules.specs.declared.Settings.{Settings}
 use Rattle.rules.specs.Programs.{Program}
 use Rattle.rules.specs.Judging.{namesOf, assembles}
-use Rattle.rules.specs.Rewriting.{patterns, patternAt, shrinkAt, anywhere, step}
+use Rattle.rules.specs.Rewriting.{patternsFor, patternAt, shrinkAt, anywhere, step}
 use Rattle.slots.specs.Slots.{Slots, slots, programOf}
 use Rattle.optimize.proofs.Tries.{same-slots, tried-first, tried-second, tried-missed}
 use Rattle.optimize.proofs.rewriting.rewrite.Statement.{statement}
@@ -15,26 +16,26 @@ abbrev here : (c : tie.Start) → Slots
 here c =
     slots (c .args .frames .now) (c .args .starts .now) (c .args .count) (c .args .forms .now) (c .args .carry .now) (c .args .owners .now) (c .args .offsets .now)
 
-abbrev folds : Slots → Option Program
-folds t = firstOf (λ x. anywhere (patternAt (programOf t) x) (programOf t)) patterns
+abbrev folds : Settings → Slots → Option Program
+folds asked t = firstOf (λ x. anywhere (patternAt (programOf t) x) (programOf t)) (patternsFor asked)
 
-abbrev shrinks : Slots → Option Program
-shrinks t = anywhere (shrinkAt (namesOf (programOf t)) (programOf t)) (programOf t)
+abbrev shrinks : Settings → Slots → Option Program
+shrinks asked t = anywhere (shrinkAt asked (namesOf (programOf t)) (programOf t)) (programOf t)
 
-fold-requires : tie.Need-fold-requires
-fold-requires c κs = search needs
+fold-asked-requires : tie.Need-fold-asked-requires
+fold-asked-requires c κs = search needs
 
 returns : tie.Need-returns
 unfolding step
 returns c =
     let s = c .before .before .before .before .before in
-    tried-first (folds (here s)) (shrinks (here s)) (c .before .fold .ensures) (c .if1 .taken)
+    tried-first (folds (s .args .asked) (here s)) (shrinks (s .args .asked) (here s)) (c .before .fold-asked .ensures) (c .if1 .taken)
 
 shrink-requires : tie.Need-shrink-requires
 shrink-requires c κs =
     let i = c .before .before in
     let s = i .before .before .before .before .before in
-    let e = i .before .fold .ensures in
+    let e = i .before .fold-asked .ensures in
     let same = same-slots _ _ _ _ _ (e .forms-kept (i .if1 .left)) (e .carry-kept (i .if1 .left)) in
     (e .stands, ap (λ (t : Slots). assembles (programOf t)) same ∙ s .pre .1)
 
@@ -43,9 +44,9 @@ unfolding step
 returns-2 c =
     let i = c .before .before .before in
     let s = i .before .before .before .before .before in
-    let e = i .before .fold .ensures in
-    tried-second (folds (here s)) shrinks (tried-missed (folds (here s)) e (i .if1 .left))
+    let e = i .before .fold-asked .ensures in
+    tried-second (folds (s .args .asked) (here s)) (shrinks (s .args .asked)) (tried-missed (folds (s .args .asked) (here s)) e (i .if1 .left))
     (same-slots _ _ _ _ _ (e .forms-kept (i .if1 .left)) (e .carry-kept (i .if1 .left))) (c .shrink .ensures)
 
 pub rewrite-spec : {M : Type 1} → statement M
-rewrite-spec = tie.close (tie.spec fold-requires returns shrink-requires returns-2)
+rewrite-spec = tie.close (tie.spec fold-asked-requires returns shrink-requires returns-2)

@@ -2,13 +2,14 @@
 use mathlib.Core.Path.{_≡_, sym, _∙_}
 use mathlib.Core.List.{List}
 use borrow.Author.Needs.{needs}
+use borrow.Author.Tests.{not-true, not-false}
 use Rattle.rules.specs.Names.{Entry}
 use Rattle.rules.specs.Judging.{namesOf}
 use Rattle.rules.specs.Rewriting.{shrinkAt}
 use Rattle.rules.specs.Programs.{kindOf}
 use Rattle.slots.specs.Slots.{Slots, slots, slotAt, programOf}
 use Rattle.optimize.proofs.Tries.{tried-as, tried-none}
-use Rattle.optimize.proofs.Shorter.{call-for, shrink-other, shrink-none, shrink-call}
+use Rattle.optimize.proofs.Shorter.{call-for, shrink-other, shrink-none, shrink-call, shrink-uncalled}
 use Rattle.optimize.proofs.shrinking.shrink_at.Statement.{statement}
 use Rattle.optimize.proofs.shrinking.shrink_at.Tie as tie
 
@@ -34,8 +35,8 @@ returns : tie.Need-returns
 returns c =
     let k = c .before in
     let s = k .before .before .before in
-    tried-none (shrinkAt (its s) (programOf (here s)) (s .args .at .0))
-    (shrink-other (its s) (here s) (s .args .at .0) (s .pre .4) (λ e. c .if1 .taken (kind k ∙ e))) (s .pre .0)
+    tried-none (shrinkAt (s .args .asked) (its s) (programOf (here s)) (s .args .at .0))
+    (shrink-other (s .args .asked) (its s) (here s) (s .args .at .0) (s .pre .4) (λ e. c .if1 .taken (kind k ∙ e))) (s .pre .0)
 
 element-copy-out-form : tie.Need-element-copy-out-form
 element-copy-out-form c = search needs
@@ -50,28 +51,36 @@ shrink-jump-requires c κs =
 returns-2 : tie.Need-returns-2
 returns-2 c = c .shrink-jump .ensures
 
-try-form-requires : tie.Need-try-form-requires
-try-form-requires c κs =
-    let i = c .before in
-    let o = i .before .before .before in
-    let s = o .before .before .before .before in
-    (s .pre .0, s .pre .1, s .pre .4, instruction o, call-for _ (i .if3 .taken))
-
 returns-3 : tie.Need-returns-3
 returns-3 c =
     let i = c .before .before in
     let o = i .before .before .before in
     let s = o .before .before .before .before in
-    tried-as _ (shrinkAt (its s) (programOf (here s)) (s .args .at .0))
-    (shrink-call (its s) (here s) (s .args .at .0) (s .pre .4) (instruction o) (i .if3 .taken)) (c .try-form .ensures)
+    tried-none (shrinkAt (s .args .asked) (its s) (programOf (here s)) (s .args .at .0))
+    (shrink-uncalled (s .args .asked) (its s) (here s) (s .args .at .0) (s .pre .4) (instruction o) (i .if3 .taken) (not-true (s .args .asked .callf) (c .if4 .taken))) (s .pre .0)
+
+try-form-requires : tie.Need-try-form-requires
+try-form-requires c κs =
+    let i = c .before .before .before in
+    let o = i .before .before .before in
+    let s = o .before .before .before .before in
+    (s .pre .0, s .pre .1, s .pre .4, instruction o, call-for _ (i .if3 .taken))
 
 returns-4 : tie.Need-returns-4
 returns-4 c =
+    let i = c .before .before .before .before in
+    let o = i .before .before .before in
+    let s = o .before .before .before .before in
+    tried-as _ (shrinkAt (s .args .asked) (its s) (programOf (here s)) (s .args .at .0))
+    (shrink-call (s .args .asked) (its s) (here s) (s .args .at .0) (s .pre .4) (instruction o) (i .if3 .taken) (not-false (s .args .asked .callf) (c .before .before .if4 .left))) (c .try-form .ensures)
+
+returns-5 : tie.Need-returns-5
+returns-5 c =
     let j = c .before in
     let o = j .before .before in
     let s = o .before .before .before .before in
-    tried-none (shrinkAt (its s) (programOf (here s)) (s .args .at .0))
-    (shrink-none (its s) (here s) (s .args .at .0) (s .pre .4) (instruction o) (j .if2 .left) (c .if3 .left)) (s .pre .0)
+    tried-none (shrinkAt (s .args .asked) (its s) (programOf (here s)) (s .args .at .0))
+    (shrink-none (s .args .asked) (its s) (here s) (s .args .at .0) (s .pre .4) (instruction o) (j .if2 .left) (c .if3 .left)) (s .pre .0)
 
 pub shrink-at-spec : {M : Type 1} → statement M
 shrink-at-spec =
@@ -82,6 +91,7 @@ shrink-at-spec =
     element-copy-out-form
     shrink-jump-requires
     returns-2
-    try-form-requires
     returns-3
-    returns-4)
+    try-form-requires
+    returns-4
+    returns-5)

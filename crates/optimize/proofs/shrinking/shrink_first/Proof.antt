@@ -7,6 +7,7 @@ use native.Mathlib.Omega.{arith}
 use Rattle.laws.specs.Options.{firstFrom}
 use Rattle.laws.proofs.Options.{first-starts}
 use Rattle.rules.specs.Programs.{Placeℕ, Program}
+use Rattle.rules.specs.declared.Settings.{Settings}
 use Rattle.rules.specs.Names.{Entry}
 use Rattle.rules.specs.Judging.{namesOf}
 use Rattle.rules.specs.Rewriting.{shrinkAt, anywhere}
@@ -17,17 +18,17 @@ use Rattle.optimize.proofs.shrinking.shrink_first.Statement.{statement}
 use Rattle.optimize.proofs.shrinking.shrink_first.Tie as tie
 
 -- what is tried
-abbrev tries : Slots → (i : Placeℕ) → Option Program
-tries t i = shrinkAt (namesOf (programOf t)) (programOf t) i
+abbrev tries : Settings → Slots → (i : Placeℕ) → Option Program
+tries asked t i = shrinkAt asked (namesOf (programOf t)) (programOf t) i
 
 abbrev Inv-loop : tie.InvT-loop
-Inv-loop frames starts count forms₀ carry owners offsets names contexts values positions deepest i₀ forms i =
+Inv-loop asked frames starts count forms₀ carry owners offsets names contexts values positions deepest i₀ forms i =
     (i ≤ count)
     × (slots frames starts count forms carry owners offsets ≡ slots frames starts count forms₀ carry owners offsets)
-    × (firstFrom (tries (slots frames starts count forms₀ carry owners offsets)) count 0 ≡ firstFrom (tries (slots frames starts count forms₀ carry owners offsets)) (count - i) i)
+    × (firstFrom (tries asked (slots frames starts count forms₀ carry owners offsets)) count 0 ≡ firstFrom (tries asked (slots frames starts count forms₀ carry owners offsets)) (count - i) i)
 
 abbrev μ-loop : tie.MeasureT-loop
-μ-loop frames starts count forms₀ carry owners offsets names contexts values positions deepest i₀ forms i = count - i
+μ-loop asked frames starts count forms₀ carry owners offsets names contexts values positions deepest i₀ forms i = count - i
 
 abbrev here : (c : tie.Start Inv-loop μ-loop) → Slots
 here c =
@@ -44,7 +45,7 @@ still-named : {t t₀ : Slots} {names : List Entry} → t ≡ t₀ → names ≡
 still-named e h = h ∙ sym (ap (λ (z : Slots). namesOf (programOf z)) e)
 
 loop-holds : tie.Need-loop-holds Inv-loop μ-loop
-loop-holds c = let s = c .before in (omega arith, refl, first-starts (tries (here s)) (s .args .count))
+loop-holds c = let s = c .before in (omega arith, refl, first-starts (tries (s .args .asked) (here s)) (s .args .count))
 
 shrink-at-requires : tie.Need-shrink-at-requires Inv-loop μ-loop
 shrink-at-requires c κs =
@@ -58,8 +59,8 @@ returns c =
     let p = c .before in
     let l = p .before .before .before in
     let s = l .before .before in
-    tried-as _ (anywhere (tries (here s)) (programOf (here s))) (anywhere-is (tries (here s)) (here s))
-    (found tries (s .args .count) (l .loop .i) (l .loop .inv .1) (l .loop .inv .2) (p .before .before .loop-test .taken) (p .shrink-at .ensures) (c .if1 .taken))
+    tried-as _ (anywhere (tries (s .args .asked) (here s)) (programOf (here s))) (anywhere-is (tries (s .args .asked) (here s)) (here s))
+    (found (tries (s .args .asked)) (s .args .count) (l .loop .i) (l .loop .inv .1) (l .loop .inv .2) (p .before .before .loop-test .taken) (p .shrink-at .ensures) (c .if1 .taken))
 
 add-i : tie.Need-add-i Inv-loop μ-loop
 add-i c = omega arith
@@ -75,15 +76,15 @@ loop-again c =
     let e = p .shrink-at .ensures in (
       omega arith,
       same-slots _ _ _ _ _ (e .forms-kept (c .if1 .left)) (e .carry-kept (c .if1 .left)) ∙ l .loop .inv .1,
-      missed tries (s .args .count) (l .loop .i) (l .loop .inv .1) (l .loop .inv .2) (p .before .before .loop-test .taken) e (c .if1 .left),
+      missed (tries (s .args .asked)) (s .args .count) (l .loop .i) (l .loop .inv .1) (l .loop .inv .2) (p .before .before .loop-test .taken) e (c .if1 .left),
     )
 
 returns-2 : tie.Need-returns-2 Inv-loop μ-loop
 returns-2 c =
     let l = c .before in
     let s = l .before .before in
-    tried-as _ (anywhere (tries (here s)) (programOf (here s))) (anywhere-is (tries (here s)) (here s))
-    (ended tries (s .args .count) (l .loop .i) (l .loop .inv .1) (l .loop .inv .2) (c .loop-test .left) (s .pre .0))
+    tried-as _ (anywhere (tries (s .args .asked) (here s)) (programOf (here s))) (anywhere-is (tries (s .args .asked) (here s)) (here s))
+    (ended (tries (s .args .asked)) (s .args .count) (l .loop .i) (l .loop .inv .1) (l .loop .inv .2) (c .loop-test .left) (s .pre .0))
 
 pub shrink-first-spec : {M : Type 1} → statement M
 shrink-first-spec =

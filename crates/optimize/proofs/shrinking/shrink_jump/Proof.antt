@@ -18,8 +18,8 @@ abbrev its : (c : tie.Start) → List Entry
 its c = namesOf (programOf (here c))
 
 -- the change jump that was asked for
-asked : (c : tie.After-is-change-jump) → let s = c .before .before .before in isChangeJump (its s) (programOf (here s)) (s .args .at .0) ≡ c .is-change-jump .result
-asked c =
+judged : (c : tie.After-is-change-jump) → let s = c .before .before .before in isChangeJump (its s) (programOf (here s)) (s .args .at .0) ≡ c .is-change-jump .result
+judged c =
     let s = c .before .before .before in
     sym (c .is-change-jump .ensures ∙ ap (λ (names : List Entry). isChangeJump names (programOf (here s)) (s .args .at .0)) (s .pre .3))
 
@@ -30,8 +30,8 @@ returns : tie.Need-returns
 returns c =
     let j = c .before in
     let s = j .before .before .before in
-    tried-none (shrinkAt (its s) (programOf (here s)) (s .args .at .0))
-    (shrink-change (its s) (here s) (s .args .at .0) (s .pre .4) (s .pre .5) (s .pre .6) (asked j ∙ c .if1 .taken)) (s .pre .0)
+    tried-none (shrinkAt (s .args .asked) (its s) (programOf (here s)) (s .args .at .0))
+    (shrink-change (s .args .asked) (its s) (here s) (s .args .at .0) (s .pre .4) (s .pre .5) (s .pre .6) (judged j ∙ c .if1 .taken)) (s .pre .0)
 
 try-br-then-jmp-requires : tie.Need-try-br-then-jmp-requires
 try-br-then-jmp-requires c κs = let s = c .before .before .before .before .before in (s .pre .0, s .pre .1, s .pre .4, s .pre .5, s .pre .6)
@@ -41,8 +41,8 @@ returns-2 c =
     let i = c .before .before in
     let j = i .before in
     let s = j .before .before .before in
-    tried-as _ (shrinkAt (its s) (programOf (here s)) (s .args .at .0))
-    (shrink-plain (its s) (here s) (s .args .at .0) (s .pre .4) (s .pre .5) (s .pre .6) (asked j ∙ i .if1 .left)) (c .try-br-then-jmp .ensures)
+    tried-as _ (shrinkAt (s .args .asked) (its s) (programOf (here s)) (s .args .at .0))
+    (shrink-plain (s .args .asked) (its s) (here s) (s .args .at .0) (s .pre .4) (s .pre .5) (s .pre .6) (judged j ∙ i .if1 .left)) (c .try-br-then-jmp .ensures)
 
 pub shrink-jump-spec : {M : Type 1} → statement M
 shrink-jump-spec = tie.close (tie.spec is-change-jump-requires returns try-br-then-jmp-requires returns-2)
