@@ -29,8 +29,8 @@ struct mortarbee_reply mortarbee_assemble(const uint8_t *listing, size_t listing
 struct mortarbee_reply mortarbee_optimize_jumps(uint8_t comments, uint8_t callf, uint8_t folds, const uint8_t *listing, size_t listing_len, uint8_t *out, size_t out_len,
                                                 uint8_t *image, size_t image_len);
 
-/* Rooms that are never too short: 49,152 characters and 1,024 line feeds, and 65,536 bytes. */
-#define MORTARBEE_LISTING_ROOM 50176
+/* Rooms that are never too short: 49,152 characters, four more for each of 1,024 transfers and 1,024 line feeds, with room to spare, and 65,536 bytes. */
+#define MORTARBEE_LISTING_ROOM 62469
 #define MORTARBEE_IMAGE_ROOM 65536
 
 #endif

@@ -4,9 +4,9 @@ from model.judging import Judge
 from model.reading import Panic, Refused, read_listing
 from model.rewriting import Rewriter
 from model.ways import TooLong, Ways
-from rules import CANDIDATES, PATTERNS, RULES, SWITCHES
+from rules import ANCHORS, CANDIDATES, PATTERNS, RULES, SWITCHES
 
-FIRST = [n for n in RULES if n not in PATTERNS and n not in CANDIDATES]
+FIRST = [n for n in RULES if n not in PATTERNS and n not in CANDIDATES and n not in ANCHORS]
 
 
 def modelled(text, rules, build, assemble, asked=None):

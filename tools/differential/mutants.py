@@ -22,7 +22,7 @@ patch = mock.patch.object
 def wrong_field(change):
     """`Judge.field` with its operands changed."""
     right = Judge.field
-    return patch(Judge, "field", lambda self, place, kind, arg, n: right(self, place, kind, arg, change(self, place, kind, n)))
+    return patch(Judge, "field", lambda self, place, j, kind, arg, n: right(self, place, j, kind, arg, change(self, place, kind, n)))
 
 
 def only_changed(self, at, changes):
@@ -78,6 +78,14 @@ def comments_count(self, at, length):
     return places if len(places) == length and not any(p in self.owned for p in places) else None
 
 
+def labels_alone(self):
+    return {self.judged.key(place, s.name) for place, s in enumerate(self.slots) if s.kind == "label"}
+
+
+def any_variable_moves(self, place, tree, moving):
+    return bool(values.names_in(tree))
+
+
 MUTANTS = {
     "rel8 from the instruction's start": lambda: wrong_field(lambda j, p, kind, n: n - j.slots[p].size if kind == "rel8" else n),
     "the page of the instruction's start": lambda: wrong_field(lambda j, p, kind, n: n - j.slots[p].size if kind == "a12" else n),
@@ -91,9 +99,11 @@ MUTANTS = {
     "places before patterns": lambda: patch(Rewriter, "fold", places_first),
     "division rounded down": lambda: mock.patch.dict(values.TWO, {"divide": lambda a, b: a // b}),
     "upper byte not taken modulo 256": lambda: mock.patch.dict(values.ONE, {"upper": lambda a: a >> 8}),
-    "words with the high byte first": lambda: patch(Judge, "item", lambda self, p, k, a: Judge.right_item(self, p, k, a)[::-1]),
+    "words with the high byte first": lambda: patch(Judge, "item", lambda self, p, j, k, a: Judge.right_item(self, p, j, k, a)[::-1]),
     "locals of every context": lambda: patch(Judge, "key", lambda self, place, name: (-2, name)),
     "limit of 31 bytes for an expression": lambda: patch(reading.Frame, "byte", short_byte),
+    "labels looked for in the target alone": lambda: patch(Rewriter, "moving", labels_alone),
+    "no variable is a constant": lambda: patch(Rewriter, "holds_label", any_variable_moves),
     "comments significant": lambda: patch(Rewriter, "following", comments_count),
 }
 

@@ -2,6 +2,7 @@
 
 PATTERNS = range(1, 13)
 CANDIDATES = range(13, 16)
+ANCHORS = [33]
 
 
 # ---- folds (rule 3)
@@ -172,6 +173,13 @@ def diff_31(ways):
 def diff_32(ways):
     """The Rust evaluates a variable before it looks for its name."""
     ways.on("a variable's value is judged before its name")
+
+
+# ---- anchors (rule 2, C-15)
+
+def diff_33(ways):
+    """A target with a constant is anchored: in the Rust it stays as written."""
+    ways.on("a target with a constant stays")
 
 
 RULES = {int(name[5:]): function for name, function in sorted(globals().items()) if name.startswith("diff_")}

@@ -3,8 +3,8 @@
 
 use std::fmt;
 
-/// A listing room that is never too short: 49,152 characters and 1,024 line feeds.
-pub const LISTING_ROOM: usize = 50_176;
+/// A listing room that is never too short: 49,152 characters, four more for each of 1,024 transfers and 1,024 line feeds, with room to spare.
+pub const LISTING_ROOM: usize = 62_469;
 /// An image room that is never too short.
 pub const IMAGE_ROOM: usize = 65_536;
 

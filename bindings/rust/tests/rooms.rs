@@ -170,6 +170,15 @@ mod rewriting {
         assert_eq!(image, [0x90, 0x01, 0x00, 0x01, 0xFD]);
     }
 
+    /// C-15: the target comes out as a number, two bytes longer than its name.
+    #[test]
+    fn a_constant_as_a_target() {
+        let (rewrites, out, image) = both_rooms(b"0300010000000003\n012B010001\n0143\n").unwrap();
+        assert_eq!(rewrites, 1);
+        assert_eq!(out, b"0300010000000003\n012C0000000002\n0143\n");
+        assert_eq!(image, [0x01, 0x00, 0x00]);
+    }
+
     #[test]
     fn cases_and_their_rooms() {
         for (listing, wanted) in CASES {

@@ -13,13 +13,12 @@ use Rattle.laws.proofs.Lists.{getD-map-in}
 use Rattle.laws.proofs.Counts.{tab-is}
 use Rattle.rules.specs.declared.Outcome.{Outcome}
 use Rattle.rules.specs.declared.Outcome.the-variants.{Is, Unknown, Nothing}
-use Rattle.rules.specs.Expressions.{evalTree, holdsName}
 use Rattle.rules.specs.Forms.{isTransfer}
 use Rattle.rules.specs.Programs.{Operand, register, value, inner, Stmt, gone, instr, label, variable, comment, org, bytes, words, argsOf, lastOf, onLast, retarget, Program, at, kindOf}
 use Rattle.rules.specs.Layout.{Origin, origin}
-use Rattle.rules.specs.Names.{Entry, Placed, placed}
-use Rattle.rules.specs.Judging.{namesOf}
-use Rattle.rules.specs.Rewriting.{isChangeJump, innerAt, anchorTarget, isAnchored, anchorAt, anchor}
+use Rattle.rules.specs.Names.{Key, Entry, Placed, contextAt, placed}
+use Rattle.rules.specs.Judging.{worth, namesOf}
+use Rattle.rules.specs.Rewriting.{isChangeJump, holdsLabel, movingOf, innerAt, anchorTarget, isAnchored, anchorAt, anchor}
 use Rattle.rules.proofs.Laws.{length-placed, placed-at}
 use Rattle.slots.specs.Slots.{Slots, slots, goneForm, noOwner, written, targetOf, aimedAt, slotAt, programOf, Sound}
 use Rattle.slots.proofs.Slots.{slot-gone, slot-other, kind-kept, not-gone}
@@ -28,7 +27,7 @@ use Rattle.image.proofs.Placed.{placedAt}
 use Rattle.asm.proofs.OriginsBack.{origin-stems}
 use Rattle.patterns.proofs.Programs.{length-program, at-program}
 use Rattle.patterns.proofs.Instructions.{target-inner, target-written, last-target}
-use Rattle.anchors.specs.Anchored.{bareValue, originAt, ownerOf, offsetOf, AsRead, Anchored}
+use Rattle.anchors.specs.Anchored.{constantValue, originAt, ownerOf, offsetOf, AsRead, Anchored}
 
 -- ---- one target
 
@@ -37,10 +36,11 @@ abbrev innerOr : Operand → Option Origin → Operand
 innerOr x none = x
 innerOr x (some o) = inner (o .place) (o .offset)
 
-anchor-target : (p : Program) (x : Operand) → anchorTarget p x ≡ innerOr x (origin p (bareValue x))
+anchor-target : (names : List Entry) (moving : List Key) (p : Program) (k : ℕ) (x : Operand)
+    → anchorTarget names moving p k x ≡ innerOr x (origin p (constantValue names moving k x))
 unfolding origin
-anchor-target p (register r) = refl
-anchor-target p (value e) = on (holdsName e) (evalTree (λ n. Unknown) e)
+anchor-target names moving p k (register r) = refl
+anchor-target names moving p k (value e) = on (holdsLabel moving k e) (worth names k e)
   where
     found : (o : Option Origin) → innerAt e o ≡ innerOr (value e) o
     found none = refl
@@ -49,7 +49,7 @@ anchor-target p (value e) = on (holdsName e) (evalTree (λ n. Unknown) e)
     on : (b : Bool) (x : Outcome) → cond b (value e) (innerAt e (origin p x)) ≡ innerOr (value e) (origin p (cond b Unknown x))
     on true x = refl
     on false x = found (origin p x)
-anchor-target p (inner i o) = refl
+anchor-target names moving p k (inner i o) = refl
 
 -- an operand put in the last place twice
 aimed-twice : (g : Operand → Operand) (x : Operand) (xs : List Operand) → onLast g (onLast (λ old. x) xs) ≡ onLast (λ old. g x) xs
@@ -66,36 +66,36 @@ origin-inside p (Is (negsuc a)) o e = none-some o e
 origin-inside p Unknown o e = none-some o e
 origin-inside p Nothing o e = none-some o e
 
-pub label-inside : (names : List Entry) (p : Program) (i : ℕ) (o : Origin) → originAt names p i ≡ some o → o .place < length p
+pub label-inside : (names : List Entry) (moving : List Key) (p : Program) (i : ℕ) (o : Origin) → originAt names moving p i ≡ some o → o .place < length p
 unfolding originAt
-label-inside names p i o e = on (isAnchored names p i (at p i)) e
+label-inside names moving p i o e = on (isAnchored names p i (at p i)) e
   where
-    on : (b : Bool) → cond b (origin p (bareValue (lastOf (argsOf (at p i))))) none ≡ some o → o .place < length p
-    on true f = origin-inside p (bareValue (lastOf (argsOf (at p i)))) o f
+    on : (b : Bool) → cond b (origin p (constantValue names moving (contextAt p i) (lastOf (argsOf (at p i))))) none ≡ some o → o .place < length p
+    on true f = origin-inside p (constantValue names moving (contextAt p i) (lastOf (argsOf (at p i)))) o f
     on false f = none-some o f
 
 -- ---- the tables as read, and those with the inner labels
 
-module _ (t : Slots) (s : Sound t) (r : AsRead t) (owners offsets : List ℕ) (names : List Entry)
-    (labels : (i : ℕ) → i < t .count → getD owners i 0 ≡ ownerOf (originAt names (programOf t) i))
-    (offs : (i : ℕ) → i < t .count → getD offsets i 0 ≡ offsetOf (originAt names (programOf t) i)) where
+module _ (t : Slots) (s : Sound t) (r : AsRead t) (owners offsets : List ℕ) (names : List Entry) (moving : List Key)
+    (labels : (i : ℕ) → i < t .count → getD owners i 0 ≡ ownerOf (originAt names moving (programOf t) i))
+    (offs : (i : ℕ) → i < t .count → getD offsets i 0 ≡ offsetOf (originAt names moving (programOf t) i)) where
   abbrev u : Slots
   u = slots (t .frames) (t .starts) (t .count) (t .forms) (t .carry) owners offsets
 
   abbrev p : Program
   p = programOf t
 
-  inside : (i : ℕ) (o : Origin) → originAt names p i ≡ some o → o .place < t .count
-  inside i o e = omega (arith, label-inside names p i o e, length-program t)
+  inside : (i : ℕ) (o : Origin) → originAt names moving p i ≡ some o → o .place < t .count
+  inside i o e = omega (arith, label-inside names moving p i o e, length-program t)
 
   -- the target of place i, then and now
   target-then : (i : ℕ) → i < t .count → targetOf t i ≡ lastOf (argsOf (written t i))
   target-then i l = target-written t i (omega (arith, r .free i l))
 
-  target-now : (i : ℕ) → i < t .count → targetOf u i ≡ innerOr (targetOf t i) (originAt names p i)
-  target-now i l = on (originAt names p i) refl
+  target-now : (i : ℕ) → i < t .count → targetOf u i ≡ innerOr (targetOf t i) (originAt names moving p i)
+  target-now i l = on (originAt names moving p i) refl
     where
-      on : (o : Option Origin) → originAt names p i ≡ o → targetOf u i ≡ innerOr (targetOf t i) o
+      on : (o : Option Origin) → originAt names moving p i ≡ o → targetOf u i ≡ innerOr (targetOf t i) o
       on none e = target-written u i (omega (arith, labels i l, ap ownerOf e)) ∙ sym (target-then i l)
       on (some o) e =
           target-inner u i (omega (arith, labels i l, ap ownerOf e, inside i o e, s .held .few))
@@ -103,7 +103,7 @@ module _ (t : Slots) (s : Sound t) (r : AsRead t) (owners offsets : List ℕ) (n
 
   -- a statement at place i, as anchoring leaves it
   abbrev anchored : (i : ℕ) → Stmt → Stmt
-  anchored i x = cond (isAnchored names p i x) (retarget (anchorTarget p) x) x
+  anchored i x = cond (isAnchored names p i x) (retarget (anchorTarget names moving p (contextAt p i)) x) x
 
   module _ (i : ℕ) (l : i < t .count) where
     abbrev form : ℕ
@@ -146,21 +146,21 @@ module _ (t : Slots) (s : Sound t) (r : AsRead t) (owners offsets : List ℕ) (n
         target : lastOf (argsOf (at p i)) ≡ targetOf t i
         target = ap (λ x. lastOf (argsOf x)) (at-program t i l) ∙ last-target t s i l e n ∙ ap (targetOf t) (r .own i l)
 
-        chosen : originAt names p i ≡ cond (not (isChangeJump names p i)) (origin p (bareValue (targetOf t i))) none
+        chosen : originAt names moving p i ≡ cond (not (isChangeJump names p i)) (origin p (constantValue names moving (contextAt p i) (targetOf t i))) none
         unfolding originAt isAnchored
         chosen =
             let test : isAnchored names p i (at p i) ≡ not (isChangeJump names p i) = ap (isAnchored names p i) (at-program t i l ∙ stands) ∙ rw n in
-            ap₂ (λ (b : Bool) (x : Operand). cond b (origin p (bareValue x)) none) test target
+            ap₂ (λ (b : Bool) (x : Operand). cond b (origin p (constantValue names moving (contextAt p i) x)) none) test target
 
         -- either way
-        becomes : (b : Bool) → not (isChangeJump names p i) ≡ b → instr form (onLast (λ old. targetOf u i) args) i ≡ cond b (retarget (anchorTarget p) (instr form (onLast (λ old. targetOf t i) args) i)) (instr form (onLast (λ old. targetOf t i) args) i)
+        becomes : (b : Bool) → not (isChangeJump names p i) ≡ b → instr form (onLast (λ old. targetOf u i) args) i ≡ cond b (retarget (anchorTarget names moving p (contextAt p i)) (instr form (onLast (λ old. targetOf t i) args) i)) (instr form (onLast (λ old. targetOf t i) args) i)
         becomes true q =
-            let o : originAt names p i ≡ origin p (bareValue (targetOf t i)) = chosen ∙ cond-true _ _ _ q in
-            let x : targetOf u i ≡ anchorTarget p (targetOf t i) = target-now i l ∙ ap (innerOr (targetOf t i)) o ∙ sym (anchor-target p (targetOf t i)) in
+            let o : originAt names moving p i ≡ origin p (constantValue names moving (contextAt p i) (targetOf t i)) = chosen ∙ cond-true _ _ _ q in
+            let x : targetOf u i ≡ anchorTarget names moving p (contextAt p i) (targetOf t i) = target-now i l ∙ ap (innerOr (targetOf t i)) o ∙ sym (anchor-target names moving p (contextAt p i) (targetOf t i)) in
             ap (λ (y : Operand). instr form (onLast (λ old. y) args) i) x
-            ∙ ap (λ (xs : List Operand). instr form xs i) (sym (aimed-twice (anchorTarget p) (targetOf t i) args))
+            ∙ ap (λ (xs : List Operand). instr form xs i) (sym (aimed-twice (anchorTarget names moving p (contextAt p i)) (targetOf t i) args))
         becomes false q =
-            let o : originAt names p i ≡ none = chosen ∙ cond-false _ _ _ q in
+            let o : originAt names moving p i ≡ none = chosen ∙ cond-false _ _ _ q in
             ap (λ (y : Operand). instr form (onLast (λ old. y) args) i) (target-now i l ∙ ap (innerOr (targetOf t i)) o)
 
         transfer : slotAt u i ≡ anchored i (slotAt t i)
@@ -189,23 +189,23 @@ module _ (t : Slots) (s : Sound t) (r : AsRead t) (owners offsets : List ℕ) (n
 
   -- ---- the whole program
 
-  count-anchored : length (map (anchorAt names p) (placed p)) ≡ t .count
+  count-anchored : length (map (anchorAt names moving p) (placed p)) ≡ t .count
   unfolding placed
   count-anchored = length-map (placed p) _ ∙ length-placed 0 0 0 p ∙ length-program t
 
-  each-anchored : (i : ℕ) → i < t .count → getD (map (anchorAt names p) (placed p)) i gone ≡ slotAt u i
+  each-anchored : (i : ℕ) → i < t .count → getD (map (anchorAt names moving p) (placed p)) i gone ≡ slotAt u i
   unfolding placed
   each-anchored i l =
       let m : i < length p = omega (arith, length-program t) in
       let d : Placed = placedAt p i in
-      getD-map-in (anchorAt names p) (placed p) i d gone (omega (arith, length-placed 0 0 0 p))
-      ∙ ap (anchorAt names p) (placed-at p i d m)
+      getD-map-in (anchorAt names moving p) (placed p) i d gone (omega (arith, length-placed 0 0 0 p))
+      ∙ ap (anchorAt names moving p) (placed-at p i d m)
       ∙ ap (anchored i) (at-program t i l)
       ∙ sym (slot-anchored i l)
 
-  program-anchored : programOf u ≡ map (anchorAt names p) (placed p)
+  program-anchored : programOf u ≡ map (anchorAt names moving p) (placed p)
   unfolding programOf
-  program-anchored = sym (tab-is (slotAt u) (t .count) (map (anchorAt names p) (placed p)) gone count-anchored each-anchored)
+  program-anchored = sym (tab-is (slotAt u) (t .count) (map (anchorAt names moving p) (placed p)) gone count-anchored each-anchored)
 
   -- ---- what is known of the tables stays
 
@@ -215,9 +215,9 @@ module _ (t : Slots) (s : Sound t) (r : AsRead t) (owners offsets : List ℕ) (n
       kind-kept t i g ∙ sym (kind-kept u i g) ∙ e
 
   owner-inside : (c : ℕ) → c < t .count → getD owners c 0 < noOwner → getD owners c 0 < t .count
-  owner-inside c l h = on (originAt names p c) refl
+  owner-inside c l h = on (originAt names moving p c) refl
     where
-      on : (o : Option Origin) → originAt names p c ≡ o → getD owners c 0 < t .count
+      on : (o : Option Origin) → originAt names moving p c ≡ o → getD owners c 0 < t .count
       on none e = absurd (omega (arith, labels c l, ap ownerOf e))
       on (some o) e = omega (arith, labels c l, ap ownerOf e, inside c o e)
 
@@ -230,6 +230,6 @@ module _ (t : Slots) (s : Sound t) (r : AsRead t) (owners offsets : List ℕ) (n
         owned = owner-inside;
       }
 
-  pub tables-anchored : names ≡ namesOf p → Anchored t u
+  pub tables-anchored : names ≡ namesOf p → moving ≡ movingOf p → Anchored t u
   unfolding anchor
-  tables-anchored e = record { program = program-anchored ∙ ap (λ (ns : List Entry). map (anchorAt ns p) (placed p)) e; sound = sound-anchored }
+  tables-anchored e m = record { program = program-anchored ∙ ap₂ (λ (ns : List Entry) (ms : List Key). map (anchorAt ns ms p) (placed p)) e m; sound = sound-anchored }

@@ -13,28 +13,20 @@ use mir.Val.{Fits, SFits}
 use mir.Facts.{fits-natAbs}
 use borrow.Author.Tests.{ltb-true}
 use Rattle.laws.proofs.Tests.{clash, true-false, first-false, second-false, and-both}
-use Rattle.rules.specs.declared.Outcome.the-variants.{Is, Unknown}
+use Rattle.rules.specs.declared.Outcome.the-variants.{Is}
 use Rattle.rules.specs.Values.{nat}
-use Rattle.rules.specs.Expressions.{Expr, evalTree}
 use Rattle.rules.specs.Forms.{formAt, isTransfer}
 use Rattle.rules.specs.Programs.{Stmt, gone, instr, label, variable, comment, org, bytes, words, argsOf, lastOf, Program, at}
 use Rattle.rules.specs.Layout.{originFrom, origin}
-use Rattle.rules.specs.Names.{Entry, lookup}
-use Rattle.rules.specs.Judging.{worth}
+use Rattle.rules.specs.Names.{Key, Entry, contextAt}
 use Rattle.rules.specs.Rewriting.{isChangeJump, isAnchored}
-use Rattle.expression.specs.Environment.{entriesOf}
 use Rattle.slots.specs.Slots.{Slots, written, targetOf, programOf, Sound}
 use Rattle.patterns.specs.Targets.{standsAt, formIn, TargetIn}
 use Rattle.patterns.proofs.Programs.{at-program}
 use Rattle.patterns.proofs.Instructions.{transfer-slot, carried-target, last-target, target-written}
-use Rattle.anchors.specs.Anchored.{bareValue, originAt, AsRead}
+use Rattle.anchors.specs.Anchored.{constantValue, originAt, AsRead}
 
 -- ---- values
-
--- with no names none is found
-pub no-names : (names contexts : List ℕ) (values : List ℤ) (k : ℕ) (e : Expr) → worth (entriesOf names contexts values 0) k e ≡ evalTree (λ n. Unknown) e
-unfolding entriesOf lookup
-no-names names contexts values k e = refl
 
 pub not-negative : (z : ℤ) → ltZ z (pos 0) ≡ false → z ≡ pos (nat z)
 not-negative (pos a) e = refl
@@ -72,22 +64,22 @@ anchored-form names p i (org l) = refl
 anchored-form names p i (bytes es) = refl
 anchored-form names p i (words es) = refl
 
-module _ (names : List Entry) (p : Program) (i : ℕ) where
+module _ (names : List Entry) (moving : List Key) (p : Program) (i : ℕ) where
   abbrev test : Bool
   test = isTransfer (formIn (at p i)) && not (isChangeJump names p i)
 
-  origin-by : (b : Bool) → test ≡ b → originAt names p i ≡ cond b (origin p (bareValue (lastOf (argsOf (at p i))))) none
+  origin-by : (b : Bool) → test ≡ b → originAt names moving p i ≡ cond b (origin p (constantValue names moving (contextAt p i) (lastOf (argsOf (at p i))))) none
   unfolding originAt
-  origin-by b e = ap (λ (c : Bool). cond c (origin p (bareValue (lastOf (argsOf (at p i))))) none) (anchored-form names p i (at p i) ∙ e)
+  origin-by b e = ap (λ (c : Bool). cond c (origin p (constantValue names moving (contextAt p i) (lastOf (argsOf (at p i))))) none) (anchored-form names p i (at p i) ∙ e)
 
   -- no transfer, or a change jump: nothing to anchor
-  pub origin-other : isTransfer (formIn (at p i)) ≡ false → originAt names p i ≡ none
+  pub origin-other : isTransfer (formIn (at p i)) ≡ false → originAt names moving p i ≡ none
   origin-other n = origin-by false (first-false (isTransfer (formIn (at p i))) (not (isChangeJump names p i)) n)
 
-  pub origin-change : isChangeJump names p i ≡ true → originAt names p i ≡ none
+  pub origin-change : isChangeJump names p i ≡ true → originAt names moving p i ≡ none
   origin-change c = origin-by false (second-false (isTransfer (formIn (at p i))) (not (isChangeJump names p i)) (ap not c))
 
-  origin-moves : isTransfer (formIn (at p i)) ≡ true → isChangeJump names p i ≡ false → originAt names p i ≡ origin p (bareValue (lastOf (argsOf (at p i))))
+  origin-moves : isTransfer (formIn (at p i)) ≡ true → isChangeJump names p i ≡ false → originAt names moving p i ≡ origin p (constantValue names moving (contextAt p i) (lastOf (argsOf (at p i))))
   origin-moves n c = origin-by true (and-both (isTransfer (formIn (at p i))) (not (isChangeJump names p i)) n (ap not c))
 
 module _ (t : Slots) (s : Sound t) (r : AsRead t) (i : ℕ) (l : i < t .count) (n : isTransfer (formIn (standsAt t i)) ≡ true) where
@@ -101,5 +93,7 @@ module _ (t : Slots) (s : Sound t) (r : AsRead t) (i : ℕ) (l : i < t .count) (
       ap (λ x. lastOf (argsOf x)) (at-program t i l) ∙ last-target t s i l (k .0) (k .1) ∙ ap (targetOf t) (r .own i l)
       ∙ target-written t i (omega (arith, r .free i l))
 
-  pub origin-target : (names : List Entry) → isChangeJump names (programOf t) i ≡ false → originAt names (programOf t) i ≡ origin (programOf t) (bareValue (lastOf (argsOf (written t i))))
-  origin-target names c = origin-moves names (programOf t) i n c ∙ ap (λ x. origin (programOf t) (bareValue x)) target-is
+  pub origin-target : (names : List Entry) (moving : List Key) → isChangeJump names (programOf t) i ≡ false
+      → originAt names moving (programOf t) i ≡ origin (programOf t) (constantValue names moving (contextAt (programOf t) i) (lastOf (argsOf (written t i))))
+  origin-target names moving c =
+      origin-moves names moving (programOf t) i n c ∙ ap (λ x. origin (programOf t) (constantValue names moving (contextAt (programOf t) i) x)) target-is

@@ -7,25 +7,26 @@ use Prim.Native.Nat.{ℕ, _<_}
 use lib.ListN.{getD}
 use Rattle.rules.specs.declared.Outcome.{Outcome}
 use Rattle.rules.specs.declared.Outcome.the-variants.{Unknown}
-use Rattle.rules.specs.Expressions.{evalTree, holdsName}
 use Rattle.rules.specs.Programs.{Placeℕ, Operand, register, value, inner, argsOf, lastOf, Program, at}
 use Rattle.rules.specs.Layout.{Origin as Source, origin}
-use Rattle.rules.specs.Names.{Entry}
-use Rattle.rules.specs.Rewriting.{isAnchored, anchor}
+use Rattle.rules.specs.Names.{Key, Entry, contextAt}
+use Rattle.rules.specs.Judging.{worth}
+use Rattle.rules.specs.Rewriting.{holdsLabel, isAnchored, anchor}
 use Rattle.slots.specs.Slots.{Slots, noOwner, programOf, Sound}
 use Rattle.asm.specs.declared.Origin.{Origin}
 use Rattle.asm.specs.declared.Origin.the-variants.{At, Nothing}
 use Rattle.asm.specs.Belonging.{originAs, OriginIn}
 
--- "a target with no name": its value; there is none to ask of a target that holds a name
-abbrev pub bareValue : Operand → Outcome
-bareValue (register r) = Unknown
-bareValue (value e) = cond (holdsName e) Unknown (evalTree (λ n. Unknown) e)
-bareValue (inner i o) = Unknown
+-- "a target that holds no label, directly or through variables": its value in context k; there is none to ask of a target that holds one
+abbrev pub constantValue : (names : List Entry) (moving : List Key) (k : ℕ) → Operand → Outcome
+constantValue names moving k (register r) = Unknown
+constantValue names moving k (value e) = cond (holdsLabel moving k e) Unknown (worth names k e)
+constantValue names moving k (inner i o) = Unknown
 
 -- the origin that the target at place i becomes an inner label of
-unfoldable pub originAt : (names : List Entry) → Program → (i : Placeℕ) → Option Source
-originAt names p i = cond (isAnchored names p i (at p i)) (origin p (bareValue (lastOf (argsOf (at p i))))) none
+unfoldable pub originAt : (names : List Entry) (moving : List Key) → Program → (i : Placeℕ) → Option Source
+originAt names moving p i =
+    cond (isAnchored names p i (at p i)) (origin p (constantValue names moving (contextAt p i) (lastOf (argsOf (at p i))))) none
 
 -- what the code answers where the origin is o, or there is none: the same, and one of the bytes of a slot
 pub record Found (t : Slots) (o : Option Source) (r : Origin) : Type 0 where

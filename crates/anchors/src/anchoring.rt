@@ -1,9 +1,11 @@
-// Rule 2: "a target with no name whose value has an origin becomes an inner label". It is done once, on the listing as read.
+// Rule 2: "a target with no name whose value has an origin becomes an inner label", and by C-15 any that "holds no label, directly or
+// through variables". It is done once, on the listing as read.
 use crate::Label;
 use crate::changing::is_change_jump;
 use asm::Origin;
 use asm::origin_of;
-use expression::holds_name;
+use env::fill_moving;
+use expression::holds_label;
 use expression::worth_of;
 use instruction::tables::is_transfer;
 use patterns::targets::form_at;
@@ -14,10 +16,12 @@ use rules::Place;
 ghost use mathlib.Core.Path.{_≡_};
 ghost use Prim.Native.Nat.{_<_};
 ghost use lib.IntN.{pos};
-ghost use lib.ListN.{length};
+ghost use lib.ListN.{length, getD};
 ghost use Rattle.rules.specs.Programs.{argsOf, lastOf};
 ghost use Rattle.rules.specs.Layout.{origin};
 ghost use Rattle.rules.specs.Judging.{namesOf};
+ghost use Rattle.rules.specs.Rewriting.{movingOf};
+ghost use Rattle.expression.specs.Environment.{entriesOf, keysOf};
 ghost use Rattle.rules.specs.Values.{nat};
 ghost use Rattle.listing.specs.Tables.{inputAt, Held};
 ghost use Rattle.env.specs.Tables.{Any};
@@ -25,9 +29,10 @@ ghost use Rattle.slots.specs.Slots.{slots, programOf};
 ghost use Rattle.image.specs.Tables.{tables, program, Ready};
 ghost use Rattle.asm.specs.Belonging.{Positioned};
 ghost use Rattle.patterns.specs.Targets.{TargetIn};
-ghost use Rattle.anchors.specs.Anchored.{bareValue, originAt, ownerIn, offsetIn, Small, Found, AsRead, Anchored};
+ghost use Rattle.anchors.specs.Anchored.{constantValue, originAt, ownerIn, offsetIn, Small, Found, AsRead, Anchored};
 
-// What the target that was written at a place is worth. "Any target holding a name stays as written": none is looked up.
+// What the target that was written at a place is worth. "Any target holding a name stays as written": since C-15 one that holds a label, and
+// its worth is not asked.
 fn target_value(
     frames: &[u8],
     starts: &[u16; 1025],
@@ -35,16 +40,23 @@ fn target_value(
     names: &[u32; 1024],
     contexts: &[u16; 1024],
     values: &[i32; 1024],
+    moving: &[u32; 1024],
     at: Place,
 ) -> Outcome
     requires { ⌜ Held (now frames) (now starts) count × TargetIn (now frames) (now starts) count (at .0) ⌝ }
-    ensures { λ r. ⌜ r ≡ bareValue (lastOf (argsOf (inputAt (now (frames .entry)) (now (starts .entry)) (at .0)))) ⌝ }
+    ensures { λ r. ⌜ r ≡ constantValue
+        (entriesOf (now (names .entry)) (now (contexts .entry)) (now (values .entry)) count)
+        (keysOf (now (moving .entry)) (now (contexts .entry)) count)
+        (getD (now (contexts .entry)) (at .0) 0)
+        (lastOf (argsOf (inputAt (now (frames .entry)) (now (starts .entry)) (at .0)))) ⌝ }
 {
+    let i = at.0;
+    let context = contexts[i];
     let target = target_in(frames, starts, count, at);
-    if holds_name(target) {
+    if holds_label(target, moving, contexts, count, context) {
         return Outcome::Unknown;
     }
-    worth_of(target, names, contexts, values, 0, 0)
+    worth_of(target, names, contexts, values, count, context)
 }
 
 // A number that is not negative, as an address.
@@ -93,10 +105,15 @@ fn origin_at(
     contexts: &[u16; 1024],
     values: &[i32; 1024],
     positions: &[u32; 1025],
+    moving: &[u32; 1024],
     at: Place,
 ) -> Origin
-    requires { ⌜ Ready (tables (now frames) (now starts) count (now forms) (now carry) (now bare) (now none) (now names) (now contexts) (now values) (now positions)) × AsRead (slots (now frames) (now starts) count (now forms) (now carry) (now bare) (now none)) × (at .0 < count) ⌝ }
-    ensures { λ r. ⌜ (let d = tables (now (frames .entry)) (now (starts .entry)) count (now (forms .entry)) (now (carry .entry)) (now (bare .entry)) (now (none .entry)) (now (names .entry)) (now (contexts .entry)) (now (values .entry)) (now (positions .entry)) in Found (d .slots) (originAt (d .entries) (program d) (at .0)) r) ⌝ }
+    requires { ⌜ Ready (tables (now frames) (now starts) count (now forms) (now carry) (now bare) (now none)
+        (now names) (now contexts) (now values) (now positions))
+        × AsRead (slots (now frames) (now starts) count (now forms) (now carry) (now bare) (now none)) × (at .0 < count) ⌝ }
+    ensures { λ r. ⌜ (let d = tables (now (frames .entry)) (now (starts .entry)) count (now (forms .entry)) (now (carry .entry))
+        (now (bare .entry)) (now (none .entry)) (now (names .entry)) (now (contexts .entry)) (now (values .entry)) (now (positions .entry)) in
+        Found (d .slots) (originAt (d .entries) (keysOf (now (moving .entry)) (now (contexts .entry)) count) (program d) (at .0)) r) ⌝ }
 {
     if !is_transfer(form_at(frames, starts, count, forms, at)) {
         return Origin::Nothing;
@@ -117,7 +134,7 @@ fn origin_at(
     ) {
         return Origin::Nothing;
     }
-    let x = target_value(frames, starts, count, names, contexts, values, at);
+    let x = target_value(frames, starts, count, names, contexts, values, moving, at);
     value_origin(frames, starts, count, forms, positions, x)
 }
 
@@ -138,9 +155,8 @@ fn label_of(o: Origin) -> Label
     }
 }
 
-// Writes the inner labels that the targets become: owners and offsets, at the place that wrote each target. `bare` and `none` are the owners and
-// offsets of the listing as read, which has no inner label.
-pub fn anchor(
+// Writes the inner labels that the targets become, at the place that wrote each target. `moving` are the names that move.
+fn anchor_targets(
     frames: &[u8],
     starts: &[u16; 1025],
     count: usize,
@@ -152,12 +168,18 @@ pub fn anchor(
     contexts: &[u16; 1024],
     values: &[i32; 1024],
     positions: &[u32; 1025],
+    moving: &[u32; 1024],
     owners: &mut [u16; 1024],
     offsets: &mut [u16; 1024],
 )
-    requires { ⌜ (let d = tables (now frames) (now starts) count (now forms) (now carry) (now bare) (now none) (now names) (now contexts) (now values) (now positions) in Ready d × AsRead (d .slots) × (d .entries ≡ namesOf (program d))) ⌝ }
-    requires { ⌜ (length (now owners) ≡ 1024) × (length (now offsets) ≡ 1024) ⌝ }
-    ensures { λ _. ⌜ Anchored (slots (now (frames .entry)) (now (starts .entry)) count (now (forms .entry)) (now (carry .entry)) (now (bare .entry)) (now (none .entry))) (slots (now (frames .entry)) (now (starts .entry)) count (now (forms .entry)) (now (carry .entry)) (now (owners .exit)) (now (offsets .exit))) ⌝ }
+    requires { ⌜ (let d = tables (now frames) (now starts) count (now forms) (now carry) (now bare) (now none)
+        (now names) (now contexts) (now values) (now positions) in
+        Ready d × AsRead (d .slots) × (d .entries ≡ namesOf (program d))) ⌝ }
+    requires { ⌜ (length (now owners) ≡ 1024) × (length (now offsets) ≡ 1024)
+        × (keysOf (now moving) (now contexts) count
+        ≡ movingOf (programOf (slots (now frames) (now starts) count (now forms) (now carry) (now bare) (now none)))) ⌝ }
+    ensures { λ _. ⌜ (let over = slots (now (frames .entry)) (now (starts .entry)) count (now (forms .entry)) (now (carry .entry)) in
+        Anchored (over (now (bare .entry)) (now (none .entry))) (over (now (owners .exit)) (now (offsets .exit)))) ⌝ }
     ensures { λ _. ⌜ (length (now (owners .exit)) ≡ 1024) × (length (now (offsets .exit)) ≡ 1024) ⌝ }
 {
     let mut i = 0;
@@ -174,10 +196,56 @@ pub fn anchor(
             contexts,
             values,
             positions,
+            moving,
             Place(i),
         ));
         owners[i] = label.owner;
         offsets[i] = label.offset;
         i += 1;
     }
+}
+
+// Writes the inner labels that the targets become: owners and offsets, at the place that wrote each target. `bare` and `none` are the
+// owners and offsets of the listing as read, which has no inner label.
+pub fn anchor(
+    frames: &[u8],
+    starts: &[u16; 1025],
+    count: usize,
+    forms: &[u8; 1024],
+    carry: &[u16; 1024],
+    bare: &[u16; 1024],
+    none: &[u16; 1024],
+    names: &[u32; 1024],
+    contexts: &[u16; 1024],
+    values: &[i32; 1024],
+    positions: &[u32; 1025],
+    owners: &mut [u16; 1024],
+    offsets: &mut [u16; 1024],
+)
+    requires { ⌜ (let d = tables (now frames) (now starts) count (now forms) (now carry) (now bare) (now none)
+        (now names) (now contexts) (now values) (now positions) in
+        Ready d × AsRead (d .slots) × (d .entries ≡ namesOf (program d))) ⌝ }
+    requires { ⌜ (length (now owners) ≡ 1024) × (length (now offsets) ≡ 1024) ⌝ }
+    ensures { λ _. ⌜ (let over = slots (now (frames .entry)) (now (starts .entry)) count (now (forms .entry)) (now (carry .entry)) in
+        Anchored (over (now (bare .entry)) (now (none .entry))) (over (now (owners .exit)) (now (offsets .exit)))) ⌝ }
+    ensures { λ _. ⌜ (length (now (owners .exit)) ≡ 1024) × (length (now (offsets .exit)) ≡ 1024) ⌝ }
+{
+    let mut moving = [65536u32; 1024];
+    fill_moving(frames, starts, count, forms, contexts, &mut moving);
+    anchor_targets(
+        frames,
+        starts,
+        count,
+        forms,
+        carry,
+        bare,
+        none,
+        names,
+        contexts,
+        values,
+        positions,
+        &moving,
+        owners,
+        offsets,
+    );
 }

@@ -19,7 +19,7 @@ ghost use Rattle.io.specs.Counts.{Counts};
 
 // The answer to a listing, and a line `==`.
 pub fn put_answer(asked: Settings, text: &[u8], on_all_sides: bool) {
-    let mut page = [0u8; 50189];
+    let mut page = [0u8; 62482];
     let mut image = [0u8; 65536];
     let answer = print_run(asked, text, &mut page, &mut image);
     put_page(&page, page_length(answer));
@@ -36,7 +36,7 @@ pub fn put_answer(asked: Settings, text: &[u8], on_all_sides: bool) {
 }
 
 // The same with rooms that are too short, and under the other settings.
-fn put_sides(asked: Settings, text: &[u8], sizes: Sizes, page: &[u8; 50189]) {
+fn put_sides(asked: Settings, text: &[u8], sizes: Sizes, page: &[u8; 62482]) {
     put_rooms(asked, text, sizes);
     let page: &[u8] = page;
     let n = part(page_length(Answer::Done(sizes)), page);
@@ -44,7 +44,7 @@ fn put_sides(asked: Settings, text: &[u8], sizes: Sizes, page: &[u8; 50189]) {
 }
 
 // The front of the page: all that the program prints for a listing.
-pub fn put_page(page: &[u8; 50189], n: usize) {
+pub fn put_page(page: &[u8; 62482], n: usize) {
     let page: &[u8] = page;
     let n = part(n, page);
     write_all(STDOUT_FILENO, &page[..n]);

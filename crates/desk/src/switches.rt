@@ -28,13 +28,13 @@ pub fn put_others(text: &[u8], given: &[u8]) {
 
 // A line ASKED with the setting's number, and what the program prints.
 fn put_other(k: u8, text: &[u8], given: &[u8]) {
-    let mut page = [0u8; 50189];
+    let mut page = [0u8; 62482];
     let mut image = [0u8; 65536];
     let answer = print_run(numbered(k), text, &mut page, &mut image);
     put_asked(k, given, &page, page_length(answer));
 }
 
-fn put_asked(k: u8, given: &[u8], page: &[u8; 50189], n: usize) {
+fn put_asked(k: u8, given: &[u8], page: &[u8; 62482], n: usize) {
     let page: &[u8] = page;
     let n = part(n, page);
     if !same(given, &page[..n]) {

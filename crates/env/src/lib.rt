@@ -2,11 +2,13 @@
 // the statements ends at its first refusal.
 mod contexts; // the context of each place
 mod layout; // positions: 5 and 6
+mod moving; // which names move with the code
 mod names; // the name that each place defines: 3
 mod variables; // what names stand for: 4 and 7
 
 pub use contexts::fill_contexts;
 pub use layout::lay_out;
+pub use moving::fill_moving;
 pub use names::fill_names;
 pub use names::no_name_twice;
 use rules::Address;
@@ -22,6 +24,9 @@ const ORG: u8 = 5;
 
 // Names from here on are local.
 const LOCAL: u16 = 0x8000;
+
+// What stands in a table of names where a place has none.
+const NO_NAME: u32 = 65536;
 
 // What a pass over the statements comes to.
 pub enum Checked {

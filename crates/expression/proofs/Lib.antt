@@ -4,5 +4,6 @@ pub mod Trees
 pub mod RoundTrip
 pub mod Ways
 pub mod Entries
+pub mod Keys
 pub mod Alongs
 pub mod Bares

@@ -1,14 +1,16 @@
 // Expressions, as src/expression.rs has them: operators on values, reading, worth, and the names that they hold. The boxed
 // trees stay as bytes of the frame; each function here takes the slice that begins with the expression.
 mod fields; // the numbers and names that leaves hold
+mod labels; // the names that move with the code
 mod naming; // the names in an expression
 mod reading; // where an expression ends
 mod values; // the operators
 mod worth; // what an expression is worth
 
+pub use labels::holds_label;
+pub use labels::is_seen;
 pub use naming::bare_name;
 pub use naming::count_name;
-pub use naming::holds_name;
 pub use naming::is_bare;
 pub use reading::read_expr;
 pub use reading::tag_of;

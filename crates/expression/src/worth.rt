@@ -18,7 +18,7 @@ ghost use Rattle.expression.specs.Evaluating.{noValue, numberAt, nameAt}
 ghost use Rattle.expression.specs.Along.{Along};
 
 // A statement of context k that defines n defines what `name` means in `context`: a local name within its context only.
-fn defines(n: u32, k: u16, name: u16, context: u16) -> bool
+pub fn defines(n: u32, k: u16, name: u16, context: u16) -> bool
     ensures { λ r. ⌜ r ≡ isHere n k name context ⌝ }
 {
     if n != name as u32 {

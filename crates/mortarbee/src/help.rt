@@ -122,7 +122,7 @@ fn explain_number(k: u8) {
             b"11: the target of Jmp or Call is in another page of 4,096 bytes than the address after the instruction.\nLook at: the far form, Jmpf or Callf; it is shortened where that is possible.\nExample: 050FFE, then 012A0000000345 gives 7E0B00010000000345: statement 0001, argument 00 counted from 0, the address 00000345\n",
         ),
         _ => say(
-            b"12: a lent room is too short for the result.\nLook at: the rooms that the caller of the library lends; 50,176 bytes for the listing and 65,536 for the image always hold it.\nExample: none, the program lends as much and never gives 12\n",
+            b"12: a lent room is too short for the result.\nLook at: the rooms that the caller of the library lends; 62,469 bytes for the listing and 65,536 for the image always hold it.\nExample: none, the program lends as much and never gives 12\n",
         ),
     }
 }

@@ -12,7 +12,7 @@ use rules::Settings;
 pub fn optimize(asked: Settings) {
     let mut text = io::large_buffer();
     let n = read_full(STDIN_FILENO, &mut text);
-    let mut page = [0u8; 50189];
+    let mut page = [0u8; 62482];
     let mut image = [0u8; 65536];
     let answer = print_run(asked, &text[..n], &mut page, &mut image);
     put_page(&page, page_length(answer));

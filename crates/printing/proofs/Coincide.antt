@@ -11,5 +11,5 @@ pub one-printed : (asked : Settings) (text page image : List ℕ) (r s : Answer)
 one-printed asked text page image r s x y u v a b = (a .answers ∙ sym (b .answers), a .page-is ∙ sym (b .page-is), a .image-is ∙ sym (b .image-is))
 
 -- `page_length`
-pub one-length : (answer : Answer) (m n : ℕ) → (m ≡ pageLength answer) × (m ≤ 50189) → (n ≡ pageLength answer) × (n ≤ 50189) → m ≡ n
+pub one-length : (answer : Answer) (m n : ℕ) → (m ≡ pageLength answer) × (m ≤ 62482) → (n ≡ pageLength answer) × (n ≤ 62482) → m ≡ n
 one-length answer m n a b = a .0 ∙ sym (b .0)

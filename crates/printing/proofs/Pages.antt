@@ -93,7 +93,7 @@ module _ (asked : Settings) (text : List ℕ) where
   whole = run asked text listingRoomOfProgram imageRoomOfProgram
 
   -- ---- what it answers has room in the last line, and the last line on the page
-  answer-fits : (room : ℕ) (x : Judged Output) → whole ≡ x → 50189 ≤ room → Printable (answerOf x) room
+  answer-fits : (room : ℕ) (x : Judged Output) → whole ≡ x → 62482 ≤ room → Printable (answerOf x) room
   answer-fits room (ok o) e h =
       let a = accepted-iff asked text listingRoomOfProgram imageRoomOfProgram o .0 e in
       let few : o .count ≤ 3072 = rw (a .result) (few-rewrites asked text (a .program) (a .keeps-rules)) in
@@ -121,7 +121,7 @@ module _ (asked : Settings) (text : List ℕ) where
     answered : r ≡ answerOf whole
     answered = lent .answers ∙ ap (λ (m : ℕ). answerOf (run asked text listingRoomOfProgram m)) room
 
-    pub lent-printable : (n : ℕ) → 50189 ≤ n → Printable r n
+    pub lent-printable : (n : ℕ) → 62482 ≤ n → Printable r n
     lent-printable n h = rw answered (answer-fits n whole refl h)
 
     pub lent-printed : (page₂ : List ℕ) → page₂ ≡ lastAfter r page₁ → PrintedRun asked text page image r page₂ image₁

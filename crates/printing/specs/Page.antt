@@ -14,7 +14,7 @@ use Rattle.rules.specs.Refusals.{faultOf}
 use Rattle.rules.specs.Output.{doneLine, refusedLine}
 use Rattle.rules.specs.Run.{run, answerOf, front, listingAfter, imageAfter, listingRoomOfProgram, imageRoomOfProgram, program}
 
--- a run that is lent the page's first 50,176 bytes for its listing
+-- a run that is lent the page's first 62,469 bytes for its listing
 pub record Lent (asked : Settings) (text page image : List ℕ) (r : Answer) (page′ image′ : List ℕ) : Type 0 where
   pub answers : r ≡ answerOf (run asked text listingRoomOfProgram (length image))
   pub page-is : page′ ≡ listingAfter (run asked text listingRoomOfProgram (length image)) page

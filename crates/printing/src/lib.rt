@@ -12,10 +12,10 @@ ghost use Rattle.printing.specs.Page.{Lent, Printable, lastAfter, Printe
 
 // The run has the page's front for its listing: what lies behind is kept for the last line.
 fn run_into(asked: Settings, listing: &[u8], page: &mut [u8], image: &mut [u8]) -> Answer
-    requires { ⌜ 50176 ≤ length (now page) ⌝ }
+    requires { ⌜ 62469 ≤ length (now page) ⌝ }
     ensures { λ r. ⌜ Lent asked (now (listing .entry)) (now (page .entry)) (now (image .entry)) r (now (page .exit)) (now (image .exit)) ⌝ }
 {
-    optimize_jumps(asked, listing, &mut page[..50176], image)
+    optimize_jumps(asked, listing, &mut page[..62469], image)
 }
 
 // The last line behind the listing, or the 7E line in front.
@@ -39,7 +39,7 @@ fn end_page(answer: Answer, page: &mut [u8])
 pub fn print_run(
     asked: Settings,
     listing: &[u8],
-    page: &mut [u8; 50189],
+    page: &mut [u8; 62482],
     image: &mut [u8; 65536],
 ) -> Answer
     ensures { λ r. ⌜ PrintedRun asked (now (listing .entry)) (now (page .entry)) (now (image .entry)) r (now (page .exit)) (now (image .exit)) ⌝ }
@@ -51,12 +51,12 @@ pub fn print_run(
 
 // How many bytes of the page an answer fills.
 pub fn page_length(answer: Answer) -> usize
-    ensures { λ r. ⌜ (r ≡ pageLength answer) × (r ≤ 50189) ⌝ }
+    ensures { λ r. ⌜ (r ≡ pageLength answer) × (r ≤ 62482) ⌝ }
 {
     match answer {
         Answer::Done(sizes) => {
             let n = sizes.listing;
-            if n <= 50176 { n + 13 } else { 50189 }
+            if n <= 62469 { n + 13 } else { 62482 }
         }
         Answer::Refused(_) => 19,
     }

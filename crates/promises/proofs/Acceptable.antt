@@ -1,6 +1,6 @@
 -- "every rewrite leaves one that assembles": each step leaves an acceptable program, and the chain starts from one, because anchoring changes no
 -- position, no value and no byte, and an inner label's offset is below its owner's size.
-use mathlib.Core.Path.{_≡_, refl, sym, _∙_, ap, ap₂}
+use mathlib.Core.Path.{_≡_, refl, sym, _∙_, ap}
 use mathlib.Core.List.{List, [], _∷_}
 use mathlib.Core.Option.{Option, none, some}
 use mathlib.Core.Bool.{Bool, true, false, cond}
@@ -8,23 +8,24 @@ use Prim.Native.Nat.{ℕ, _+_}
 use native.Mathlib.Omega.{arith}
 use lib.Dec.{ltb}
 use lib.IntN.{pos}
-use borrow.Author.Tests.{leb-false, lt-ltb}
+use borrow.Author.Tests.{lt-ltb}
 use Rattle.laws.specs.Lists.{total, every}
 use Rattle.laws.proofs.Tests.{and-true, and-both, false-true}
 use Rattle.laws.proofs.Lists.{every-all, every-weaken}
 use Rattle.rules.specs.declared.Settings.{Settings}
 use Rattle.rules.specs.declared.Outcome.{Outcome}
-use Rattle.rules.specs.declared.Outcome.the-variants.{Is, Unknown}
+use Rattle.rules.specs.declared.Outcome.the-variants.{Is}
 use Rattle.rules.specs.Answers.{ok}
-use Rattle.rules.specs.Expressions.{Expr, num, name, two, one, evalTree, mentions, holdsName, with1, with2}
+use Rattle.rules.specs.Expressions.{Expr}
 use Rattle.rules.specs.Programs.{Placeℕ, Operand, register, value, inner, Stmt, gone, Program, at, byteCount, argsOf, onLast, retarget}
 use Rattle.rules.specs.Layout.{position, Origin, origin}
-use Rattle.rules.specs.Judging.{worth, worthOf, judge, assembles}
-use Rattle.rules.specs.Rewriting.{innerAt, anchorTarget, anchor, ofInner, everyInnerLabel, acceptable, step, optimized, instrBytes}
+use Rattle.rules.specs.Judging.{worth, worthOf, judge, assembles, namesOf}
+use Rattle.rules.specs.Rewriting.{innerAt, anchor, ofInner, everyInnerLabel, acceptable, step, optimized, instrBytes, movingOf, holdsLabel}
 use Rattle.rules.proofs.Laws.{by-instr, other}
+use Rattle.rules.specs.Names.{contextAt}
 use Rattle.promises.proofs.Steps.{step-good, step-some}
 use Rattle.promises.proofs.Chains.{chain-keeps}
-use Rattle.promises.proofs.Anchors.{length-anchor, at-anchor, anchored-keeps}
+use Rattle.promises.proofs.Anchors.{length-anchor, at-anchor, anchored-keeps, anchorIn}
 use Rattle.promises.proofs.Frames.{isPlain}
 use Rattle.promises.proofs.Listings.{WellMade, made-instr}
 use Rattle.promises.proofs.Passes.{image-assembles}
@@ -37,102 +38,91 @@ pub acceptable-parts : (p : Program) → acceptable p ≡ true → (everyInnerLa
 unfolding acceptable
 acceptable-parts p e = and-true (everyInnerLabel (λ owner o. ltb o (byteCount (at p owner))) p) (assembles p) e
 
--- ---- a tree with no name is worth the same everywhere
-nameless : (e : Expr) (env env′ : ℕ → Outcome) → mentions (λ n. true) e ≡ 0 → evalTree env e ≡ evalTree env′ e
-unfolding evalTree mentions
-nameless (num z) env env′ h = refl
-nameless (name n) env env′ h = absurd (omega arith)
-nameless (two o e d) env env′ h = ap₂ (with2 o) (nameless e env env′ (omega arith)) (nameless d env env′ (omega arith))
-nameless (one o e) env env′ h = ap (with1 o) (nameless e env env′ h)
-
--- so of what rule 2 anchors
-pub no-name : (e : Expr) (env env′ : ℕ → Outcome) → holdsName e ≡ false → evalTree env e ≡ evalTree env′ e
-unfolding holdsName
-no-name e env env′ h = nameless e env env′ (omega (arith, leb-false 1 (mentions (λ n. true) e) h))
-
 -- ---- anchoring moves nothing and keeps what each operand is worth
 module _ (p : Program) where
   -- each statement takes the room that it took
   pub anchor-room : AllSameRoom p (anchor p)
   anchor-room =
-      (length-anchor p, λ i. rw (at-anchor p i) (anchored-keeps (SameRoom (at p i)) p i (room-retarget (anchorTarget p) (at p i)) (room-same (at p i))))
+      (length-anchor p, λ i. rw (at-anchor p i) (anchored-keeps (SameRoom (at p i)) p i (room-retarget (anchorIn p i) (at p i)) (room-same (at p i))))
 
   anchor-kept : Kept p (anchor p)
   anchor-kept = positions-kept p (anchor p) (position-same p (anchor p) anchor-room)
 
-  anchor-changed : KeptBy (anchorTarget p) p (anchor p)
-  anchor-changed names k (register r) = refl
-  anchor-changed names k (value e) = on (holdsName e) refl
-    where
-      free : Outcome
-      free = evalTree (λ n. Unknown) e
+  -- a target among the names of p, in the context where it stands
+  module _ (i : Placeℕ) where
+    here : Expr → Outcome
+    here e = worth (namesOf p) (contextAt p i) e
 
-      aimed-at : holdsName e ≡ false → (o : Option Origin) → origin p free ≡ o → worthOf names (anchor p) k (innerAt e o) ≡ worth names k e
-      aimed-at h none d = refl
-      aimed-at h (some g) d =
-          let w = origin-of p free g d in
-          let there : position (anchor p) (g .place) + g .offset ≡ w .0 = omega (arith, position-same p (anchor p) anchor-room (g .place), w .2 .address-is) in
-          ap (λ (a : ℕ). Is (pos a)) there ∙ sym (w .1) ∙ no-name e _ _ h
+    anchor-changed : KeptBy (namesOf p) (contextAt p i) (anchorIn p i) p (anchor p)
+    unfolding here
+    anchor-changed (register r) = refl
+    anchor-changed (value e) = on (holdsLabel (movingOf p) (contextAt p i) e)
+      where
+        aimed-at : (o : Option Origin) → origin p (here e) ≡ o → worthOf (namesOf p) (anchor p) (contextAt p i) (innerAt e o) ≡ here e
+        aimed-at none d = refl
+        aimed-at (some g) d =
+            let w = origin-of p (here e) g d in
+            let there : position (anchor p) (g .place) + g .offset ≡ w .0 = omega (arith, position-same p (anchor p) anchor-room (g .place), w .2 .address-is) in
+            ap (λ (a : ℕ). Is (pos a)) there ∙ sym (w .1)
 
-      on : (b : Bool) → holdsName e ≡ b → worthOf names (anchor p) k (cond b (value e) (innerAt e (origin p free))) ≡ worth names k e
-      on true h = refl
-      on false h = aimed-at h (origin p free) refl
-  anchor-changed names k (inner i o) = anchor-kept names k (inner i o)
+        on : (b : Bool) → worthOf (namesOf p) (anchor p) (contextAt p i) (cond b (value e) (innerAt e (origin p (here e)))) ≡ here e
+        on true = refl
+        on false = aimed-at (origin p (here e)) refl
+    anchor-changed (inner j o) = anchor-kept (namesOf p) (contextAt p i) (inner j o)
 
   -- the image, or the refusal, is the same
   pub judge-anchor : judge (anchor p) ≡ judge p
+  unfolding contextAt
   judge-anchor =
       judge-alike p (anchor p) (
         length-anchor p,
         λ i h. rw (at-anchor p i)
-            (anchored-keeps (Alike p (anchor p) (at p i)) p i (retarget-alike p (anchor p) anchor-kept (anchorTarget p) anchor-changed (at p i)) (same-alike p (anchor p) anchor-kept (at p i))),
+            (anchored-keeps (Alike (namesOf p) p (anchor p) (contextAt p i) (at p i)) p i
+            (retarget-alike p (anchor p) anchor-kept (namesOf p) (contextAt p i) (anchorIn p i) (anchor-changed i) (at p i)) (same-alike p (anchor p) anchor-kept (namesOf p) (contextAt p i) (at p i))),
       )
 
   -- an inner label's offset is below its owner's size
   below-owner : Placeℕ → ℕ → Bool
   below-owner i o = ltb o (byteCount (at (anchor p) i))
 
-  label-below : (x : Operand) → isPlain x ≡ true → ofInner below-owner (anchorTarget p x) ≡ true
-  unfolding below-owner
-  label-below (register r) h = refl
-  label-below (value e) h = on (holdsName e)
+  label-below : (i : Placeℕ) (x : Operand) → isPlain x ≡ true → ofInner below-owner (anchorIn p i x) ≡ true
+  unfolding below-owner here
+  label-below i (register r) h = refl
+  label-below i (value e) h = on (holdsLabel (movingOf p) (contextAt p i) e)
     where
-      free : Outcome
-      free = evalTree (λ n. Unknown) e
-
-      aimed-at : (o : Option Origin) → origin p free ≡ o → ofInner below-owner (innerAt e o) ≡ true
+      aimed-at : (o : Option Origin) → origin p (here i e) ≡ o → ofInner below-owner (innerAt e o) ≡ true
       aimed-at none d = refl
       aimed-at (some g) d =
-          let w = origin-of p free g d in
+          let w = origin-of p (here i e) g d in
           lt-ltb (g .offset) (byteCount (at (anchor p) (g .place))) (omega (arith, anchor-room .1 (g .place) .as-big, w .2 .has-byte))
 
-      on : (b : Bool) → ofInner below-owner (cond b (value e) (innerAt e (origin p free))) ≡ true
+      on : (b : Bool) → ofInner below-owner (cond b (value e) (innerAt e (origin p (here i e)))) ≡ true
       on true = refl
-      on false = aimed-at (origin p free) refl
-  label-below (inner i o) h = false-true h
+      on false = aimed-at (origin p (here i e)) refl
+  label-below i (inner j o) h = false-true h
 
   plain-below : (x : Operand) → isPlain x ≡ true → ofInner below-owner x ≡ true
   plain-below (register r) h = refl
   plain-below (value e) h = refl
   plain-below (inner i o) h = false-true h
 
-  last-below : (xs : List Operand) → every isPlain xs ≡ true → every (ofInner below-owner) (onLast (anchorTarget p) xs) ≡ true
+  last-below : (i : Placeℕ) (xs : List Operand) → every isPlain xs ≡ true → every (ofInner below-owner) (onLast (anchorIn p i) xs) ≡ true
   unfolding every
-  last-below [] h = refl
-  last-below (x ∷ []) h = and-both (ofInner below-owner (anchorTarget p x)) true (label-below x (and-true (isPlain x) true h .0)) refl
-  last-below (x ∷ y ∷ xs) h =
+  last-below i [] h = refl
+  last-below i (x ∷ []) h = and-both (ofInner below-owner (anchorIn p i x)) true (label-below i x (and-true (isPlain x) true h .0)) refl
+  last-below i (x ∷ y ∷ xs) h =
       let t = and-true (isPlain x) (every isPlain (y ∷ xs)) h in
-      and-both (ofInner below-owner x) (every (ofInner below-owner) (onLast (anchorTarget p) (y ∷ xs))) (plain-below x (t .0)) (last-below (y ∷ xs) (t .1))
+      and-both (ofInner below-owner x) (every (ofInner below-owner) (onLast (anchorIn p i) (y ∷ xs))) (plain-below x (t .0)) (last-below i (y ∷ xs) (t .1))
 
   -- so of every statement
   Low : Stmt → Type 0
   Low s = every (ofInner below-owner) (argsOf s) ≡ true
 
-  low-all : WellMade p → (i : Placeℕ) (s : Stmt) → at p i ≡ s → Low (retarget (anchorTarget p) s) × Low s
+  low-all : WellMade p → (i : Placeℕ) (s : Stmt) → at p i ≡ s → Low (retarget (anchorIn p i) s) × Low s
   unfolding Low every
   low-all w i =
-      by-instr (λ s. at p i ≡ s → Low (retarget (anchorTarget p) s) × Low s)
-      (λ f xs c e. let m = made-instr p w i f xs c e in (last-below xs (m .1), every-weaken isPlain (ofInner below-owner) xs plain-below (m .1)))
+      by-instr (λ s. at p i ≡ s → Low (retarget (anchorIn p i) s) × Low s)
+      (λ f xs c e. let m = made-instr p w i f xs c e in (last-below i xs (m .1), every-weaken isPlain (ofInner below-owner) xs plain-below (m .1)))
       (λ s n e. let z : argsOf s ≡ [] = other [] _ s n in let low : Low s = rw z in (rw (other s _ s n) low, low))
 
   -- an accepted input, anchored, is acceptable

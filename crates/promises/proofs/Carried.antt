@@ -12,14 +12,14 @@ use Rattle.laws.proofs.Tests.{and-true}
 use Rattle.rules.specs.Expressions.{name}
 use Rattle.rules.specs.Forms.{isTransfer}
 use Rattle.rules.specs.Programs.{Placeℕ, Operand, register, value, inner, Stmt, gone, instr, label, variable, comment, org, bytes, words, Program, at, onInstr, lastOf, onLast, retarget}
-use Rattle.rules.specs.Rewriting.{anchor, anchorTarget, aimed}
+use Rattle.rules.specs.Rewriting.{anchor, aimed}
 use Rattle.promises.specs.Demand3.{aimsAt, carries}
 use Rattle.rules.proofs.Laws.{by-instr, by-change, other}
 use Rattle.promises.proofs.Looks.{lastOf-put}
 use Rattle.promises.proofs.Steps.{Step, invert, bounce, shrink}
 use Rattle.promises.proofs.Weights.{weigh-inverted, weigh-trampoline, weigh-shrunk}
 use Rattle.promises.proofs.Shorter.{unconditional-transfers}
-use Rattle.promises.proofs.Anchors.{at-anchor, anchored-keeps}
+use Rattle.promises.proofs.Anchors.{at-anchor, anchored-keeps, anchorIn}
 use Rattle.promises.proofs.Listings.{WellMade, made-instr}
 
 -- ---- carriers of one target
@@ -127,7 +127,7 @@ ofPlace-step c p q (shrink h) =
 
 -- in what was read, and so in what is anchored, only place c has one
 pub ofPlace-made : (p : Program) → WellMade p → (c j : Placeℕ) → j ≢ c → ofPlace c (at (anchor p) j) ≡ 0
-ofPlace-made p w c j n = ap (ofPlace c) (at-anchor p j) ∙ anchored-keeps (λ s. ofPlace c s ≡ 0) p j (ofPlace-retarget c (anchorTarget p) (at p j) ∙ there) there
+ofPlace-made p w c j n = ap (ofPlace c) (at-anchor p j) ∙ anchored-keeps (λ s. ofPlace c s ≡ 0) p j (ofPlace-retarget c (anchorIn p j) (at p j) ∙ there) there
   where
     on : (s : Stmt) → at p j ≡ s → ofPlace c s ≡ 0
     on =

@@ -103,7 +103,7 @@ read-in-reads text = on (lt-or-le (length text) inputRoomOfProgram)
     on (inr h) = cut-reads inputRoomOfProgram text (omega arith) h
 
 -- 1,024 statements and two characters for each of 24,576 bytes
-read-short : (text : List ℕ) (p : Program) → readListing text ≡ ok p → length text ≤ listingRoomOfProgram
+read-short : (text : List ℕ) (p : Program) → readListing text ≡ ok p → length text ≤ 50176
 read-short text p e = let l = read-limits text p e in omega (arith, read-whole text p e, l .0, l .1)
 
 -- texts that read the same run the same

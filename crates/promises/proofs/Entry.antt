@@ -26,7 +26,8 @@ use Rattle.promises.proofs.RefusedOnce.{refused-once, one-refusal}
 use Rattle.promises.proofs.FirstFault.{first-fault}
 use Rattle.promises.proofs.Positions.{origin-same}
 use Rattle.promises.proofs.Demand3.{demand-3-of}
-use Rattle.promises.proofs.ReadsBack.{at-own, own-same, reads-back}
+use Rattle.promises.proofs.OutputRoom.{keeps-total}
+use Rattle.promises.proofs.ReadsBack.{at-own, own-same, reads-back, length-own}
 
 -- ---- acceptance
 
@@ -53,7 +54,8 @@ of-output asked text p image r j =
       as-defined = record { listing = refl; image = refl; count = d .bounded .counted };
       again = ownFrom 0 (outputProgram asked p);
       again-is = refl;
-      read-again = record { reads = b .reads; assembles = b .assembles };
+      read-again = record { reads = λ l. b .reads (omega (arith, l, length-own 0 (outputProgram asked p))); assembles = b .assembles };
+      no-constants = λ e. b .reads (keeps-total asked p h e);
       demand-3 = d;
       targets-written = λ i s o t. target-written asked p i s o (d .targets-kept i s o t);
       bounded = omega (arith, d .bounded .counted, d .bounded .bounded);

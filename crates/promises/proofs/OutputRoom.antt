@@ -1,7 +1,7 @@
 -- "The output never needs more frame bytes than the input", and the program itself never gives 12.
 use mathlib.Core.Path.{_≡_, refl, _∙_, ap}
 use mathlib.Core.List.{List, [], _∷_}
-use Prim.Native.Nat.{ℕ, _+_, _*_, _≤_}
+use Prim.Native.Nat.{ℕ, _+_, _*_, _≤_, suc}
 use native.Mathlib.Omega.{arith}
 use lib.Dec.{leb}
 use lib.ListN.{length, length-append}
@@ -10,13 +10,18 @@ use Rattle.laws.specs.Lists.{total, each}
 use Rattle.laws.proofs.Tests.{false-true, and-both, both-ways}
 use Rattle.rules.specs.declared.Settings.{Settings}
 use Rattle.rules.specs.declared.Refusal.the-variants.{Room}
-use Rattle.rules.specs.Programs.{Program}
-use Rattle.rules.specs.Rewriting.{anchor, instrBytes, optimized}
+use Rattle.rules.specs.Programs.{Program, Stmt, Instruction, onInstr, lastOf}
+use Rattle.rules.specs.Rewriting.{anchor, instrBytes, optimized, movingOf}
 use Rattle.rules.specs.Output.{hexByte, frameOf, lineOf, textOf, writeBack, compact, shown}
 use Rattle.rules.specs.Run.{outputOf, fits, listingRoomOfProgram, imageRoomOfProgram}
 use Rattle.promises.specs.Demand1.{Cause, reading, naming, laying, defining, encoding, room}
-use Rattle.promises.specs.Demand2.{Input, outputProgram}
-use Rattle.promises.specs.Room.{frameBytes, OutputRoom, NeverRoom}
+use Rattle.promises.specs.Demand2.{Input, outputProgram, KeepsTotal}
+use Rattle.promises.specs.Room.{frameBytes, OutputRoom, NeverRoom, constantAt, constants, isConstant}
+use mathlib.Core.Bool.{Bool, true, false, cond, _&&_}
+use Rattle.rules.specs.Names.{Placed, placedFrom, placed, enter}
+use Rattle.rules.specs.Layout.{after}
+use Rattle.rules.proofs.Laws.{by-instr, other}
+use Rattle.rules.specs.Forms.{isTransfer}
 use Rattle.promises.proofs.Shows.{length-shown}
 use Rattle.promises.proofs.Weights.{step-length}
 use Rattle.promises.proofs.Chains.{chain-keeps}
@@ -39,7 +44,8 @@ line-length : (s : List ℕ) → length (lineOf s) ≡ 2 * length s + 1
 unfolding lineOf
 line-length s = length-append (each (λ b. hexByte b) s) (10 ∷ []) ∙ ap (λ (n : ℕ). n + 1) (digits-length s)
 
-text-length : (p : Program) → length (textOf p) ≡ 2 * total frameBytes p + length p
+-- of a program's text
+pub text-length : (p : Program) → length (textOf p) ≡ 2 * total frameBytes p + length p
 unfolding textOf each total
 text-length [] = refl
 text-length (s ∷ p) = omega (arith, length-append (lineOf (frameOf s)) (textOf p), line-length (frameOf s), text-length p)
@@ -49,13 +55,33 @@ end-length : (asked : Settings) (p : Program) → length (optimized asked p .pro
 unfolding optimized
 end-length asked p = chain-keeps asked (λ q. length q ≡ length p) (λ r t st h. step-length r t st ∙ h) (total instrBytes p) (anchor p) (length-anchor p)
 
+-- one such transfer at most for each statement
+on-one : (g : Instruction → ℕ) → ((y : Instruction) → g y ≤ 1) → (s : Stmt) → onInstr 0 g s ≤ 1
+on-one g h = by-instr (λ s. onInstr 0 g s ≤ 1) (λ f xs c. h (record { form = f; args = xs; carried = c })) (λ s n. omega (arith, other 0 g s n))
+
+constant-one : (p : Program) (x : Placed) → constantAt p x ≤ 1
+constant-one p x = on-one _ (λ y. one (isTransfer (y .form) && isConstant (movingOf p) (x .context) (lastOf (y .args)))) (x .stmt)
+  where
+    one : (b : Bool) → cond b 1 0 ≤ 1
+    one true = omega arith
+    one false = omega arith
+
+constants-from : (p : Program) (i k q : ℕ) (l : Program) → total (constantAt p) (placedFrom i k q l) ≤ length l
+unfolding total placedFrom
+constants-from p i k q [] = omega arith
+constants-from p i k q (s ∷ l) = omega (arith, constant-one p (record { place = i; context = enter k s; position = q; stmt = s }), constants-from p (suc i) (enter k s) (after q s) l)
+
+constants-few : (p : Program) → constants p ≤ length p
+unfolding constants placed
+constants-few p = constants-from p 0 0 0 p
+
 -- output-room: no more frame bytes, statements or text than the input, and both results fit in the program's rooms
 pub output-room : (asked : Settings) (p : Program) (h : Input p) → OutputRoom asked (h .text) p
 unfolding outputOf outputProgram
 output-room asked p h =
     let left : Program = shown asked (writeBack (optimized asked p .program)) in
     let q : Program = compact left in
-    let frames : total frameBytes q ≤ total frameBytes p = unfold outputProgram in output-frames asked p (read-made (h .text) p (h .reads)) in
+    let frames : total frameBytes q ≤ total frameBytes p + 2 * constants p = unfold outputProgram in output-frames asked p (read-made (h .text) p (h .reads)) in
     let limits = read-limits (h .text) p (h .reads) in
     let image = image-of-output asked p h in
     let fewer : length q ≤ length p = omega (arith, length-compact left, length-shown asked (writeBack (optimized asked p .program)), length-writeBack (optimized asked p .program), end-length asked p) in
@@ -63,9 +89,16 @@ output-room asked p h =
       frames = frames;
       statements = fewer;
       as-text = omega (arith, text-length q, read-whole (h .text) p (h .reads));
-      listing = omega (arith, text-length q, limits .0, limits .1);
+      listing = omega (arith, text-length q, limits .0, limits .1, constants-few p);
       image = rw (image .handed-out) (image-room q (image .image) (image .of-output));
     }
+
+-- keeps-total: where no constant was a target the output keeps the total limit, as the input did
+pub keeps-total : (asked : Settings) (p : Program) → Input p → constants p ≡ 0 → KeepsTotal asked p
+unfolding outputOf outputProgram
+keeps-total asked p h e =
+    let limits = read-limits (h .text) p (h .reads) in
+    omega (arith, text-length (compact (shown asked (writeBack (optimized asked p .program)))), output-frames asked p (read-made (h .text) p (h .reads)), limits .1)
 
 -- never-room: 12 never comes from the program
 pub never-room : (asked : Settings) (text : List ℕ) → NeverRoom asked text

@@ -3,7 +3,7 @@
 use mathlib.Core.Path.{_≡_, refl, sym, _∙_, ap}
 use mathlib.Core.List.{List, [], _∷_}
 use mathlib.Core.Bool.{Bool, true, false}
-use Prim.Native.Nat.{zero, suc, _+_, _*_, _≤_}
+use Prim.Native.Nat.{zero, suc, _+_, _*_, _≤_, ℕ}
 use native.Mathlib.Omega.{arith}
 use lib.Dec.{leb}
 use lib.ListN.{length, length-append, length-map}
@@ -17,13 +17,14 @@ use Rattle.rules.specs.Answers.{ok}
 use Rattle.rules.specs.Forms.{formAt, operandsAt}
 use Rattle.rules.specs.Programs.{Placeℕ, Operand, register, value, inner, Stmt, gone, instr, label, variable, comment, org, bytes, words, Program, at, asName}
 use Rattle.rules.specs.Listing.{readListing}
-use Rattle.rules.specs.Judging.{judge, encode}
+use Rattle.rules.specs.Judging.{judge, encode, namesOf}
 use Rattle.rules.specs.Rewriting.{optimized}
 use Rattle.rules.specs.Output.{operandBytes, frameOf, writeBack, compact, shown}
 use Rattle.rules.specs.Run.{outputOf}
-use Rattle.promises.specs.Demand2.{Input, outputProgram, own, ownFrom, ReadsBack}
+use Rattle.promises.specs.Demand2.{Input, outputProgram, own, ownFrom, ReadsBack, KeepsTotal}
 use Rattle.promises.specs.Room.{frameBytes}
 use Rattle.rules.proofs.Laws.{by-change}
+use Rattle.rules.specs.Names.{Entry, contextFrom}
 use Rattle.promises.proofs.Shows.{by-spoken, at-shown, shown-plain}
 use Rattle.promises.proofs.Sounds.{shapes, Sound, Sounds}
 use Rattle.promises.proofs.Listings.{read-made, read-limits}
@@ -34,7 +35,7 @@ use Rattle.promises.proofs.Retargets.{Kept, positions-kept, same-alike}
 use Rattle.promises.proofs.Acceptable.{end-acceptable}
 use Rattle.promises.proofs.WritesBack.{inner-end, writeBack-plain}
 use Rattle.promises.proofs.ImageOfOutput.{image-of-output}
-use Rattle.promises.proofs.OutputRoom.{output-room}
+use Rattle.promises.proofs.OutputRoom.{output-room, text-length}
 use Rattle.promises.proofs.SoundEnd.{Kept-sound, written-sound}
 use Rattle.promises.proofs.TextBack.{AllWritable, text-back}
 
@@ -89,11 +90,11 @@ compact-writable (s ∷ p) k h = on (view s) (k 0) (h 0) (compact-writable p (λ
     on {s} (is-live l) k h below = rw (compact-live s p l) (record { sound = k .sound; plain = h; live = l; short = frame-short s k }, below)
 
 -- ---- an instruction's own place is not seen by judging
-own-alike : (p p′ : Program) → Kept p p′ → (i : Placeℕ) (s : Stmt) → Alike p p′ s (own i s)
+own-alike : (p p′ : Program) → Kept p p′ → (names : List Entry) (k : ℕ) (i : Placeℕ) (s : Stmt) → Alike names p p′ k s (own i s)
 unfolding asName encode
-own-alike p p′ k i s =
-    by-change (Alike p p′) _
-    (λ f xs c. let a = same-alike p p′ k (instr f xs c) in
+own-alike p p′ kept names k i s =
+    by-change (Alike names p p′ k) _
+    (λ f xs c. let a = same-alike p p′ kept names k (instr f xs c) in
     record {
       goes-on = a .goes-on;
       enters = a .enters;
@@ -103,12 +104,13 @@ own-alike p p′ k i s =
       encoded = a .encoded;
       laid = a .laid;
     })
-    (λ s n. same-alike p p′ k s) s
+    (λ s n. same-alike p p′ kept names k s) s
 
 own-room : (i : Placeℕ) (s : Stmt) → SameRoom s (own i s)
 own-room i s = by-change SameRoom _ (λ f xs c. record { goes-on = λ q. refl; as-big = refl }) (λ s n. room-same s) s
 
-length-own : (i : Placeℕ) (p : Program) → length (ownFrom i p) ≡ length p
+-- as many statements
+pub length-own : (i : Placeℕ) (p : Program) → length (ownFrom i p) ≡ length p
 unfolding ownFrom
 length-own i [] = refl
 length-own i (s ∷ p) = ap suc (length-own (suc i) p)
@@ -125,7 +127,7 @@ own-same p = (length-own 0 p, λ i. rw (at-own 0 p i) (own-room (0 + i) (at p i)
 judge-own : (p : Program) → judge (ownFrom 0 p) ≡ judge p
 judge-own p =
     let kept : Kept p (ownFrom 0 p) = positions-kept p (ownFrom 0 p) (position-same p (ownFrom 0 p) (own-same p)) in
-    judge-alike p (ownFrom 0 p) (length-own 0 p, λ i h. rw (at-own 0 p i) (own-alike p (ownFrom 0 p) kept (0 + i) (at p i)))
+    judge-alike p (ownFrom 0 p) (length-own 0 p, λ i h. rw (at-own 0 p i) (own-alike p (ownFrom 0 p) kept (namesOf p) (contextFrom 0 p i) (0 + i) (at p i)))
 
 -- reads-back: the output's listing reads as the output's statements, and assembles to the image that is handed out
 pub reads-back : (asked : Settings) (p : Program) → Input p → ReadsBack asked p
@@ -142,10 +144,10 @@ reads-back asked p h =
     let limits = read-limits (h .text) p (h .reads) in
     let image = image-of-output asked p h in
     record {
-      reads = text-back 0 0 q writable (omega (arith, room .statements, limits .0)) (omega (arith, room .frames, limits .1));
+      reads = λ l. text-back 0 0 q writable (omega (arith, room .statements, limits .0)) (omega (arith, l, text-length q));
       assembles = judge-own q ∙ image .of-output ∙ ap ok (sym (image .handed-out));
     }
 
--- the output is an accepted input again
-pub output-again : (asked : Settings) (p : Program) → Input p → Input (ownFrom 0 (outputProgram asked p))
-output-again asked p h = let b = reads-back asked p h in record { text = outputOf asked p .listing; reads = b .reads; image = outputOf asked p .image; assembles = b .assembles }
+-- the output is an accepted input again, if it keeps the total limit
+pub output-again : (asked : Settings) (p : Program) → Input p → KeepsTotal asked p → Input (ownFrom 0 (outputProgram asked p))
+output-again asked p h l = let b = reads-back asked p h in record { text = outputOf asked p .listing; reads = b .reads l; image = outputOf asked p .image; assembles = b .assembles }

@@ -9,8 +9,8 @@ use Rattle.rules.specs.declared.Settings.{Settings}
 use Rattle.rules.specs.Expressions.{num}
 use Rattle.rules.specs.Programs.{Placeℕ, Operand, register, value, inner, Stmt, gone, instr, label, variable, comment, org, bytes, words, Program, at, asName, onLast, retarget}
 use Rattle.rules.specs.Layout.{position}
-use Rattle.rules.specs.Names.{enter, contextFrom, contextAt}
-use Rattle.rules.specs.Judging.{encode, judge}
+use Rattle.rules.specs.Names.{Entry, enter, contextFrom, contextAt}
+use Rattle.rules.specs.Judging.{encode, judge, namesOf}
 use Rattle.rules.specs.Output.{plainTarget, writeBack, spoken, shown}
 use Rattle.rules.proofs.Laws.{by-instr, other}
 use Rattle.laws.specs.Lists.{every}
@@ -54,16 +54,16 @@ module _ (asked : Settings) (p : Program) where
   pub shown-position : (i : Placeℕ) → position (shown asked p) i ≡ position p i
   shown-position i = position-same p (shown asked p) shown-room i
 
-  comment-alike : (x : List ℕ) → Alike p (shown asked p) (comment x) gone
+  comment-alike : (names : List Entry) (k : ℕ) (x : List ℕ) → Alike names p (shown asked p) k (comment x) gone
   unfolding encode asName
-  comment-alike x =
+  comment-alike names k x =
       record {
         goes-on = λ q. refl;
-        enters = λ k. refl;
+        enters = λ j. refl;
         called = refl;
         settled = λ i q. refl;
-        defined = λ above i k q. refl;
-        encoded = λ names i k q. refl;
+        defined = λ above i j q. refl;
+        encoded = λ i q. refl;
         laid = λ q b rest. refl;
       }
 
@@ -73,7 +73,7 @@ module _ (asked : Settings) (p : Program) where
       let kept : Kept p (shown asked p) = positions-kept p (shown asked p) shown-position in
       judge-alike p (shown asked p) (
         length-shown,
-        λ i h. rw (at-shown i) (by-spoken (Alike p (shown asked p)) asked (same-alike p (shown asked p) kept) comment-alike (at p i)),
+        λ i h. rw (at-shown i) (by-spoken (Alike (namesOf p) p (shown asked p) (contextFrom 0 p i)) asked (same-alike p (shown asked p) kept (namesOf p) (contextFrom 0 p i)) (comment-alike (namesOf p) (contextFrom 0 p i)) (at p i)),
       )
 
   -- none gains an inner label

@@ -15,15 +15,14 @@ use Rattle.laws.specs.Lists.{total, every}
 use Rattle.laws.proofs.Tests.{clash, and-true}
 use Rattle.laws.proofs.Lists.{every-any}
 use Rattle.rules.specs.declared.Settings.{Settings}
-use Rattle.rules.specs.declared.Outcome.the-variants.{Unknown}
 use Rattle.rules.specs.Answers.{ok}
-use Rattle.rules.specs.Expressions.{Expr, num, evalTree, holdsName, bytesOf}
+use Rattle.rules.specs.Expressions.{Expr, num, bytesOf}
 use Rattle.rules.specs.Forms.{formAt, isUnconditional}
 use Rattle.rules.specs.Programs.{Placeℕ, Addressℕ, Operand, register, value, inner, Stmt, gone, instr, Program, at, byteCount, onInstr, argsOf, lastOf, onLast, retarget, Space, empty, exactly, from, spaceOf, bytesIn}
 use Rattle.rules.specs.Layout.{after, positionFrom, position, Origin, origin}
-use Rattle.rules.specs.Names.{enter, placedFrom, placed}
-use Rattle.rules.specs.Judging.{settles, positionsFit, settlesIn}
-use Rattle.rules.specs.Rewriting.{innerAt, anchorTarget, anchor, ofInner, everyInnerLabel, aimed, dropAll, acceptable, optimized, instrBytes}
+use Rattle.rules.specs.Names.{enter, placedFrom, placed, contextAt}
+use Rattle.rules.specs.Judging.{settles, positionsFit, settlesIn, worth, namesOf}
+use Rattle.rules.specs.Rewriting.{innerAt, anchor, ofInner, everyInnerLabel, aimed, dropAll, acceptable, optimized, instrBytes, movingOf, holdsLabel}
 use Rattle.rules.specs.Output.{plainTarget, writeBack, frameOf}
 use Rattle.rules.proofs.Laws.{require-ok, by-instr, by-change, other}
 use Rattle.promises.specs.Room.{frameBytes}
@@ -31,7 +30,7 @@ use Rattle.promises.proofs.General.{all-set}
 use Rattle.promises.proofs.Steps.{Step, invert, bounce, shrink}
 use Rattle.promises.proofs.Shorter.{unconditional-form}
 use Rattle.promises.proofs.Chains.{chain-keeps}
-use Rattle.promises.proofs.Anchors.{at-anchor, anchored-keeps}
+use Rattle.promises.proofs.Anchors.{at-anchor, anchored-keeps, anchorIn}
 use Rattle.promises.proofs.Sounds.{shapes, SoundExpr, Sound, Sounds, SoundStmt}
 use Rattle.promises.proofs.Listings.{WellMade}
 use Rattle.promises.proofs.Positions.{fit-cons}
@@ -76,18 +75,18 @@ jump-target f xs u s = ⊎-elim (λ e. on xs (rw e at s)) (⊎-elim (λ e. on xs
     on (x ∷ y ∷ xs) s = absurd (s .1)
 
 -- ---- anchoring
-sound-anchored : (p : Program) (b : Bool) (x : Operand) → Sound b x → Sound b (anchorTarget p x)
-sound-anchored p true (register r) s = s
-sound-anchored p true (value e) s = absurd s
-sound-anchored p true (inner i o) s = s
-sound-anchored p false (register r) s = absurd s
-sound-anchored p false (value e) s = on (holdsName e) (origin p (evalTree (λ n. Unknown) e))
+sound-anchored : (p : Program) (j : Placeℕ) (b : Bool) (x : Operand) → Sound b x → Sound b (anchorIn p j x)
+sound-anchored p j true (register r) s = s
+sound-anchored p j true (value e) s = absurd s
+sound-anchored p j true (inner i o) s = s
+sound-anchored p j false (register r) s = absurd s
+sound-anchored p j false (value e) s = on (holdsLabel (movingOf p) (contextAt p j) e) (origin p (worth (namesOf p) (contextAt p j) e))
   where
     on : (h : Bool) (o : Option Origin) → Sound false (cond h (value e) (innerAt e o))
     on true o = s
     on false none = s
     on false (some g) = tt
-sound-anchored p false (inner i o) s = s
+sound-anchored p j false (inner i o) s = s
 
 kept-retarget : (f : Operand → Operand) → ((b : Bool) (x : Operand) → Sound b x → Sound b (f x)) → (s : Stmt) → Kept-sound s → Kept-sound (retarget f s)
 kept-retarget f h s =
@@ -107,7 +106,7 @@ anchor-kept : (p : Program) → WellMade p → AllKept (anchor p)
 unfolding AllKept
 anchor-kept p w i =
     let k = made-kept p w i in
-    rw (at-anchor p i) (anchored-keeps Kept-sound p i (kept-retarget (anchorTarget p) (sound-anchored p) (at p i) k) k)
+    rw (at-anchor p i) (anchored-keeps Kept-sound p i (kept-retarget (anchorIn p i) (sound-anchored p i) (at p i) k) k)
 
 -- ---- a rewrite
 kept-gone : Kept-sound gone

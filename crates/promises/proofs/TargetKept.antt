@@ -15,14 +15,13 @@ use Rattle.laws.specs.Lists.{total, every}
 use Rattle.laws.proofs.Tests.{and-true, eq-or-not}
 use Rattle.laws.proofs.Lists.{total-one, total-some, total-two-any, every-any}
 use Rattle.rules.specs.declared.Settings.{Settings}
-use Rattle.rules.specs.declared.Outcome.the-variants.{Is, Unknown}
+use Rattle.rules.specs.declared.Outcome.the-variants.{Is}
 use Rattle.rules.specs.Answers.{ok}
-use Rattle.rules.specs.Expressions.{evalTree}
 use Rattle.rules.specs.Programs.{Placeℕ, Operand, register, value, inner, Stmt, gone, instr, Program, at, byteCount, argsOf, lastOf, onLast, retarget, isGone}
 use Rattle.rules.specs.Layout.{position, origin}
-use Rattle.rules.specs.Names.{placed}
-use Rattle.rules.specs.Judging.{positionsFit, judge}
-use Rattle.rules.specs.Rewriting.{isAnchored, innerAt, anchorTarget, anchor, ofInner, everyInnerLabel, instrBytes, optimized}
+use Rattle.rules.specs.Names.{placed, contextAt}
+use Rattle.rules.specs.Judging.{positionsFit, judge, worth, namesOf}
+use Rattle.rules.specs.Rewriting.{isAnchored, innerAt, anchor, ofInner, everyInnerLabel, instrBytes, optimized}
 use Rattle.rules.specs.Output.{plainTarget, writeBack, compact, spoken, shown}
 use Rattle.rules.specs.Run.{outputOf}
 use Rattle.promises.specs.Demand2.{Input, outputProgram}
@@ -32,14 +31,14 @@ use Rattle.promises.proofs.General.{total-alike}
 use Rattle.promises.proofs.Looks.{lastOf-onLast}
 use Rattle.promises.proofs.Weights.{instr-inside}
 use Rattle.promises.proofs.Chains.{chain-keeps}
-use Rattle.promises.proofs.Anchors.{at-anchor}
+use Rattle.promises.proofs.Anchors.{at-anchor, anchorIn}
 use Rattle.promises.proofs.Listings.{WellMade, read-made, made-instr}
 use Rattle.promises.proofs.Passes.{judge-passes}
 use Rattle.promises.proofs.Positions.{origin-at}
-use Rattle.promises.proofs.Acceptable.{acceptable-parts, no-name, end-acceptable}
+use Rattle.promises.proofs.Acceptable.{acceptable-parts, end-acceptable}
 use Rattle.promises.proofs.WritesBack.{at-writeBack, length-writeBack, writeBack-position, writeBack-room}
 use Rattle.promises.proofs.ImageOfOutput.{image-of-output}
-use Rattle.promises.proofs.Ranks.{rank, at-rank, position-rank, stems-rank, rank-writeBack, byte-live, total-compact}
+use Rattle.promises.proofs.Ranks.{rank, at-rank, position-rank, stems-rank, byte-live, total-compact}
 use Rattle.promises.proofs.Carried.{Carrier, carrier, carries-step, ofPlace, ofPlace-own, ofPlace-retarget, ofPlace-step, ofPlace-made, carries-ofPlace}
 
 -- a test of every operand holds of the last
@@ -54,27 +53,23 @@ module _ (asked : Settings) (p : Program) (w : WellMade p) (i s o : ℕ) (a : Ai
   own : a .carried ≡ i
   own = made-instr p w i (a .form) (a .args) (a .carried) (a .stands) .0
 
-  -- its target's origin, the names left out
-  origin-free : origin p (evalTree (λ n. Unknown) (a .target)) ≡ some (record { place = s; offset = o })
-  origin-free = ap (origin p) (no-name (a .target) (λ n. Unknown) _ (a .holds-no-name)) ∙ a .falls-on
-
-  target-anchored : lastOf (onLast (anchorTarget p) (a .args)) ≡ inner s o
+  target-anchored : lastOf (onLast (anchorIn p i) (a .args)) ≡ inner s o
   target-anchored =
-      lastOf-onLast (anchorTarget p) (a .args) refl ∙ ap (anchorTarget p) (a .target-is)
-      ∙ ap (λ (b : Bool). cond b (value (a .target)) (innerAt (a .target) (origin p (evalTree (λ n. Unknown) (a .target))))) (a .holds-no-name)
-      ∙ ap (innerAt (a .target)) origin-free
+      lastOf-onLast (anchorIn p i) (a .args) refl ∙ ap (anchorIn p i) (a .target-is)
+      ∙ ap (λ (b : Bool). cond b (value (a .target)) (innerAt (a .target) (origin p (worth (namesOf p) (contextAt p i) (a .target))))) (a .holds-no-label)
+      ∙ ap (innerAt (a .target)) (a .falls-on)
 
-  here : at (anchor p) i ≡ instr (a .form) (onLast (anchorTarget p) (a .args)) i
+  here : at (anchor p) i ≡ instr (a .form) (onLast (anchorIn p i) (a .args)) i
   unfolding isAnchored
   here =
       at-anchor p i
-      ∙ rw (a .stands, a .transfers, a .no-change-jump) (ap (λ (c : ℕ). instr (a .form) (onLast (anchorTarget p) (a .args)) c) own)
+      ∙ rw (a .stands, a .transfers, a .no-change-jump) (ap (λ (c : ℕ). instr (a .form) (onLast (anchorIn p i) (a .args)) c) own)
 
   carries-here : carries i s o (at (anchor p) i) ≡ 1
   carries-here = ap (carries i s o) here ∙ rw (a .transfers, target-anchored, eq-eqb s s refl, eq-eqb o o refl, eq-eqb i i refl)
 
   inside : i < length (anchor p)
-  inside = instr-inside (anchor p) i (a .form) (onLast (anchorTarget p) (a .args)) i here
+  inside = instr-inside (anchor p) i (a .form) (onLast (anchorIn p i) (a .args)) i here
 
   starts-once : total (carries i s o) (anchor p) ≡ 1
   starts-once =
@@ -84,7 +79,7 @@ module _ (asked : Settings) (p : Program) (w : WellMade p) (i s o : ℕ) (a : Ai
   starts-alone : total (ofPlace i) (anchor p) ≤ 1
   starts-alone =
       let e : total (ofPlace i) (anchor p) ≡ ofPlace i (at (anchor p) i) = total-one (ofPlace i) (anchor p) i gone inside (λ j h n. ofPlace-made p w i j n) in
-      let one : ofPlace i (at (anchor p) i) ≡ 1 = ap (ofPlace i) here ∙ ofPlace-own i (a .form) (onLast (anchorTarget p) (a .args)) in
+      let one : ofPlace i (at (anchor p) i) ≡ 1 = ap (ofPlace i) here ∙ ofPlace-own i (a .form) (onLast (anchorIn p i) (a .args)) in
       omega arith
 
   -- ---- the end form

@@ -11,13 +11,15 @@ use Rattle.rules.specs.declared.Settings.{Settings}
 use Rattle.rules.specs.Expressions.{evalTree}
 use Rattle.rules.specs.Programs.{Placeℕ, Operand, register, value, inner, Stmt, gone, instr, Program, at, argsOf, onLast, retarget}
 use Rattle.rules.specs.Layout.{position}
-use Rattle.rules.specs.Judging.{judge}
-use Rattle.rules.specs.Rewriting.{aimed, dropAll, anchorTarget, anchor, optimized, instrBytes}
+use Rattle.rules.specs.Judging.{judge, namesOf}
+use Rattle.rules.specs.Rewriting.{aimed, dropAll, anchor, optimized, instrBytes}
 use Rattle.rules.specs.Output.{plainTarget, writeBack}
 use Rattle.rules.proofs.Laws.{by-instr, by-change, other}
+use Rattle.rules.specs.Names.{Entry, contextFrom}
+use Prim.Native.Nat.{ℕ}
 use Rattle.promises.proofs.Steps.{Step, invert, bounce, shrink}
 use Rattle.promises.proofs.Chains.{chain-keeps}
-use Rattle.promises.proofs.Anchors.{at-anchor, anchored-keeps}
+use Rattle.promises.proofs.Anchors.{at-anchor, anchored-keeps, anchorIn}
 use Rattle.promises.proofs.Frames.{isPlain}
 use Rattle.promises.proofs.Listings.{WellMade, made-instr}
 use Rattle.promises.proofs.Alike.{judge-alike}
@@ -47,7 +49,7 @@ module _ (p : Program) where
   writeBack-kept : Kept p (writeBack p)
   writeBack-kept = positions-kept p (writeBack p) writeBack-position
 
-  writeBack-changed : KeptBy (plainTarget p) p (writeBack p)
+  writeBack-changed : (names : List Entry) (k : ℕ) → KeptBy names k (plainTarget p) p (writeBack p)
   unfolding evalTree
   writeBack-changed names k (register r) = refl
   writeBack-changed names k (value e) = refl
@@ -57,7 +59,7 @@ module _ (p : Program) where
   pub judge-writeBack : judge (writeBack p) ≡ judge p
   judge-writeBack =
       judge-alike p (writeBack p)
-      (length-writeBack p, λ i h. rw (at-writeBack p i) (retarget-alike p (writeBack p) writeBack-kept (plainTarget p) writeBack-changed (at p i)))
+      (length-writeBack p, λ i h. rw (at-writeBack p i) (retarget-alike p (writeBack p) writeBack-kept (namesOf p) (contextFrom 0 p i) (plainTarget p) (writeBack-changed (namesOf p) (contextFrom 0 p i)) (at p i)))
 
 -- ---- inner labels are last operands
 abbrev frontPlain : List Operand → Bool
@@ -96,7 +98,7 @@ inner-anchor : (p : Program) → WellMade p → every innerLast (anchor p) ≡ t
 inner-anchor p w =
     every-all innerLast (anchor p) gone
     (λ i h. let t = inner-made p w i (at p i) refl in
-    ap innerLast (at-anchor p i) ∙ anchored-keeps (λ s. innerLast s ≡ true) p i (inner-retarget (anchorTarget p) (at p i) t) t)
+    ap innerLast (at-anchor p i) ∙ anchored-keeps (λ s. innerLast s ≡ true) p i (inner-retarget (anchorIn p i) (at p i) t) t)
 
 inner-step : (p q : Program) → Step p q → every innerLast p ≡ true → every innerLast q ≡ true
 unfolding dropAll

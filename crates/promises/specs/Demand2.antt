@@ -1,7 +1,7 @@
 -- Demand 2 of the letter, "A listing is accepted exactly when ..", and document 01's "any two results allowed by the contract coincide".
 use mathlib.Core.Path.{_≡_}
 use mathlib.Core.List.{List, [], _∷_}
-use Prim.Native.Nat.{ℕ, suc, _≤_}
+use Prim.Native.Nat.{ℕ, suc, _≤_, _+_}
 use lib.ListN.{length, take, drop}
 use Rattle.rules.specs.declared.Settings.{Settings}
 use Rattle.rules.specs.declared.Answer.{Answer}
@@ -89,7 +89,11 @@ unfoldable pub ownFrom : (i : Placeℕ) → Program → Program
 ownFrom i [] = []
 ownFrom i (s ∷ p) = own i s ∷ ownFrom (suc i) p
 
+-- C-15: "the total limit is judged on the input", so that an output with constants as targets may pass it; any other limit is kept
+abbrev pub KeepsTotal : (asked : Settings) → Program → Type 0
+KeepsTotal asked p = length (outputOf asked p .listing) ≤ 49152 + length (outputProgram asked p)
+
 -- the listing that is handed out keeps the listing rules, reads as the output's statements, and assembles as given to the image that is handed out
 pub record ReadsBack (asked : Settings) (p : Program) : Type 0 where
-  pub reads : readListing (outputOf asked p .listing) ≡ ok (ownFrom 0 (outputProgram asked p))
+  pub reads : KeepsTotal asked p → readListing (outputOf asked p .listing) ≡ ok (ownFrom 0 (outputProgram asked p))
   pub assembles : judge (ownFrom 0 (outputProgram asked p)) ≡ ok (outputOf asked p .image)

@@ -10,17 +10,18 @@ use lib.IntN.{pos}
 use Rattle.laws.specs.Lists.{total}
 use Rattle.rules.specs.declared.Settings.{Settings}
 use Rattle.rules.specs.declared.Outcome.the-variants.{Is}
-use Rattle.rules.specs.Expressions.{Expr, num, holdsName}
+use Rattle.rules.specs.Expressions.{Expr, num}
 use Rattle.rules.specs.Forms.{isTransfer}
 use Rattle.rules.specs.Programs.{Placeℕ, Addressℕ, Operand, register, value, inner, Stmt, instr, Program, at, onInstr, lastOf}
 use Rattle.rules.specs.Layout.{origin}
 use Rattle.rules.specs.Names.{contextAt}
 use Rattle.rules.specs.Judging.{worth, namesOf}
-use Rattle.rules.specs.Rewriting.{isChangeJump, trampoline, patternsFor, patternAt, shrinkAt, step, instrBytes, optimized}
+use Rattle.rules.specs.Rewriting.{isChangeJump, holdsLabel, movingOf, trampoline, patternsFor, patternAt, shrinkAt, step, instrBytes, optimized}
 use Rattle.rules.specs.Run.{outputOf}
 use Rattle.promises.specs.Demand2.{outputProgram}
 
--- ---- "take any transfer whose target holds no name, falls on a byte of a statement and is not a change jump's"
+-- ---- "take any transfer whose target holds no name, falls on a byte of a statement and is not a change jump's". C-15: a target "that holds no label,
+-- directly or through variables ..; demand 3's 'holds no name' reads so too"
 
 -- the transfer at place i of p; its target falls on byte o of the statement at place s
 pub record Aims (p : Program) (i : Placeℕ) (s : Placeℕ) (o : ℕ) : Type 0 where
@@ -31,7 +32,7 @@ pub record Aims (p : Program) (i : Placeℕ) (s : Placeℕ) (o : ℕ) : Type 0 w
   pub stands : at p i ≡ instr form args carried
   pub transfers : isTransfer form ≡ true
   pub target-is : lastOf args ≡ value target
-  pub holds-no-name : holdsName target ≡ false
+  pub holds-no-label : holdsLabel (movingOf p) (contextAt p i) target ≡ false
   pub falls-on : origin p (worth (namesOf p) (contextAt p i) target) ≡ some (record { place = s; offset = o })
   pub no-change-jump : isChangeJump (namesOf p) p i ≡ false
 

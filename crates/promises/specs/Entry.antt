@@ -4,7 +4,7 @@ use mathlib.Core.Path.{_≡_}
 use mathlib.Core.List.{List, [], _∷_}
 use mathlib.Core.Option.{some}
 use mathlib.Core.Bool.{true}
-use Prim.Native.Nat.{ℕ, _≤_}
+use Prim.Native.Nat.{ℕ, _≤_, _+_}
 use lib.ListN.{length, take, drop}
 use lib.IntN.{pos}
 use Rattle.laws.specs.Lists.{total}
@@ -22,6 +22,7 @@ use Rattle.rules.specs.Run.{outputOf}
 use Rattle.promises.specs.Demand1.{hasNumber, Cause}
 use Rattle.promises.specs.Faults.{FirstFault}
 use Rattle.promises.specs.Demand2.{outputProgram, ownFrom}
+use Rattle.promises.specs.Room.{constants}
 use Rattle.promises.specs.Demand3.{Aims, TargetKept, Demand3}
 
 -- ---- an acceptance: `written` and `bytes` are the listing and the image that were handed out, and `rewrites` the count
@@ -32,9 +33,10 @@ pub record AsDefined (asked : Settings) (p : Program) (written bytes : List ℕ)
   pub image : bytes ≡ outputOf asked p .image
   pub count : rewrites ≡ optimized asked p .count
 
--- "Who has read the shrunk code back?": what was written keeps the listing rules and reads as `again`, which assembles as given to the image
+-- "Who has read the shrunk code back?": what was written keeps the listing rules, if it keeps the total limit, and reads as `again`, which assembles as
+-- given to the image
 pub record ReadAgain (written bytes : List ℕ) (again : Program) : Type 0 where
-  pub reads : readListing written ≡ ok again
+  pub reads : length written ≤ 49152 + length again → readListing written ≡ ok again
   pub assembles : judge again ≡ ok bytes
 
 -- "In the output that target .. names the same offset of the statement that stems from the one it first named": read from what was written, the
@@ -56,6 +58,8 @@ pub record Promised (asked : Settings) (text written bytes : List ℕ) (rewrites
   pub again : Program
   pub again-is : again ≡ ownFrom 0 (outputProgram asked program)
   pub read-again : ReadAgain written bytes again
+  -- C-15: the total limit is kept wherever no constant was a target
+  pub no-constants : constants program ≡ 0 → readListing written ≡ ok again
   -- demand 3
   pub demand-3 : Demand3 asked program
   pub targets-written : (i s : Placeℕ) (o : ℕ) (a : Aims program i s o) → TargetWritten asked program again i s o (demand-3 .targets-kept i s o a)

@@ -11,6 +11,7 @@ use Rattle.promises.specs.Demand2.{Answered, Input}
 use Rattle.promises.proofs.Entry.{on-acceptance}
 use Rattle.walk.specs.SameWalk.{onlyWalked, SameWalk, stemOf}
 use Rattle.walk.specs.Entry.{WalkedAlike}
+use Rattle.walk.proofs.Inputs.{no-constants}
 use Rattle.walk.proofs.SameWalks.{same-walk-again, output-walked}
 
 -- walked-alike: `Done sizes` says that the front of the listing room reads again, and that it walks as the input does
@@ -24,7 +25,7 @@ walked-alike asked text listing image sizes listing′ image′ x =
       program = p;
       reads = a .keeps-rules;
       again = a .again;
-      reads-again = a .read-again .reads;
+      reads-again = λ only. a .no-constants (no-constants p in-p only);
       walks = λ only. subst (λ (q : Program). SameWalk p q (stemOf asked p)) (sym (a .again-is)) (same-walk-again asked p in-p only);
       walked-again = λ only. ap onlyWalked (a .again-is) ∙ output-walked asked p in-p only;
     }

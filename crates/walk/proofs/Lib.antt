@@ -8,6 +8,7 @@ pub mod Folds
 pub mod Links
 -- ---- names and targets by places
 pub mod Lookups
+pub mod Moves
 pub mod Resolves
 -- ---- one rewrite
 pub mod Rewrites

@@ -21,7 +21,8 @@ use Rattle.rules.specs.Run.{outputOf}
 use Rattle.promises.specs.Demand2.{Input, outputProgram, ownFrom}
 use Rattle.promises.proofs.Chains.{chain-keeps}
 use Rattle.promises.proofs.ImageOfOutput.{image-of-output}
-use Rattle.promises.proofs.ReadsBack.{reads-back}
+use Rattle.promises.proofs.OutputRoom.{keeps-total}
+use Rattle.promises.proofs.ReadsBack.{reads-back, output-again}
 use Rattle.promises.proofs.Shows.{writeBack-shown}
 use Rattle.walk.specs.Walk.{offTheEnd, Walk, meets, halts, walkFrom, walk, told}
 use Rattle.walk.specs.SameWalk.{onlyWalked, Keeps, Empty, SameWalk, stemOf}
@@ -31,7 +32,7 @@ use Rattle.walk.proofs.Resolves.{Resolved, plain, passes-are, worth-all
 use Rattle.walk.proofs.Folds.{Close, close-same, close-trans}
 use Rattle.walk.proofs.Alikes.{Alike, alike-same, alike-trans}
 use Rattle.walk.proofs.OneStep.{step-alike}
-use Rattle.walk.proofs.Inputs.{machine, first-laid, machine-worth, input-walk, anchor-resolved}
+use Rattle.walk.proofs.Inputs.{no-constants, machine, first-laid, machine-worth, input-walk, anchor-resolved}
 use Rattle.walk.proofs.Outputs.{Shown, shown-walk}
 use Rattle.walk.proofs.Shows.{stems-length, shows-output, shows-again}
 use Rattle.walk.proofs.Comments.{stems-written, shown-resolved}
@@ -164,7 +165,7 @@ module _ (asked : Settings) (p : Program) (in-p : Input p) (only : onlyWalked p 
   output-walked = ap (λ (q : Program). onlyWalked (ownFrom 0 q)) (sym written-is) ∙ again-walked (ends .1) shows-read
 
   input-again : Input (ownFrom 0 (outputProgram asked p))
-  input-again = let b = reads-back asked p in-p in record { text = outputOf asked p .listing; reads = b .reads; image = outputOf asked p .image; assembles = b .assembles }
+  input-again = output-again asked p in-p (keeps-total asked p in-p (no-constants p in-p only))
 
 -- second-run: what a second run makes of the output, under whatever settings, walks as the output does
 pub second-run : (asked then : Settings) (p : Program) → Input p → onlyWalked p ≡ true

@@ -14,7 +14,7 @@ pub record WalkedAlike (asked : Settings) (text written : List ℕ) : Type 0 whe
   pub program : Program
   pub reads : readListing text ≡ ok program
   pub again : Program
-  pub reads-again : readListing written ≡ ok again
+  pub reads-again : onlyWalked program ≡ true → readListing written ≡ ok again
   pub walks : onlyWalked program ≡ true → SameWalk program again (stemOf asked program)
   -- and what was handed out is such a program too, so that a second run of it walks alike once more
   pub walked-again : onlyWalked program ≡ true → onlyWalked again ≡ true

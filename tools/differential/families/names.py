@@ -1,6 +1,7 @@
-"""Families about names: contexts, variables, names defined again, data that name labels."""
-from .build import branch, comment, data, filler, instr, jump, label, name, number, one_of, size_of, text_of, tree, variable
-from .code import shuffled
+"""Families about names: contexts, variables, constants as targets, names defined again, data that name labels."""
+from .build import (address, branch, comment, data, filler, instr, jump, label, name, number, one_of, size_of, text_of, tree, variable,
+                    with_target)
+from .code import TRANSFERS, shuffled
 
 
 def contexts(rng):
@@ -37,6 +38,37 @@ def variables(rng):
                              lambda: variable(0x20 + i, pick(rng)), lambda: instr("Jmpf", pick(rng)), lambda: instr("Nop")))
     for k in [name(s.name) for s in result if s.kind == "variable"][:3]:
         result.append(rng.choice([data("words", k), instr("Ld_d9", k), instr("Jmpf", k), data("bytes", ("lower", k))]))
+    return text_of(result)
+
+
+def to_constant(rng, keys):
+    """A target that names a constant, at times in a sum, or with labels that cancel out."""
+    k = name(rng.choice(keys))
+    return one_of(rng, lambda: k, lambda: k, lambda: k, lambda: ("plus", k, number(rng.randint(-1, 2))), lambda: ("plus", k, name(rng.choice(keys))),
+                  lambda: ("plus", k, ("minus", name(0x8000), name(0x8000))))
+
+
+def constant(rng, above, code):
+    """The value of a constant: mostly an address of the code, a constant above with a number, or a label after all."""
+    small = number(rng.randint(0, 3))
+    sums = [("plus", name(k), small) for k in above] + [("plus", ("minus", name(1), name(1)), small), ("plus", name(1), small)]
+    return address(rng, code) if rng.random() < 0.7 else rng.choice(sums)
+
+
+def constants(rng):
+    """Variables as targets, above and below their use (C-15)."""
+    keys = [0x20 + i for i in range(rng.randint(1, 4))]
+    parts = [[label(0x8000)], filler(rng, rng.choice([1, 2, 5, 60, 125]))]
+    for _ in range(rng.randint(1, 6)):
+        parts.append([with_target(rng, rng.choice(TRANSFERS + 3 * ["Jmpf", "Callf", "Br"]), to_constant(rng, keys))])
+    if rng.random() < 0.2:
+        parts.append([instr("Not1", number(0x10D), number(0)), instr("Jmpf", to_constant(rng, keys))])
+    if rng.random() < 0.3:
+        parts.append([branch(rng, name(0x8001)), jump(rng, to_constant(rng, keys)), label(0x8001)])
+    code = [label(1)] + shuffled(rng, parts)
+    result, spots = list(code), sorted(rng.randint(1, len(code)) for _ in keys)
+    for i in reversed(range(len(keys))):
+        result.insert(spots[i], variable(keys[i], constant(rng, keys[:i], code)))
     return text_of(result)
 
 
@@ -85,4 +117,4 @@ def data_with_labels(rng):
     return text_of(result + rng.choice([[], [comment()]]))
 
 
-FAMILIES = [contexts, variables, again, data_with_labels]
+FAMILIES = [contexts, variables, constants, again, data_with_labels]

@@ -2,7 +2,7 @@
 from .forms import BRANCHES, BY_NAME, PAIRS, UNCONDITIONAL
 from .judging import Judge
 from .reading import Refused, line_of
-from .values import count_name, holds_name
+from .values import count_name, holds_name, names_in
 
 PATTERNS = [("inverted", a, b) for pair in PAIRS for a, b in (pair, pair[::-1])] + [("trampoline", k, k) for k in BRANCHES]
 SHRINKS = {"Jmpf": ["Br", "Jmp"], "Callf": ["Call"]}
@@ -37,15 +37,26 @@ class Rewriter:
                     and [self.judged.worth(place, a) for a in s.args] == [0x10D, 0])
         return False
 
+    def holds_label(self, place, tree, moving):
+        return any(self.judged.key(place, n) in moving for n in names_in(tree))
+
+    def moving(self):
+        """C-15: the names that move with the code: labels, and variables that hold one of those above them."""
+        moving = set()
+        for place, s in enumerate(self.slots):
+            if s.kind == "label" or s.kind == "variable" and self.holds_label(place, s.args[0], moving):
+                moving.add(self.judged.key(place, s.name))
+        return moving
+
     def anchor(self):
-        origins, anchored = {}, {}
+        origins, anchored, moving = {}, {}, self.moving()
         for place, s in enumerate(self.slots):
             for offset in range(s.size):
                 origins[self.judged.positions[place] + offset] = (place, offset)
         for place, s in enumerate(self.slots):
-            if s.kind == "instr" and s.form.is_transfer and not holds_name(s.args[-1]) and not self.is_change_jump(place):
+            if s.kind == "instr" and s.form.is_transfer and not self.holds_label(place, s.args[-1], moving) and not self.is_change_jump(place):
                 origin = origins.get(self.judged.worth(place, s.args[-1]))
-                if origin:
+                if origin and not (holds_name(s.args[-1]) and self.ways.has("a target with a constant stays")):
                     anchored[place] = s.with_form(s.form, ("inner",) + origin)
         for place, s in anchored.items():
             self.slots[place] = s

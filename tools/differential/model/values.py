@@ -67,6 +67,13 @@ def holds_name(tree):
     return not isinstance(tree, int) and (tree[0] in ("name", "inner") or any(holds_name(t) for t in tree[1:] if isinstance(t, tuple)))
 
 
+def names_in(tree):
+    """The names that a tree holds."""
+    if isinstance(tree, int) or tree[0] in ("number", "inner"):
+        return []
+    return [tree[1]] if tree[0] == "name" else [n for part in tree[1:] for n in names_in(part)]
+
+
 def count_name(tree, name):
     if isinstance(tree, int) or tree[0] in ("number", "inner"):
         return 0

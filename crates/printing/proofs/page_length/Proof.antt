@@ -23,13 +23,13 @@ returns : tie.Need-returns
 returns c =
     let a = c .before .before .answer .given in
     let n = a .0 .0 .listing in
-    (sym (ap pageLength (a .1) ∙ cond-true (leb n 50176) (n + 13) 50189 (le-leb n 50176 (c .if1 .taken))), omega (arith, c .if1 .taken))
+    (sym (ap pageLength (a .1) ∙ cond-true (leb n 62469) (n + 13) 62482 (le-leb n 62469 (c .if1 .taken))), omega (arith, c .if1 .taken))
 
 returns-2 : tie.Need-returns-2
 returns-2 c =
     let a = c .before .before .answer .given in
     let n = a .0 .0 .listing in
-    (sym (ap pageLength (a .1) ∙ cond-false (leb n 50176) (n + 13) 50189 (lt-leb n 50176 (c .if1 .left))), omega arith)
+    (sym (ap pageLength (a .1) ∙ cond-false (leb n 62469) (n + 13) 62482 (lt-leb n 62469 (c .if1 .left))), omega arith)
 
 returns-3 : tie.Need-returns-3
 returns-3 c = search needs

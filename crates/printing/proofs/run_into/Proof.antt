@@ -12,7 +12,7 @@ slice-relend-prefix-optimize-jumps c = search needs
 slice-aggregate-optimize-jumps : tie.Need-slice-aggregate-optimize-jumps
 slice-aggregate-optimize-jumps c =
     let s = c .before .before .before .before in
-    omega (arith, s .pre, length-take 50176 (s .args .page .now))
+    omega (arith, s .pre, length-take 62469 (s .args .page .now))
 
 optimize-jumps-requires : tie.Need-optimize-jumps-requires
 optimize-jumps-requires c κs = search needs

@@ -1,15 +1,21 @@
 -- `anchors::anchoring::origin_at` meets its contract: a transfer that is no change jump, and the value of its target.
 use mathlib.Core.Path.{_≡_, sym, ap, _∙_}
 use mathlib.Core.Bool.{true}
+use mathlib.Core.List.{List}
 use Prim.Native.Nat.{ℕ}
 use borrow.Author.Needs.{needs}
 use borrow.Author.Tests.{not-true, not-false}
 use Rattle.rules.specs.Forms.{isTransfer}
+use Rattle.rules.specs.Programs.{argsOf, lastOf}
 use Rattle.rules.specs.Layout.{origin}
+use Rattle.rules.specs.Names.{Key}
+use Rattle.expression.specs.Environment.{keysOf}
+use Rattle.slots.specs.Slots.{written}
 use Rattle.image.specs.Tables.{Tables, tables, program}
 use Rattle.asm.specs.Belonging.{originAs}
 use Rattle.asm.proofs.Carrying.{positioned-any}
 use Rattle.patterns.specs.Targets.{standsAt, formIn}
+use Rattle.anchors.specs.Anchored.{constantValue}
 use Rattle.anchors.proofs.Targets.{origin-other, origin-change, own-target, origin-target}
 use Rattle.anchors.proofs.anchoring.origin_at.Statement.{statement}
 use Rattle.anchors.proofs.anchoring.origin_at.Tie as tie
@@ -22,6 +28,9 @@ module _ (s : tie.Start) where
 
   abbrev place : ℕ
   place = s .args .at .0
+
+  abbrev moving : List Key
+  moving = keysOf (s .args .moving .now) (s .args .contexts .now) (s .args .count)
 
 form-at-requires : tie.Need-form-at-requires
 form-at-requires c κs = c .before .pre .0 .sound .held
@@ -37,7 +46,7 @@ returns c =
     let k = c .before in
     let s = k .before .before .before in
     let d = here s in
-    record { answer = sym (ap originAs (origin-other (d .entries) (program d) (place s) (sym (tested k) ∙ not-true _ (c .if1 .taken)))); inside = tt }
+    record { answer = sym (ap originAs (origin-other (d .entries) (moving s) (program d) (place s) (sym (tested k) ∙ not-true _ (c .if1 .taken)))); inside = tt }
 
 is-change-jump-requires : tie.Need-is-change-jump-requires
 is-change-jump-requires c κs = let s = c .before .before .before .before in (s .pre .0, s .pre .2)
@@ -47,7 +56,7 @@ returns-2 c =
     let j = c .before in
     let s = j .before .before .before .before .before in
     let d = here s in
-    record { answer = sym (ap originAs (origin-change (d .entries) (program d) (place s) (sym (j .is-change-jump .ensures) ∙ c .if2 .taken))); inside = tt }
+    record { answer = sym (ap originAs (origin-change (d .entries) (moving s) (program d) (place s) (sym (j .is-change-jump .ensures) ∙ c .if2 .taken))); inside = tt }
 
 -- a transfer
 moves : (c : tie.Else1) → let s = c .before .before .before .before in isTransfer (formIn (standsAt (here s .slots) (place s))) ≡ true
@@ -78,10 +87,12 @@ returns-3 c =
     record {
       answer =
           f .answer
-          ∙ ap (λ x. originAs (origin (program d) x)) (v .target-value .ensures)
+          ∙ ap (λ x. originAs (origin (program d) x))
+          (v .target-value .ensures
+          ∙ ap (λ (k : ℕ). constantValue (d .entries) (moving s) k (lastOf (argsOf (written (d .slots) (place s))))) (s .pre .0 .context (place s) (s .pre .2)))
           ∙ sym
           (ap originAs
-          (origin-target (d .slots) (s .pre .0 .sound) (s .pre .1) (place s) (s .pre .2) (moves m) (d .entries) (sym (j .is-change-jump .ensures) ∙ v .before .if2 .left)));
+          (origin-target (d .slots) (s .pre .0 .sound) (s .pre .1) (place s) (s .pre .2) (moves m) (d .entries) (moving s) (sym (j .is-change-jump .ensures) ∙ v .before .if2 .left)));
       inside = f .inside;
     }
 

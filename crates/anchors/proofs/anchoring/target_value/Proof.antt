@@ -1,15 +1,22 @@
 -- `anchors::anchoring::target_value` meets its contract: the target reads where its frame says.
 use mathlib.Core.Path.{_≡_, sym, ap, _∙_}
+use mathlib.Core.List.{List}
+use Prim.Native.Nat.{ℕ, _<_}
+use native.Mathlib.Omega.{arith}
+use lib.ListN.{getD}
 use borrow.Author.Needs.{needs}
 use Rattle.laws.proofs.Tests.{cond-true, cond-false}
-use Rattle.rules.specs.Expressions.{Expr, readExpr, got, holdsName}
-use Rattle.rules.specs.Programs.{value, argsOf, lastOf}
+use Rattle.rules.specs.declared.Outcome.{Outcome}
+use Rattle.rules.specs.Expressions.{Expr, readExpr, got}
+use Rattle.rules.specs.Programs.{Operand, value, argsOf, lastOf}
+use Rattle.rules.specs.Names.{Key}
+use Rattle.rules.specs.Rewriting.{holdsLabel}
+use Rattle.expression.specs.Environment.{entriesOf, keysOf}
 use Rattle.listing.specs.Tables.{frameAt, inputAt}
 use Rattle.slots.proofs.Frames.{Reads}
 use Rattle.patterns.specs.Targets.{lastBytes}
 use Rattle.patterns.proofs.Instructions.{target-reads}
-use Rattle.anchors.specs.Anchored.{bareValue}
-use Rattle.anchors.proofs.Targets.{no-names}
+use Rattle.anchors.specs.Anchored.{constantValue}
 use Rattle.anchors.proofs.anchoring.target_value.Statement.{statement}
 use Rattle.anchors.proofs.anchoring.target_value.Tie as tie
 
@@ -19,27 +26,51 @@ target : (s : tie.Start)
     × (lastOf (argsOf (inputAt (s .args .frames .now) (s .args .starts .now) (s .args .at .0))) ≡ value e)
 target s = target-reads _ _ _ (s .pre .0) (s .args .at .0) (s .pre .1)
 
-reads : (c : tie.After-target-in) → let r = target (c .before .before) in readExpr (c .target-in .result .now) ≡ got (r .0) (r .1 .width)
-reads c = ap readExpr (c .target-in .ensures) ∙ target (c .before .before) .1 .reads
+module _ (s : tie.Start) where
+  abbrev moving : List Key
+  moving = keysOf (s .args .moving .now) (s .args .contexts .now) (s .args .count)
 
-held : (c : tie.After-holds-name) → let r = target (c .before .before .before) in c .holds-name .result ≡ holdsName (r .0)
-held c = let r = target (c .before .before .before) in c .holds-name .ensures (r .0) (r .1 .width) (reads (c .before))
+  abbrev context : ℕ
+  context = getD (s .args .contexts .now) (s .args .at .0) 0
+
+  -- what the contract says of an operand
+  abbrev answer : Operand → Outcome
+  answer = constantValue (entriesOf (s .args .names .now) (s .args .contexts .now) (s .args .values .now) (s .args .count)) moving context
+
+inside : (s : tie.Start) → s .args .at .0 < 1024
+inside s = omega (arith, s .pre .0 .few, s .pre .1 .inside)
+
+reads : (c : tie.After-target-in) → let r = target (c .before .before .before) in readExpr (c .target-in .result .now) ≡ got (r .0) (r .1 .width)
+reads c = ap readExpr (c .target-in .ensures) ∙ target (c .before .before .before) .1 .reads
+
+held : (c : tie.After-holds-label) →
+    let s = c .before .before .before .before in
+    c .holds-label .result ≡ holdsLabel (moving s) (context s) (target s .0)
+held c = let r = target (c .before .before .before .before) in c .holds-label .ensures (r .0) (r .1 .width) (reads (c .before))
 
 returns : tie.Need-returns
 returns c =
     let h = c .before in
-    let r = target (h .before .before .before) in
-    sym (ap bareValue (r .2) ∙ cond-true (holdsName (r .0)) _ _ (sym (held h) ∙ c .if1 .taken))
+    let s = h .before .before .before .before in
+    let r = target s in
+    sym (ap (answer s) (r .2) ∙ cond-true (holdsLabel (moving s) (context s) (r .0)) _ _ (sym (held h) ∙ c .if1 .taken))
 
 returns-2 : tie.Need-returns-2
 returns-2 c =
     let h = c .before .before in
-    let s = h .before .before .before in
+    let s = h .before .before .before .before in
     let r = target s in
     c .worth-of .ensures (r .0) (r .1 .width) (reads (h .before))
-    ∙ no-names (s .args .names .now) (s .args .contexts .now) (s .args .values .now) 0 (r .0)
-    ∙ sym (ap bareValue (r .2) ∙ cond-false (holdsName (r .0)) _ _ (sym (held h) ∙ c .before .if1 .left))
+    ∙ sym (ap (answer s) (r .2) ∙ cond-false (holdsLabel (moving s) (context s) (r .0)) _ _ (sym (held h) ∙ c .before .if1 .left))
 
 pub target-value-spec : {M : Type 1} → statement M
 target-value-spec =
-    tie.close (tie.spec (λ c κs. search needs) (λ c κs. search needs) returns (λ c κs. search needs) returns-2)
+    tie.close
+    (tie.spec
+    (λ c. omega (arith, inside (c .before)))
+    (λ c. omega (arith, inside (c .before)))
+    (λ c κs. search needs)
+    (λ c κs. search needs)
+    returns
+    (λ c κs. search needs)
+    returns-2)

@@ -1,0 +1,66 @@
+// C-15: the names that move with the code: labels, and variables that hold a label "directly or through variables", which stand above. A
+// variable is looked into once a run.
+use crate::NO_NAME;
+use crate::VARIABLE;
+use crate::names::name_at;
+use expression::holds_label;
+use rules::Place;
+use slots::frame_at;
+use slots::kind_at;
+ghost use mathlib.Core.Path.{_≡_};
+ghost use Prim.Native.Nat.{_<_};
+ghost use lib.ListN.{length, getD};
+ghost use Rattle.rules.specs.Rewriting.{movingOf};
+ghost use Rattle.expression.specs.Environment.{keysOf};
+ghost use Rattle.listing.specs.Tables.{Held};
+ghost use Rattle.slots.specs.Slots.{slotAt, programOf};
+ghost use Rattle.env.specs.Tables.{Any, InContext, MovesAs};
+
+// The name that the statement in a slot defines, if it moves; `moving` has those of the places above.
+fn moving_at(
+    frames: &[u8],
+    starts: &[u16; 1025],
+    count: usize,
+    forms: &[u8; 1024],
+    contexts: &[u16; 1024],
+    moving: &[u32; 1024],
+    at: Place,
+) -> u32
+    requires { ⌜ Held (now frames) (now starts) count × (at .0 < count) ⌝ }
+    ensures { λ r. ⌜ Any (now (frames .entry)) (now (starts .entry)) count (now (forms .entry))
+        (λ t. MovesAs (keysOf (now (moving .entry)) (now (contexts .entry)) (at .0)) (getD (now (contexts .entry)) (at .0) 0)
+        (slotAt t (at .0)) r) ⌝ }
+{
+    let name = name_at(frames, starts, count, forms, at);
+    if kind_at(frames, starts, count, forms, at) != VARIABLE {
+        return name;
+    }
+    let frame = frame_at(frames, starts, count, at);
+    let i = at.0;
+    // "above it": the places below i
+    if holds_label(&frame[3..], moving, contexts, i, contexts[i]) {
+        return name;
+    }
+    NO_NAME
+}
+
+// Fills the name that each place defines, if it moves.
+pub fn fill_moving(
+    frames: &[u8],
+    starts: &[u16; 1025],
+    count: usize,
+    forms: &[u8; 1024],
+    contexts: &[u16; 1024],
+    moving: &mut [u32; 1024],
+)
+    requires { ⌜ Held (now frames) (now starts) count × (length (now moving) ≡ 1024)
+        × Any (now frames) (now starts) count (now forms) (λ t. InContext t (now contexts)) ⌝ }
+    ensures { λ _. ⌜ Any (now (frames .entry)) (now (starts .entry)) count (now (forms .entry))
+        (λ t. keysOf (now (moving .exit)) (now (contexts .entry)) count ≡ movingOf (programOf t)) ⌝ }
+{
+    let mut i = 0;
+    while i < count {
+        moving[i] = moving_at(frames, starts, count, forms, contexts, moving, Place(i));
+        i += 1;
+    }
+}
