@@ -16,6 +16,7 @@
 static struct text one, two, *text = &one, *before = &two;
 static uint64_t calls, done, refusals[13];
 static double longest;
+static unsigned asked; /* the settings, by number: 1 keeps comments, 2 lets Callf shrink, 4 lets folds run */
 
 /* A room that ends where a page begins that nobody may touch: a step beyond it is a crash. */
 struct room {
@@ -101,7 +102,7 @@ static struct mortarbee_reply call(int rewrite, size_t out_n, size_t image_n, ui
     lend(&image_room, image_n, fill + 1);
     alarm(HANG);
     double began = now();
-    r = rewrite ? mortarbee_optimize_jumps(1, 1, 1, listing_room.start, listing_room.n, out_room.start, out_n, image_room.start, image_n)
+    r = rewrite ? mortarbee_optimize_jumps(asked & 1, asked >> 1 & 1, asked >> 2 & 1, listing_room.start, listing_room.n, out_room.start, out_n, image_room.start, image_n)
                 : mortarbee_assemble(listing_room.start, listing_room.n, image_room.start, image_n);
     double took = now() - began;
     alarm(0);
@@ -170,7 +171,8 @@ static struct mortarbee_reply try_entry(int rewrite) {
     return r;
 }
 
-static void hand_over(void) {
+static void hand_over(uint64_t number) {
+    asked = number % 8;
     lend(&listing_room, text->n, 0);
     memcpy(listing_room.start, text->at, text->n);
     struct mortarbee_reply plain = try_entry(0);
@@ -201,7 +203,7 @@ int main(int argc, char **argv) {
     uint64_t texts = 0;
     while (now() < end) {
         make(text, before);
-        hand_over();
+        hand_over(texts);
         texts++;
         struct text *swap = before;
         before = text;

@@ -86,6 +86,27 @@ def any_variable_moves(self, place, tree, moving):
     return bool(values.names_in(tree))
 
 
+def size_remembered(self, position):
+    """The size of a pad where it first came."""
+    if not hasattr(self, "first"):
+        self.first = right_size(self, position)
+    return self.first if self.kind == "pad" else self.size
+
+
+def offsets_unasked(self, at, changes):
+    """A candidate whose pads hold any offset."""
+    sizes = Judge.layout
+    def generous(judge):
+        sizes(judge)
+        judge.sizes = [max(n, 512) if s is not None and s.kind == "pad" else n for n, s in zip(judge.sizes, judge.slots)]
+    with patch(Judge, "layout", generous):
+        taken = Rewriter.right_attempt(self, at, changes)
+    self.judged = Judge(self.slots, self.ways, "candidate").run()
+    return taken
+
+
+right_size = reading.Statement.size_at
+
 MUTANTS = {
     "rel8 from the instruction's start": lambda: wrong_field(lambda j, p, kind, n: n - j.slots[p].size if kind == "rel8" else n),
     "the page of the instruction's start": lambda: wrong_field(lambda j, p, kind, n: n - j.slots[p].size if kind == "a12" else n),
@@ -105,6 +126,8 @@ MUTANTS = {
     "labels looked for in the target alone": lambda: patch(Rewriter, "moving", labels_alone),
     "no variable is a constant": lambda: patch(Rewriter, "holds_label", any_variable_moves),
     "comments significant": lambda: patch(Rewriter, "following", comments_count),
+    "a pad is as long as on the input": lambda: patch(reading.Statement, "size_at", size_remembered),
+    "a pad may become too short for a number": lambda: patch(Rewriter, "attempt", offsets_unasked),
 }
 
 

@@ -9,7 +9,7 @@ import sys
 from pathlib import Path
 
 ROOT = Path(__file__).resolve().parents[2]
-TABLES = ["Points", "RunsReading", "RunsJudging", "RunsRules", "RunsFolds", "RunsSettings"]
+TABLES = ["Points", "RunsReading", "RunsJudging", "RunsRules", "RunsFolds", "RunsSettings", "RunsPads"]
 ROW = re.compile(r'^\s+(turns|keeps|encodes|refuses|faults|prints|turnsByDefault|turnsWith(?: (?:true|false)){3}) "((?:[^"\\]|\\.)*)"(.*?)(?: ∷)?$')
 DOCUMENT_01, BY_DEFAULT = 7, 6  # settings by number: 1 keeps comments, 2 lets Callf shrink, 4 lets folds run
 

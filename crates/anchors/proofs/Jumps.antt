@@ -17,7 +17,7 @@ use Rattle.rules.specs.declared.Outcome.{Outcome}
 use Rattle.rules.specs.declared.Outcome.the-variants.{Is}
 use Rattle.rules.specs.Values.{isNumber}
 use Rattle.rules.specs.Forms.{formAt, operandsAt, jmpf, not1}
-use Rattle.rules.specs.Programs.{Operand, register, Stmt, gone, instr, label, variable, comment, org, bytes, words, Program, at, isForm, argsOf, kindOf}
+use Rattle.rules.specs.Programs.{Operand, register, Stmt, gone, instr, label, variable, comment, org, bytes, words, pad, Program, at, isForm, argsOf, kindOf}
 use Rattle.rules.specs.Layout.{after, position}
 use Rattle.rules.specs.Names.{Entry, contextAt}
 use Rattle.rules.specs.Judging.{worthOf}
@@ -44,6 +44,7 @@ skipped-kind (comment x) = refl
 skipped-kind (org l) = refl
 skipped-kind (bytes es) = refl
 skipped-kind (words es) = refl
+skipped-kind (pad add m) = refl
 
 module _ (p : Program) where
   nearest-from : (j : ℕ) (b : Bool) → skipped (at p j) ≡ b → nearest p (suc j) ≡ cond b (nearest p j) (some j)
@@ -87,6 +88,7 @@ is-form f l (comment x) = sym (ne-eqb goneForm f (λ e. omega arith))
 is-form f l (org m) = sym (ne-eqb goneForm f (λ e. omega arith))
 is-form f l (bytes es) = sym (ne-eqb goneForm f (λ e. omega arith))
 is-form f l (words es) = sym (ne-eqb goneForm f (λ e. omega arith))
+is-form f l (pad add m) = sym (ne-eqb goneForm f (λ e. omega arith))
 
 pub form-yes : (f : ℕ) → f < goneForm → (s : Stmt) → formIn s ≡ f → isForm f s ≡ true
 form-yes f l s e = is-form f l s ∙ eq-eqb (formIn s) f e

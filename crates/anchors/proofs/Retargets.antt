@@ -14,7 +14,7 @@ use Rattle.laws.proofs.Counts.{tab-is}
 use Rattle.rules.specs.declared.Outcome.{Outcome}
 use Rattle.rules.specs.declared.Outcome.the-variants.{Is, Unknown, Nothing}
 use Rattle.rules.specs.Forms.{isTransfer}
-use Rattle.rules.specs.Programs.{Operand, register, value, inner, Stmt, gone, instr, label, variable, comment, org, bytes, words, argsOf, lastOf, onLast, retarget, Program, at, kindOf}
+use Rattle.rules.specs.Programs.{Operand, register, value, inner, Stmt, gone, instr, label, variable, comment, org, bytes, words, pad, argsOf, lastOf, onLast, retarget, Program, at, kindOf}
 use Rattle.rules.specs.Layout.{Origin, origin}
 use Rattle.rules.specs.Names.{Key, Entry, Placed, contextAt, placed}
 use Rattle.rules.specs.Judging.{worth, namesOf}
@@ -122,6 +122,7 @@ module _ (t : Slots) (s : Sound t) (r : AsRead t) (owners offsets : List ℕ) (n
     other-left (org m) n = refl
     other-left (bytes es) n = refl
     other-left (words es) n = refl
+    other-left (pad add m) n = refl
 
     module _ (e : kindOf (slotAt t i) ≡ 1) (d : kindOf (slotAt u i) ≡ 1) where
       -- the instruction, with the target that it carries

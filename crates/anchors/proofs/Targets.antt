@@ -16,7 +16,7 @@ use Rattle.laws.proofs.Tests.{clash, true-false, first-false, second-false, and
 use Rattle.rules.specs.declared.Outcome.the-variants.{Is}
 use Rattle.rules.specs.Values.{nat}
 use Rattle.rules.specs.Forms.{formAt, isTransfer}
-use Rattle.rules.specs.Programs.{Stmt, gone, instr, label, variable, comment, org, bytes, words, argsOf, lastOf, Program, at}
+use Rattle.rules.specs.Programs.{Stmt, gone, instr, label, variable, comment, org, bytes, words, pad, argsOf, lastOf, Program, at}
 use Rattle.rules.specs.Layout.{originFrom, origin}
 use Rattle.rules.specs.Names.{Key, Entry, contextAt}
 use Rattle.rules.specs.Rewriting.{isChangeJump, isAnchored}
@@ -63,6 +63,7 @@ anchored-form names p i (comment x) = refl
 anchored-form names p i (org l) = refl
 anchored-form names p i (bytes es) = refl
 anchored-form names p i (words es) = refl
+anchored-form names p i (pad add m) = refl
 
 module _ (names : List Entry) (moving : List Key) (p : Program) (i : ℕ) where
   abbrev test : Bool

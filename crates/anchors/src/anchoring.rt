@@ -25,9 +25,8 @@ ghost use Rattle.expression.specs.Environment.{entriesOf, keysOf};
 ghost use Rattle.rules.specs.Values.{nat};
 ghost use Rattle.listing.specs.Tables.{inputAt, Held};
 ghost use Rattle.env.specs.Tables.{Any};
-ghost use Rattle.slots.specs.Slots.{slots, programOf};
+ghost use Rattle.slots.specs.Slots.{slots, programOf, Positioned};
 ghost use Rattle.image.specs.Tables.{tables, program, Ready};
-ghost use Rattle.asm.specs.Belonging.{Positioned};
 ghost use Rattle.patterns.specs.Targets.{TargetIn};
 ghost use Rattle.anchors.specs.Anchored.{constantValue, originAt, ownerIn, offsetIn, Small, Found, AsRead, Anchored};
 

@@ -6,14 +6,13 @@ use Prim.Native.Nat.{ℕ, zero, suc, _<_}
 use native.Mathlib.Omega.{arith}
 use lib.Dec.{eqb}
 use lib.ListN.{getD, length}
-use Rattle.rules.specs.Programs.{Placeℕ, Addressℕ, Operand, Stmt, gone, instr, label, variable, comment, org, bytes, words, Instruction, onInstr, Program, at}
+use Rattle.rules.specs.Programs.{Placeℕ, Addressℕ, Operand, Stmt, gone, instr, label, variable, comment, org, bytes, words, pad, Instruction, onInstr, Program, at}
 use Rattle.rules.specs.Layout.{after, positionFrom, position}
 use Rattle.rules.specs.Names.{enter, contextFrom, contextAt}
-use Rattle.slots.specs.Slots.{Slots, slots, goneForm, written, reformed, slotAt, programOf}
+use Rattle.slots.specs.Slots.{Slots, slots, goneForm, written, reformed, slotAt, programOf, Positioned}
 use Rattle.env.specs.Tables.{Any}
 use Rattle.env.proofs.Programs.{length-program, at-program}
 use Rattle.asm.specs.Assembling.{Placed}
-use Rattle.asm.specs.Belonging.{Positioned}
 
 -- what does not look at an instruction's target is the same of both
 either : (F : Stmt → ℕ) (f g : Instruction → Stmt) → ((x : Instruction) → F (f x) ≡ F (g x)) → (b : Bool) (s : Stmt)
@@ -27,6 +26,7 @@ either F f g e false (comment x) = refl
 either F f g e false (org l) = refl
 either F f g e false (bytes es) = refl
 either F f g e false (words es) = refl
+either F f g e false (pad add m) = refl
 
 -- statements that enter the same contexts
 context-same : (k : ℕ) (p q : Program) → length p ≡ length q → ((j : Placeℕ) (m : ℕ) → j < length p → enter m (at p j) ≡ enter m (at q j))

@@ -10,7 +10,7 @@ use borrow.Author.Tests.{leb-true}
 use Rattle.rules.specs.declared.Refusal.{Refusal}
 use Rattle.rules.specs.declared.Refusal.the-variants.{Back}
 use Rattle.rules.specs.Answers.{atPlace, Judged, ok, no, _>>_, checkEach}
-use Rattle.rules.specs.Programs.{Stmt, gone, instr, label, variable, comment, org, bytes, words, Program, asName}
+use Rattle.rules.specs.Programs.{Stmt, gone, instr, label, variable, comment, org, bytes, words, pad, Program, asName}
 use Rattle.rules.specs.Layout.{after, position, positionFrom}
 use Rattle.rules.specs.Names.{placed, placedFrom, enter}
 use Rattle.rules.specs.Judging.{settles, noNameTwice, positionsFit, defineAll}
@@ -50,6 +50,7 @@ after-rises i q (comment x) u e = omega arith
 after-rises i q (org l) u e = leb-true q l (require-ok (leb q l) (Back (atPlace i)) (ok tt) u e .0)
 after-rises i q (bytes es) u e = omega arith
 after-rises i q (words es) u e = omega arith
+after-rises i q (pad add m) u e = omega arith
 
 rises-from : (i k q : ℕ) (p : Program) (u : Unit {0}) → checkEach (λ x. settles (x .place) (x .position) (x .stmt)) (placedFrom i k q p) ≡ ok u
     → (j : ℕ) → j < length p → positionFrom q p j ≤ positionFrom q p (suc j)

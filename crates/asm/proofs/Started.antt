@@ -13,7 +13,7 @@ use Rattle.rules.specs.Forms.{isTransfer, operandsAt}
 use Rattle.rules.specs.Programs.{Operand, register, Stmt, instr, Instruction, onInstr, argsOf, lastOf, onLast, kindOf}
 use Rattle.listing.specs.Tables.{frameAt, inputAt, inputOf, Held}
 use Rattle.slots.specs.Slots.{Slots, slots, goneForm, noOwner, written, targetOf, aimedAt, slotAt, programOf, isReg, Agree, WroteTarget, Sound}
-use Rattle.slots.proofs.Frames.{Frame, InstrFrame, ofInstr, ofLabel, ofVariable, ofComment, ofOrg, ofBytes, ofWords}
+use Rattle.slots.proofs.Frames.{Frame, InstrFrame, ofInstr, ofLabel, ofVariable, ofComment, ofOrg, ofBytes, ofWords, ofPad}
 use Rattle.slots.proofs.Tables.{frame-is}
 use Rattle.slots.proofs.Slots.{slot-instr, slot-other, kind-kept, kind-read, written-frame}
 use Rattle.asm.specs.Starting.{formIn}
@@ -74,6 +74,7 @@ module _ (frames starts : List ℕ) (n : ℕ) (h : Held frames starts n) (forms 
       on (ofOrg f) = slot-plain i l (λ e. omega (arith, f .kind))
       on (ofBytes f) = slot-plain i l (λ e. omega (arith, f .kind))
       on (ofWords f) = slot-plain i l (λ e. omega (arith, f .kind))
+      on (ofPad f) = slot-plain i l (λ e. omega (arith, f .kind))
 
   -- the slots hold the listing's statements
   pub program-as-read : programOf t ≡ inputOf frames starts n

@@ -6,10 +6,12 @@ use image::encode_all;
 use image::encodes_at;
 use rules::Place;
 ghost use mathlib.Core.Path.{_≡_};
+ghost use mathlib.Core.Bool.{true};
 ghost use Prim.Native.Nat.{_<_};
+ghost use lib.ListN.{length};
 ghost use Rattle.rules.specs.Answers.{isOk};
 ghost use Rattle.rules.specs.Judging.{assembles};
-ghost use Rattle.slots.specs.Slots.{slots, programOf, Sound};
+ghost use Rattle.slots.specs.Slots.{slots, programOf, Positioned, Sound};
 ghost use Rattle.image.specs.Tables.{tables, Ready};
 ghost use Rattle.image.specs.Encoding.{encodeSlots};
 ghost use Rattle.asm.specs.Assembling.{Placed, Once};
@@ -66,8 +68,8 @@ fn encodes_all(
     }
 }
 
-// Whether the program assembles. It looks first where it is likely to fail: at the statement that a rewrite changed. `contexts` are those of the
-// slots, and no name is defined twice.
+// Whether the program assembles, and where it does, its positions. It looks first where it is likely to fail: at the statement that a rewrite
+// changed. `contexts` are those of the slots, and no name is defined twice.
 pub fn assembles(
     frames: &[u8],
     starts: &[u16; 1025],
@@ -78,12 +80,15 @@ pub fn assembles(
     offsets: &[u16; 1024],
     contexts: &[u16; 1024],
     hint: Place,
+    positions: &mut [u32; 1025],
 ) -> bool
-    requires { ⌜ Sound (slots (now frames) (now starts) count (now forms) (now carry) (now owners) (now offsets)) × Placed (slots (now frames) (now starts) count (now forms) (now carry) (now owners) (now offsets)) (now contexts) × Once (slots (now frames) (now starts) count (now forms) (now carry) (now owners) (now offsets)) × (hint .0 < count) ⌝ }
-    ensures { λ r. ⌜ r ≡ assembles (programOf (slots (now (frames .entry)) (now (starts .entry)) count (now (forms .entry)) (now (carry .entry)) (now (owners .entry)) (now (offsets .entry)))) ⌝ }
+    requires { ⌜ (let t = slots (now frames) (now starts) count (now forms) (now carry) (now owners) (now offsets) in
+        Sound t × Placed t (now contexts) × Once t × (hint .0 < count) × (length (now positions) ≡ 1025)) ⌝ }
+    ensures { λ r. ⌜ (let t = slots (now (frames .entry)) (now (starts .entry)) count (now (forms .entry))
+        (now (carry .entry)) (now (owners .entry)) (now (offsets .entry)) in
+        (r ≡ assembles (programOf t)) × (r ≡ true → Positioned t (now (positions .exit)))) ⌝ }
 {
     let mut names = [65536u32; 1024];
-    let mut positions = [0u32; 1025];
     let mut values = [0i32; 1024];
     fill_names(frames, starts, count, forms, &mut names);
     match lay_and_define(
@@ -93,7 +98,7 @@ pub fn assembles(
         forms,
         &names,
         contexts,
-        &mut positions,
+        positions,
         &mut values,
     ) {
         Checked::Refused(_) => false,
@@ -108,7 +113,7 @@ pub fn assembles(
             &names,
             contexts,
             &values,
-            &positions,
+            positions,
             hint,
         ),
     }

@@ -9,8 +9,9 @@ ghost use Prim.Native.Nat.{_+_, _<_};
 ghost use lib.Dec.{leb, ltb};
 ghost use lib.ListN.{getD};
 ghost use Rattle.listing.specs.Tables.{Held};
+ghost use Rattle.slots.specs.Slots.{Positioned};
 ghost use Rattle.env.specs.Tables.{Any};
-ghost use Rattle.asm.specs.Belonging.{Positioned, FoundAs};
+ghost use Rattle.asm.specs.Belonging.{FoundAs};
 
 // A position of the table.
 fn position_in(x: u32) -> Address
@@ -44,7 +45,7 @@ pub fn origin_of(
     let mut i = 0;
     while i < count {
         let from = position_in(positions[i]);
-        let size = size_at(frames, starts, count, forms, Place(i));
+        let size = size_at(frames, starts, count, forms, Place(i), from);
         if has_byte(from, size, address) {
             return Origin::At(Place(i), address.0 - from.0);
         }

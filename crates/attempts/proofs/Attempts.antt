@@ -11,7 +11,8 @@ use lib.Seq.{set-set, set-comm, set-getD}
 use Rattle.laws.specs.Options.{isSome, getOr}
 use Rattle.laws.proofs.Options.{given-true, given-false}
 use Rattle.laws.proofs.Tests.{false-true, second-false}
-use Rattle.rules.specs.Programs.{Program, gone, instr, argsOf, at, byteCount, kindOf}
+use Rattle.rules.specs.Programs.{Program, gone, instr, argsOf, at, kindOf}
+use Rattle.rules.specs.Layout.{sizeIn}
 use Rattle.rules.specs.Names.{enter}
 use Rattle.rules.specs.Judging.{assembles}
 use Rattle.rules.specs.Rewriting.{everyInnerLabel, acceptable, candidate, localLabel, dropAll}
@@ -49,11 +50,11 @@ and-right false b e = refl
 module _ (p : Program) (whole : Bool) (w : whole ≡ assembles p) where
   pub counts-not : whole ≡ false → false ≡ acceptable p
   unfolding acceptable
-  counts-not h = sym (second-false (everyInnerLabel (λ owner o. ltb o (byteCount (at p owner))) p) (assembles p) (sym w ∙ h))
+  counts-not h = sym (second-false (everyInnerLabel (λ owner o. ltb o (sizeIn p owner)) p) (assembles p) (sym w ∙ h))
 
-  pub counts-if : (b : Bool) → whole ≡ true → b ≡ everyInnerLabel (λ owner o. ltb o (byteCount (at p owner))) p → b ≡ acceptable p
+  pub counts-if : (b : Bool) → whole ≡ true → b ≡ everyInnerLabel (λ owner o. ltb o (sizeIn p owner)) p → b ≡ acceptable p
   unfolding acceptable
-  counts-if b h e = e ∙ sym (and-right (everyInnerLabel (λ owner o. ltb o (byteCount (at p owner))) p) (assembles p) (sym w ∙ h))
+  counts-if b h e = e ∙ sym (and-right (everyInnerLabel (λ owner o. ltb o (sizeIn p owner)) p) (assembles p) (sym w ∙ h))
 
 -- an attempt at what x comes to is one at x
 pub tried-as : (x y : Option Program) (contexts : List ℕ) (t u : Slots) (r : Bool) → x ≡ y → Tried y contexts t u r → Tried x contexts t u r

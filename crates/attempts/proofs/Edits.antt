@@ -14,7 +14,7 @@ use Rattle.laws.specs.Options.{isSome, given, bind}
 use Rattle.laws.proofs.Counts.{tab-ext, tab-set}
 use Rattle.laws.proofs.Tests.{false-true, cond-true, cond-false, eq-or-not}
 use Rattle.rules.specs.Forms.{isTransfer}
-use Rattle.rules.specs.Programs.{Operand, Stmt, gone, instr, label, variable, comment, org, bytes, words, asName, onInstr, argsOf, asLabel, lastOf, onLast, at, kindOf}
+use Rattle.rules.specs.Programs.{Operand, Stmt, gone, instr, label, variable, comment, org, bytes, words, pad, asName, onInstr, argsOf, asLabel, lastOf, onLast, at, kindOf}
 use Rattle.rules.specs.Names.{isLocal, enter, contextAt, placed}
 use Rattle.rules.specs.Judging.{noNameTwice}
 use Rattle.rules.specs.Rewriting.{localLabel, aimed}
@@ -50,6 +50,7 @@ label-quiet (comment x) e k = refl
 label-quiet (org l) e k = refl
 label-quiet (bytes es) e k = refl
 label-quiet (words es) e k = refl
+label-quiet (pad add m) e k = refl
 
 -- ---- the last operand set twice is set once
 

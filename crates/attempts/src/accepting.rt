@@ -23,6 +23,7 @@ pub fn acceptable(
     requires { ⌜ Standing (slots (now frames) (now starts) count (now forms) (now carry) (now owners) (now offsets)) (now contexts) × (hint .0 < count) ⌝ }
     ensures { λ r. ⌜ r ≡ Acceptable (programOf (slots (now (frames .entry)) (now (starts .entry)) count (now (forms .entry)) (now (carry .entry)) (now (owners .entry)) (now (offsets .entry)))) ⌝ }
 {
+    let mut positions = [0u32; 1025];
     if assembles(
         frames,
         starts,
@@ -33,8 +34,18 @@ pub fn acceptable(
         offsets,
         contexts,
         hint,
+        &mut positions,
     ) {
-        return offsets_fit(frames, starts, count, forms, carry, owners, offsets);
+        return offsets_fit(
+            frames,
+            starts,
+            count,
+            forms,
+            carry,
+            owners,
+            offsets,
+            &positions,
+        );
     }
     false
 }

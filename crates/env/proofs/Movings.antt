@@ -10,7 +10,7 @@ use lib.ListN.{length, getD, set}
 use lib.Seq.{getD-set-same}
 use Rattle.laws.proofs.Tests.{cond-true, cond-false}
 use Rattle.rules.specs.Expressions.{Expr}
-use Rattle.rules.specs.Programs.{Placeℕ, Stmt, gone, instr, label, variable, comment, org, bytes, words, at, kindOf, namingOf, asName}
+use Rattle.rules.specs.Programs.{Placeℕ, Stmt, gone, instr, label, variable, comment, org, bytes, words, pad, at, kindOf, namingOf, asName}
 use Rattle.rules.specs.Names.{Key, contextAt}
 use Rattle.rules.specs.Judging.{keysIn}
 use Rattle.rules.specs.Rewriting.{holdsLabel, movesIn, movingAfter, movingOf}
@@ -39,6 +39,7 @@ module _ (above : List Key) (k : ℕ) where
   other (org m) n = refl
   other (bytes es) n = refl
   other (words es) n = refl
+  other (pad add m) n = refl
 
   module _ (s : Stmt) (r : ℕ) where
     pub moves-other : asName s ≡ nameSaid r → (kindOf s ≡ 3 → ⊥) → MovesAs above k s r

@@ -9,17 +9,17 @@ use lib.ListN.{length, getD}
 use Rattle.laws.proofs.Tests.{eq-or-not, cond-both}
 use Rattle.rules.specs.Answers.{Judged}
 use Rattle.rules.specs.Expressions.{Expr}
-use Rattle.rules.specs.Programs.{Stmt, gone, instr, label, variable, comment, org, bytes, words, byteCount, kindOf}
+use Rattle.rules.specs.Programs.{Addressℕ, Stmt, gone, instr, label, variable, comment, org, bytes, words, pad, byteCount, kindOf}
 use Rattle.rules.specs.Layout.{position}
 use Rattle.rules.specs.Names.{contextAt}
 use Rattle.rules.specs.Judging.{items}
 use Rattle.listing.specs.Tables.{frameAt, inputAt}
 use Rattle.slots.specs.Slots.{Slots, slotAt, written, DataIn}
 use Rattle.slots.proofs.Tables.{frame-is}
-use Rattle.slots.proofs.Slots.{kind-read, kind-kept, kind-most, not-gone, slot-data}
+use Rattle.slots.proofs.Slots.{kind-read, kind-kept, not-gone, slot-data}
 use Rattle.image.specs.Tables.{Tables, program, Ready}
 use Rattle.image.specs.Encoding.{encodeAt, itemsOf, itemsIn, boundOf, writeOf}
-use Rattle.image.specs.Image.{widthOf}
+use Rattle.image.specs.Image.{widthOf, sizeOf}
 use Rattle.image.proofs.Items.{data-in}
 use Rattle.image.proofs.Passes.{encode-bytes, encode-words}
 
@@ -29,7 +29,7 @@ pub record DataSlot (d : Tables) (i : ℕ) (s : List ℕ) : Type 0 where
   pub same : itemsOf (slotAt (d .slots) i) ≡ itemsIn i s
   pub encodes : encodeAt d i ≡ items (d .entries) (boundOf (getD s 0 0)) (writeOf (getD s 0 0)) i (getD (d .contexts) i 0) 0 (itemsIn i s)
 
-module _ (d : Tables) (h : Ready d) (i : ℕ) (l : i < d .slots .count) (k : ℕ) (e : kindOf (slotAt (d .slots) i) ≡ suc (suc k)) (m : 4 ≤ k) where
+module _ (d : Tables) (h : Ready d) (i : ℕ) (l : i < d .slots .count) (k : ℕ) (e : kindOf (slotAt (d .slots) i) ≡ suc (suc k)) (m : 4 ≤ k) (n : k ≤ 5) where
   abbrev t : Slots
   t = d .slots
 
@@ -41,7 +41,7 @@ module _ (d : Tables) (h : Ready d) (i : ℕ) (l : i < d .slots .count) (k : ℕ
       sym (kind-read i frame (written t i) (frame-is (t .frames) (t .starts) (t .count) (h .sound .held) i l)) ∙ sym (kind-kept t i (not-gone t i (suc k) e))
 
   is-data : DataIn i frame
-  is-data = record { reads = h .sound .held .reads i l; kind = omega (arith, first-is) }
+  is-data = record { reads = h .sound .held .reads i l; kind = omega (arith, first-is); no-pad = omega (arith, first-is) }
 
   same-items : itemsOf (slotAt t i) ≡ itemsIn i frame
   unfolding inputAt
@@ -65,8 +65,8 @@ module _ (d : Tables) (h : Ready d) (i : ℕ) (l : i < d .slots .count) (k : ℕ
   unfolding encodeAt
   encodes-as =
       ⊎-elim (λ q. by-kind 6 q (encode-bytes (d .entries) (program d) i (contextAt (program d) i) (position (program d) i) (slotAt t i) q))
-      (λ n.
-      let q : kindOf (slotAt t i) ≡ 7 = omega (arith, kind-most (slotAt t i)) in
+      (λ o.
+      let q : kindOf (slotAt t i) ≡ 7 = omega arith in
       by-kind 7 q (encode-words (d .entries) (program d) i (contextAt (program d) i) (position (program d) i) (slotAt t i) q))
       (eq-or-not (kindOf (slotAt t i)) 6)
 
@@ -75,20 +75,21 @@ module _ (d : Tables) (h : Ready d) (i : ℕ) (l : i < d .slots .count) (k : ℕ
 
 -- as many bytes as its items have, and one at least
 module _ (d : Tables) (i : ℕ) (s : List ℕ) (h : DataSlot d i s) where
-  size-of : (x : Stmt) → 6 ≤ kindOf x → byteCount x ≡ widthOf (kindOf x) * length (itemsOf x)
-  size-of gone m = absurd (omega arith)
-  size-of (instr f xs c) m = absurd (omega arith)
-  size-of (label n) m = absurd (omega arith)
-  size-of (variable n x) m = absurd (omega arith)
-  size-of (comment x) m = absurd (omega arith)
-  size-of (org n) m = absurd (omega arith)
-  size-of (bytes es) m = let z : length es ≡ 1 * length es = omega arith in z
-  size-of (words es) m = refl
+  size-of : (q : Addressℕ) (x : Stmt) → 6 ≤ kindOf x → kindOf x ≤ 7 → byteCount q x ≡ widthOf (kindOf x) * length (itemsOf x)
+  size-of q gone m l = absurd (omega arith)
+  size-of q (instr f xs c) m l = absurd (omega arith)
+  size-of q (label n) m l = absurd (omega arith)
+  size-of q (variable n x) m l = absurd (omega arith)
+  size-of q (comment x) m l = absurd (omega arith)
+  size-of q (org n) m l = absurd (omega arith)
+  size-of q (bytes es) m l = let z : length es ≡ 1 * length es = omega arith in z
+  size-of q (words es) m l = refl
+  size-of q (pad add x) m l = absurd (omega arith)
 
-  pub data-size : byteCount (slotAt (d .slots) i) ≡ widthOf (getD s 0 0) * getD s 1 0
+  pub data-size : sizeOf d i ≡ widthOf (getD s 0 0) * getD s 1 0
   data-size =
       let x = slotAt (d .slots) i in
-      size-of x (omega (arith, h .first, h .read .kind))
+      size-of (getD (d .positions) i 0) x (omega (arith, h .first, h .read .kind)) (omega (arith, h .first, h .read .no-pad))
       ∙ ap (λ k. widthOf k * length (itemsOf x)) (sym (h .first))
       ∙ ap (λ n. widthOf (getD s 0 0) * n) (ap length (h .same) ∙ data-in i s (h .read) .items .count)
 

@@ -13,7 +13,7 @@ use Rattle.rules.specs.Answers.{Judged, ok, no, _>>=_, isOk, orD}
 use Rattle.rules.specs.Expressions.{Expr}
 use Rattle.rules.specs.Forms.{sizeAt, operandsAt}
 use Rattle.rules.specs.Patterns.{rowsOf, bytesAt}
-use Rattle.rules.specs.Programs.{Stmt, gone, instr, label, variable, comment, org, bytes, words, Program, byteCount, kindOf}
+use Rattle.rules.specs.Programs.{Stmt, gone, instr, label, variable, comment, org, bytes, words, pad, Program, upTo, byteCount, kindOf}
 use Rattle.rules.specs.Layout.{after, position, lay}
 use Rattle.rules.specs.Names.{Entry, contextAt}
 use Rattle.rules.specs.Encoding.{byte, word}
@@ -28,7 +28,7 @@ use Rattle.image.specs.declared.Encoded.{Encoded}
 use Rattle.image.specs.declared.Encoded.the-variants.{Is, Refused}
 use Rattle.image.specs.Tables.{Tables, program, Ready}
 use Rattle.image.specs.Encoding.{encodeAt, encodedAs, codeFrom, itemOf, encodeSlots}
-use Rattle.image.specs.Image.{imageOf, put}
+use Rattle.image.specs.Image.{imageOf, put, sizeOf}
 use Rattle.image.proofs.Placed.{position-start, position-after}
 use Rattle.image.proofs.Worths.{count-program, at-program}
 use Rattle.image.proofs.Items.{items-cons}
@@ -59,7 +59,7 @@ length-items names bound write w h i k j (x ∷ es) b e =
     count : {m n : ℕ} → m ≡ w * length es → n ≡ w → n + m ≡ w * suc (length es)
     count p q = rw (p, q) (omega arith)
 
-length-encode : (names : List Entry) (p : Program) (i k q : ℕ) (s : Stmt) (b : List ℕ) → encode names p i k q s ≡ ok b → length b ≡ byteCount s
+length-encode : (names : List Entry) (p : Program) (i k q : ℕ) (s : Stmt) (b : List ℕ) → encode names p i k q s ≡ ok b → length b ≡ byteCount q s
 unfolding encode
 length-encode names p i k q gone b e = ap length (sym (ok-same e))
 length-encode names p i k q (instr f xs c) b e =
@@ -71,10 +71,11 @@ length-encode names p i k q (comment x) b e = ap length (sym (ok-same e))
 length-encode names p i k q (org l) b e = ap length (sym (ok-same e))
 length-encode names p i k q (bytes es) b e = length-items names 256 byte 1 (λ v. refl) i k 0 es b e ∙ (let n : 1 * length es ≡ length es = omega arith in n)
 length-encode names p i k q (words es) b e = length-items names 65536 word 2 (λ v. refl) i k 0 es b e
+length-encode names p i k q (pad add m) b e = ap length (sym (ok-same e)) ∙ length-replicate (upTo q m + add) 0
 
 -- ---- where its bytes stand
 
-after-bytes : (q : ℕ) (s : Stmt) → 0 < byteCount s → after q s ≡ q + byteCount s
+after-bytes : (q : ℕ) (s : Stmt) → 0 < byteCount q s → after q s ≡ q + byteCount q s
 after-bytes q gone l = absurd (omega arith)
 after-bytes q (instr f xs c) l = refl
 after-bytes q (label n) l = absurd (omega arith)
@@ -83,8 +84,9 @@ after-bytes q (comment x) l = absurd (omega arith)
 after-bytes q (org m) l = absurd (omega arith)
 after-bytes q (bytes es) l = refl
 after-bytes q (words es) l = refl
+after-bytes q (pad add m) l = refl
 
-lay-bytes : (q : ℕ) (s : Stmt) (b rest : List ℕ) → 0 < byteCount s → lay q s b rest ≡ b ++ rest
+lay-bytes : (q : ℕ) (s : Stmt) (b rest : List ℕ) → 0 < byteCount q s → lay q s b rest ≡ b ++ rest
 lay-bytes q gone b rest l = absurd (omega arith)
 lay-bytes q (instr f xs c) b rest l = refl
 lay-bytes q (label n) b rest l = absurd (omega arith)
@@ -93,6 +95,7 @@ lay-bytes q (comment x) b rest l = absurd (omega arith)
 lay-bytes q (org m) b rest l = absurd (omega arith)
 lay-bytes q (bytes es) b rest l = refl
 lay-bytes q (words es) b rest l = refl
+lay-bytes q (pad add m) b rest l = refl
 
 lay-empty : (q : ℕ) (s : Stmt) → lay q s [] [] ≡ []
 lay-empty q gone = refl
@@ -103,9 +106,10 @@ lay-empty q (comment x) = refl
 lay-empty q (org m) = refl
 lay-empty q (bytes es) = refl
 lay-empty q (words es) = refl
+lay-empty q (pad add m) = refl
 
 -- what follows stands after it
-lay-length : (q : ℕ) (s : Stmt) (b rest : List ℕ) → length b ≡ byteCount s → q ≤ after q s → 0 < length rest → q + length (lay q s b rest) ≡ after q s + length rest
+lay-length : (q : ℕ) (s : Stmt) (b rest : List ℕ) → length b ≡ byteCount q s → q ≤ after q s → 0 < length rest → q + length (lay q s b rest) ≡ after q s + length rest
 lay-length q gone b rest e r l = refl
 lay-length q (instr f xs c) b rest e r l = omega (arith, length-append b rest)
 lay-length q (label n) b rest e r l = refl
@@ -115,6 +119,7 @@ lay-length q (org m) b [] e r l = absurd (omega arith)
 lay-length q (org m) b (x ∷ rest) e r l = omega (arith, length-append (replicate (m - q) 0) (x ∷ rest), length-replicate {A = ℕ} (m - q) 0)
 lay-length q (bytes es) b rest e r l = omega (arith, length-append b rest)
 lay-length q (words es) b rest e r l = omega (arith, length-append b rest)
+lay-length q (pad add m) b rest e r l = omega (arith, length-append b rest)
 
 -- ---- a slot's bytes in front of the rest
 
@@ -136,12 +141,13 @@ module _ (n q : ℕ) (s : Stmt) (rest behind : List ℕ) where
           room-gap n q (y ∷ r) behind (replicate (m - q) 0) (h (omega (arith, length-append (replicate (m - q) 0) (y ∷ r)))) (zeros (m - q))
       on (bytes es) r h = refl
       on (words es) r h = refl
+      on (pad add m) r h = refl
 
-  pub room-step : (b : List ℕ) → length b ≡ byteCount s → (0 < length (lay q s b rest) → n ≡ q + length (lay q s b rest))
+  pub room-step : (b : List ℕ) → length b ≡ byteCount q s → (0 < length (lay q s b rest) → n ≡ q + length (lay q s b rest))
       → put (roomOf n rest behind) q b ≡ roomOf n (lay q s b rest) behind
   room-step [] e h = put-none (roomOf n rest behind) q ∙ no-bytes h
   room-step (x ∷ b) e h =
-      let some : 0 < byteCount s = omega arith in
+      let some : 0 < byteCount q s = omega arith in
       let is = lay-bytes q s (x ∷ b) rest some in
       let long : 0 < length (lay q s (x ∷ b) rest) = rw is (omega arith) in
       room-put n q rest behind (x ∷ b) (h long ∙ ap (λ l. q + length l) is) ∙ ap (λ l. roomOf n l behind) (sym is)
@@ -149,7 +155,14 @@ module _ (n q : ℕ) (s : Stmt) (rest behind : List ℕ) where
 -- ---- the image of the slots
 
 module _ (d : Tables) where
-  pub bytes-count : (i : ℕ) (b : List ℕ) → encodeAt d i ≡ ok b → length b ≡ byteCount (slotAt (d .slots) i)
+  -- how many bytes the slot has by the definition's position; that is the table's
+  abbrev pub sizeHere : (i : ℕ) → ℕ
+  sizeHere i = byteCount (position (program d) i) (slotAt (d .slots) i)
+
+  pub size-here : Ready d → (i : ℕ) → i < d .slots .count → sizeOf d i ≡ sizeHere i
+  size-here h i l = ap (λ q. byteCount q (slotAt (d .slots) i)) (h .position i (omega arith))
+
+  pub bytes-count : (i : ℕ) (b : List ℕ) → encodeAt d i ≡ ok b → length b ≡ sizeHere i
   unfolding encodeAt
   bytes-count i b e = length-encode (d .entries) (program d) i (contextAt (program d) i) (position (program d) i) (slotAt (d .slots) i) b e
 
@@ -178,14 +191,15 @@ module _ (d : Tables) where
     rest-short i l (x ∷ rest) f = omega (arith, stands i l (x ∷ rest) f (omega arith))
 
     -- a slot's bytes lie within the image
-    pub slot-fits : (i : ℕ) → i < d .slots .count → 0 < byteCount (slotAt (d .slots) i) → getD (d .positions) i 0 + byteCount (slotAt (d .slots) i) ≤ length image
+    pub slot-fits : (i : ℕ) → i < d .slots .count → 0 < sizeOf d i → getD (d .positions) i 0 + sizeOf d i ≤ length image
     slot-fits i l some =
         let r = rest-ok d i (omega arith) image e in
         let s = step-ok d i l (r .0) (r .1) in
         let q = position (program d) i in
         let count = bytes-count i (s .bytes) (s .encodes) in
-        let long = ap length (s .is ∙ lay-bytes q (slotAt (d .slots) i) (s .bytes) (s .next) some) ∙ length-append (s .bytes) (s .next) in
-        omega (arith, stands i (omega arith) (r .0) (r .1) (omega (arith, long, count)), long, count, h .position i (omega arith))
+        let same = size-here h i l in
+        let long = ap length (s .is ∙ lay-bytes q (slotAt (d .slots) i) (s .bytes) (s .next) (omega (arith, some, same))) ∙ length-append (s .bytes) (s .next) in
+        omega (arith, stands i (omega arith) (r .0) (r .1) (omega (arith, long, count, same, some)), long, count, same, h .position i (omega arith))
 
     -- a slot's bytes in front of the rest: the room then holds the image from the slot on
     pub record Laid (i : ℕ) (next behind : List ℕ) : Type 0 where
@@ -233,7 +247,7 @@ module _ (d : Tables) where
   done-end rest f = sym (ok-same (sym (from-end d (d .slots .count) (omega arith)) ∙ f))
 
   -- no bytes in this slot
-  pub done-more : (i : ℕ) → i < d .slots .count → byteCount (slotAt (d .slots) i) ≡ 0 → Done (suc i) → Done i
+  pub done-more : (i : ℕ) → i < d .slots .count → sizeHere d i ≡ 0 → Done (suc i) → Done i
   done-more i l z h rest f =
       let s = step-ok d i l rest f in
       let q = position (program d) i in
@@ -242,7 +256,7 @@ module _ (d : Tables) where
       s .is ∙ ap (λ b. lay q x b (s .next)) none ∙ ap (λ r. lay q x [] r) (h (s .next) (s .follows)) ∙ lay-empty q x
 
   -- the last slot with bytes: the image ends where it does
-  pub length-found : Ready d → (image : List ℕ) → encodeSlots d ≡ ok image → (i : ℕ) → i < d .slots .count → 0 < byteCount (slotAt (d .slots) i) → Done (suc i)
+  pub length-found : Ready d → (image : List ℕ) → encodeSlots d ≡ ok image → (i : ℕ) → i < d .slots .count → 0 < sizeHere d i → Done (suc i)
       → position (program d) (suc i) ≡ length image
   length-found ready image e i l some h =
       let r = rest-ok d i (omega arith) image e in
@@ -266,7 +280,7 @@ module _ (d : Tables) where
       on (suc i) l h =
           ⊎-elim (λ z. on i (omega arith) (done-more i (omega arith) z h))
           (λ n. omega (arith, length-found ready image e i (omega arith) (omega arith) h, ready .position (suc i) l, ready .low (suc i) l))
-          (eq-or-not (byteCount (slotAt (d .slots) i)) 0)
+          (eq-or-not (sizeHere d i) 0)
 
 -- ---- an instruction's bytes, as the code holds them
 
@@ -303,4 +317,4 @@ refused (ok b) e q = clash (cc)
 refused (no r) e q = cc
 
 pub instr-short : (d : Tables) → Ready d → (i : ℕ) → i < d .slots .count → kindOf (slotAt (d .slots) i) ≡ 1 → (b : List ℕ) → encodeAt d i ≡ ok b → length b ≤ 3
-instr-short d h i l e b q = omega (arith, bytes-count d i b q, size-instr (d .slots) i e, size-bound (getD (d .slots .forms) i 0))
+instr-short d h i l e b q = omega (arith, bytes-count d i b q, size-instr (position (program d) i) (d .slots) i e, size-bound (getD (d .slots .forms) i 0))

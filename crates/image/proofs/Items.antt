@@ -19,7 +19,7 @@ use Rattle.rules.proofs.Laws.{then-ok, require-ok}
 use Rattle.encoding.specs.Operands.{ranged}
 use Rattle.encoding.proofs.Ranges.{below-lt}
 use Rattle.slots.specs.Slots.{DataIn}
-use Rattle.slots.proofs.Frames.{Left, Frame, ofInstr, ofLabel, ofVariable, ofComment, ofOrg, ofBytes, ofWords, was-read, frame-read}
+use Rattle.slots.proofs.Frames.{Left, Frame, ofInstr, ofLabel, ofVariable, ofComment, ofOrg, ofBytes, ofWords, ofPad, was-read, frame-read}
 use Rattle.slots.proofs.Operands.{readIn}
 use Rattle.slots.proofs.Items.{ItemsRead, items-read}
 use Rattle.image.specs.Encoding.{itemsOf, itemsIn, itemOf}
@@ -44,6 +44,7 @@ data-in i s h = on (frame-read i s (readIn i s) (was-read (readFrame i s) (h .re
         record { long = f .long; some = f .some; items = rw (ap itemsOf (f .is)) (items-read i s (getD s 1 0) 2 (Left (f .es) []) (f .items)) }
     on (ofWords f) =
         record { long = f .long; some = f .some; items = rw (ap itemsOf (f .is)) (items-read i s (getD s 1 0) 2 (Left (f .es) []) (f .items)) }
+    on (ofPad f) = absurd (omega (arith, f .kind, h .no-pad))
 
 module _ (names : List Entry) (bound i k : ℕ) where
   -- ---- one item: its value, or 4 or 7

@@ -4,17 +4,17 @@ use mathlib.Core.List.{List, []}
 use mathlib.Core.Bool.{true, false}
 use Prim.Native.Nat.{ℕ, zero, suc, _≤_, _<_}
 use native.Mathlib.Omega.{arith}
-use lib.ListN.{drop}
+use lib.ListN.{drop, replicate}
 use Rattle.laws.proofs.Tests.{clash, true-false}
 use Rattle.rules.specs.declared.Refusal.{Refusal}
 use Rattle.rules.specs.Answers.{Judged, ok, no, _>>=_, isOk}
-use Rattle.rules.specs.Programs.{Stmt, gone, instr, label, variable, comment, org, bytes, words, Program, kindOf}
+use Rattle.rules.specs.Programs.{Stmt, gone, instr, label, variable, comment, org, bytes, words, pad, Program, byteCount, kindOf}
 use Rattle.rules.specs.Layout.{position, lay}
 use Rattle.rules.specs.Names.{Entry, contextAt, placed}
 use Rattle.rules.specs.Encoding.{byte, word}
 use Rattle.rules.specs.Judging.{items, encode, encodeAll}
 use Rattle.rules.proofs.Laws.{then-ok}
-use Rattle.slots.specs.Slots.{slotAt}
+use Rattle.slots.specs.Slots.{slotAt, isData}
 use Rattle.image.specs.declared.Checked.the-variants.{Passes, Refused}
 use Rattle.image.specs.Tables.{Tables, program}
 use Rattle.image.specs.Encoding.{encodeAt, encodedAs, itemsOf, checkedAs, checkOf, encodeSlots}
@@ -57,16 +57,18 @@ ok-same e = cc
 -- ---- the encoding of a statement, by its kind
 
 module _ (names : List Entry) (p : Program) (i k q : ℕ) where
-  pub encode-none : (s : Stmt) → (kindOf s ≡ 1 → ⊥) → kindOf s < 6 → encode names p i k q s ≡ ok []
+  -- zeros, if any, where it is neither an instruction nor data
+  pub encode-zeros : (s : Stmt) → (kindOf s ≡ 1 → ⊥) → isData (kindOf s) ≡ false → encode names p i k q s ≡ ok (replicate (byteCount q s) 0)
   unfolding encode
-  encode-none gone n l = refl
-  encode-none (instr f xs c) n l = absurd (n refl)
-  encode-none (label m) n l = refl
-  encode-none (variable m e) n l = refl
-  encode-none (comment x) n l = refl
-  encode-none (org m) n l = refl
-  encode-none (bytes es) n l = absurd (omega arith)
-  encode-none (words es) n l = absurd (omega arith)
+  encode-zeros gone n l = refl
+  encode-zeros (instr f xs c) n l = absurd (n refl)
+  encode-zeros (label m) n l = refl
+  encode-zeros (variable m e) n l = refl
+  encode-zeros (comment x) n l = refl
+  encode-zeros (org m) n l = refl
+  encode-zeros (bytes es) n l = true-false l
+  encode-zeros (words es) n l = true-false l
+  encode-zeros (pad add m) n l = refl
 
   pub encode-bytes : (s : Stmt) → kindOf s ≡ 6 → encode names p i k q s ≡ items names 256 byte i k 0 (itemsOf s)
   unfolding encode
@@ -78,6 +80,7 @@ module _ (names : List Entry) (p : Program) (i k q : ℕ) where
   encode-bytes (org m) e = absurd (omega arith)
   encode-bytes (bytes es) e = refl
   encode-bytes (words es) e = absurd (omega arith)
+  encode-bytes (pad add m) e = absurd (omega arith)
 
   pub encode-words : (s : Stmt) → kindOf s ≡ 7 → encode names p i k q s ≡ items names 65536 word i k 0 (itemsOf s)
   unfolding encode
@@ -89,6 +92,7 @@ module _ (names : List Entry) (p : Program) (i k q : ℕ) where
   encode-words (org m) e = absurd (omega arith)
   encode-words (bytes es) e = absurd (omega arith)
   encode-words (words es) e = refl
+  encode-words (pad add m) e = absurd (omega arith)
 
 -- ---- the pass from slot i on
 

@@ -12,6 +12,12 @@ put-none room q =
     let z : q + 0 ≡ q = omega arith in
     ap (λ l. l ++ drop (q + 0) room) (append-nil (take q room)) ∙ ap (λ n. take q room ++ drop n room) z ∙ take-append-drop q room
 
+-- zeros in front
+pub put-first : (room : List ℕ) (n : ℕ) → put room 0 (replicate n 0) ≡ replicate n 0 ++ drop n room
+put-first room n =
+    let z : 0 + length (replicate {A = ℕ} n 0) ≡ n = omega (arith, length-replicate {A = ℕ} n 0) in
+    ap (λ (m : ℕ). replicate n 0 ++ drop m room) z
+
 module _ (room : List ℕ) (q : ℕ) (b : List ℕ) (fits : q + length b ≤ length room) where
   front : length (take q room ++ b) ≡ q + length b
   front = length-append (take q room) b ∙ ap (λ n. n + length b) (length-take-le q room (omega arith))

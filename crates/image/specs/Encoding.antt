@@ -8,7 +8,7 @@ use Rattle.rules.specs.declared.Kind.{Kind}
 use Rattle.rules.specs.Answers.{Judged, ok, no, _>>=_, orD}
 use Rattle.rules.specs.Expressions.{Expr}
 use Rattle.rules.specs.Listing.{readFrame}
-use Rattle.rules.specs.Programs.{Placeℕ, Addressℕ, Operand, Stmt, gone, instr, label, variable, comment, org, bytes, words, Program}
+use Rattle.rules.specs.Programs.{Placeℕ, Addressℕ, Operand, Stmt, gone, instr, label, variable, comment, org, bytes, words, pad, Program}
 use Rattle.rules.specs.Layout.{position}
 use Rattle.rules.specs.Names.{Entry, contextAt, placed}
 use Rattle.rules.specs.Encoding.{field, byte, word}
@@ -55,6 +55,7 @@ itemsOf (comment x) = []
 itemsOf (org l) = []
 itemsOf (bytes es) = es
 itemsOf (words es) = es
+itemsOf (pad add m) = []
 
 abbrev pub itemsIn : (i : Placeℕ) (s : List ℕ) → List Expr
 itemsIn i s = itemsOf (orD (readFrame i s) gone)

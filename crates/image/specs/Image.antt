@@ -3,9 +3,10 @@ use mathlib.Core.Bool.{cond}
 use mathlib.Core.List.{List, [], _++_}
 use Prim.Native.Nat.{ℕ, _+_}
 use lib.Dec.{eqb}
-use lib.ListN.{length, take, drop}
+use lib.ListN.{getD, length, take, drop}
 use Rattle.rules.specs.Answers.{orD}
-use Rattle.rules.specs.Programs.{Addressℕ}
+use Rattle.rules.specs.Programs.{Placeℕ, Addressℕ, byteCount}
+use Rattle.slots.specs.Slots.{slotAt}
 use Rattle.image.specs.Tables.{Tables}
 use Rattle.image.specs.Encoding.{encodeSlots}
 
@@ -16,6 +17,10 @@ imageOf d = orD (encodeSlots d) []
 -- the room, with bytes b from address q on
 abbrev pub put : (room : List ℕ) (q : Addressℕ) (b : List ℕ) → List ℕ
 put room q b = take q room ++ b ++ drop (q + length b) room
+
+-- how many bytes the statement in slot i has
+abbrev pub sizeOf : Tables → (i : Placeℕ) → ℕ
+sizeOf d i = byteCount (getD (d .positions) i 0) (slotAt (d .slots) i)
 
 -- how many bytes an item of data of a kind has
 abbrev pub widthOf : (kind : ℕ) → ℕ

@@ -2,10 +2,10 @@
 use crate::Checked;
 use crate::Encoded;
 use crate::codes::encode_at;
-use crate::data::BYTES;
 use crate::data::check_items;
 use rules::Place;
 use slots::frame_at;
+use slots::is_data;
 use slots::kind_at;
 ghost use mathlib.Core.Path.{_≡_};
 ghost use Prim.Native.Nat.{_<_};
@@ -58,12 +58,12 @@ fn check_at(
             at,
         ));
     }
-    if kind < BYTES {
-        return Checked::Passes;
+    if is_data(kind) {
+        let i = at.0;
+        let frame = frame_at(frames, starts, count, at);
+        return check_items(frame, at, names, contexts, values, count, contexts[i]);
     }
-    let i = at.0;
-    let frame = frame_at(frames, starts, count, at);
-    check_items(frame, at, names, contexts, values, count, contexts[i])
+    Checked::Passes
 }
 
 // The same as a test: a candidate looks at the statement that it changed first.

@@ -4,9 +4,11 @@ use crate::codes::encode_at;
 use crate::data::BYTES;
 use crate::data::item_field;
 use encoding::operands::Field;
+use rules::Address;
 use rules::Code;
 use rules::Place;
 use slots::frame_at;
+use slots::is_data;
 use slots::items_in;
 use slots::kind_at;
 use slots::size_at;
@@ -17,15 +19,14 @@ ghost use Prim.Native.Nat.{ℕ, _+_, _*_, _<_, _≤_, _%_, _/_};
 ghost use lib.IntN.{ℤ};
 ghost use lib.ListN.{length, getD, drop, replicate};
 ghost use Rattle.rules.specs.Answers.{ok, isOk};
-ghost use Rattle.rules.specs.Programs.{byteCount};
 ghost use Rattle.rules.specs.Judging.{items};
 ghost use Rattle.expression.specs.Environment.{entriesOf};
 ghost use Rattle.encoding.specs.Encode.{bytesOfCode};
 ghost use Rattle.listing.specs.Tables.{Held};
-ghost use Rattle.slots.specs.Slots.{slotAt, DataIn};
+ghost use Rattle.slots.specs.Slots.{DataIn};
 ghost use Rattle.image.specs.Tables.{tables, Ready};
 ghost use Rattle.image.specs.Encoding.{encodeAt, encodeSlots, itemsIn, boundOf, writeOf};
-ghost use Rattle.image.specs.Image.{imageOf, put, widthOf};
+ghost use Rattle.image.specs.Image.{imageOf, put, widthOf, sizeOf};
 
 // A position, as an index of the room.
 fn address(position: u32) -> usize
@@ -48,21 +49,22 @@ pub fn image_length(
     let mut i = count;
     while 0 < i {
         i -= 1;
-        if 0 < size_at(frames, starts, count, forms, Place(i)) {
+        let q = Address(address(positions[i]));
+        if 0 < size_at(frames, starts, count, forms, Place(i), q) {
             return address(positions[i + 1]);
         }
     }
     0
 }
 
-// Zeros in the first n bytes.
-fn clear(image: &mut [u8], n: usize)
-    requires { ⌜ n ≤ length (now image) ⌝ }
-    ensures { λ r. ⌜ now (image .exit) ≡ replicate n 0 ++ drop n (now (image .entry)) ⌝ }
+// Zeros in the n bytes from q on.
+fn clear(image: &mut [u8], q: usize, n: usize)
+    requires { ⌜ (0 < n → q + n ≤ length (now image)) ⌝ }
+    ensures { λ r. ⌜ now (image .exit) ≡ put (now (image .entry)) q (replicate n 0) ⌝ }
 {
     let mut i = 0;
     while i < n {
-        image[i] = 0;
+        image[q + i] = 0;
         i += 1;
     }
 }
@@ -143,7 +145,7 @@ fn write_items(
     }
 }
 
-// The bytes of the statement in a slot, at its position.
+// The bytes of the statement in a slot, at its position. Zeros, if any, where it is neither an instruction nor data: a pad has them.
 fn write_at(
     frames: &[u8],
     starts: &[u16; 1025],
@@ -159,7 +161,9 @@ fn write_at(
     at: Place,
     image: &mut [u8],
 )
-    requires { ⌜ Ready (tables (now frames) (now starts) count (now forms) (now carry) (now owners) (now offsets) (now names) (now contexts) (now values) (now positions)) × (at .0 < count) × (0 < byteCount (slotAt ((tables (now frames) (now starts) count (now forms) (now carry) (now owners) (now offsets) (now names) (now contexts) (now values) (now positions)) .slots) (at .0)) → getD (now positions) (at .0) 0 + byteCount (slotAt ((tables (now frames) (now starts) count (now forms) (now carry) (now owners) (now offsets) (now names) (now contexts) (now values) (now positions)) .slots) (at .0)) ≤ length (now image)) ⌝ }
+    requires { ⌜ (let d = tables (now frames) (now starts) count (now forms) (now carry) (now owners) (now offsets)
+        (now names) (now contexts) (now values) (now positions) in
+        Ready d × (at .0 < count) × (0 < sizeOf d (at .0) → getD (now positions) (at .0) 0 + sizeOf d (at .0) ≤ length (now image))) ⌝ }
     ensures { λ r. ⌜ ((b : List ℕ) → encodeAt (tables (now (frames .entry)) (now (starts .entry)) count (now (forms .entry)) (now (carry .entry)) (now (owners .entry)) (now (offsets .entry)) (now (names .entry)) (now (contexts .entry)) (now (values .entry)) (now (positions .entry))) (at .0) ≡ ok b → now (image .exit) ≡ put (now (image .entry)) (getD (now (positions .entry)) (at .0) 0) b) ⌝ }
 {
     let i = at.0;
@@ -185,21 +189,23 @@ fn write_at(
         write_code(image, q, code);
         return;
     }
-    if kind < BYTES {
+    if is_data(kind) {
+        let frame = frame_at(frames, starts, count, at);
+        write_items(
+            frame,
+            at,
+            names,
+            contexts,
+            values,
+            count,
+            contexts[i],
+            q,
+            image,
+        );
         return;
     }
-    let frame = frame_at(frames, starts, count, at);
-    write_items(
-        frame,
-        at,
-        names,
-        contexts,
-        values,
-        count,
-        contexts[i],
-        q,
-        image,
-    );
+    let n = size_at(frames, starts, count, forms, at, Address(q));
+    clear(image, q, n);
 }
 
 // The image of slots that encode, in a room that holds it. From the last statement to the first: what follows is always in place.
@@ -220,7 +226,11 @@ pub fn write_image(
     requires { ⌜ Ready (tables (now frames) (now starts) count (now forms) (now carry) (now owners) (now offsets) (now names) (now contexts) (now values) (now positions)) × (isOk (encodeSlots (tables (now frames) (now starts) count (now forms) (now carry) (now owners) (now offsets) (now names) (now contexts) (now values) (now positions))) ≡ true) × (length (imageOf (tables (now frames) (now starts) count (now forms) (now carry) (now owners) (now offsets) (now names) (now contexts) (now values) (now positions))) ≤ length (now image)) ⌝ }
     ensures { λ r. ⌜ (let bytes = imageOf (tables (now (frames .entry)) (now (starts .entry)) count (now (forms .entry)) (now (carry .entry)) (now (owners .entry)) (now (offsets .entry)) (now (names .entry)) (now (contexts .entry)) (now (values .entry)) (now (positions .entry))) in now (image .exit) ≡ bytes ++ drop (length bytes) (now (image .entry))) ⌝ }
 {
-    clear(image, image_length(frames, starts, count, forms, positions));
+    clear(
+        image,
+        0,
+        image_length(frames, starts, count, forms, positions),
+    );
     let mut i = count;
     while 0 < i {
         i -= 1;

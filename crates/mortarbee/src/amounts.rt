@@ -61,8 +61,8 @@ fn kind_range(kind: Kind) {
     match kind {
         Kind::D9 => tell(b"0 to 511"),
         Kind::Bit => tell(b"0 to 7"),
-        Kind::A12 => tell(b"0 to 65535"),
-        Kind::A16 => tell(b"0 to 65535"),
+        Kind::A12 => tell(b"0 to 65,535"),
+        Kind::A16 => tell(b"0 to 65,535"),
         _ => tell(b"0 to 255"),
     }
 }
@@ -71,7 +71,7 @@ fn kind_range(kind: Kind) {
 fn tell_range(line: &[u8], argument: usize) {
     let kind = byte_at(line, 0);
     if kind == 7 {
-        return tell(b"0 to 65535");
+        return tell(b"0 to 65,535");
     }
     if kind == 6 {
         return tell(b"0 to 255");
@@ -127,7 +127,7 @@ fn tell_allowed(number: u8, argument: usize, line: &[u8]) {
     }
     tell(b"; allowed is ");
     if number == 9 {
-        tell(b"0 to 65535");
+        tell(b"0 to 65,535");
     } else {
         tell_range(line, argument);
     }

@@ -13,7 +13,7 @@ pub fn words(fd: i32) {
         fd,
         b"      --comments        keeps the comments, which are left out otherwise\n",
     );
-    write_all(fd, b"      --no-callf        leaves each Callf as it is\n");
+    write_all(fd, b"      --no-callf        shrinks no Callf\n");
     write_all(fd, b"      --no-folds        folds no branches\n");
     write_all(
         fd,
@@ -25,7 +25,7 @@ pub fn words(fd: i32) {
     );
     write_all(
         fd,
-        b"  batch                 answers many listings, each ended by a line ==; a line IMAGE has the new image; batch --comments keeps comments\n",
+        b"  batch                 answers many listings, each ended by a line ==; a line IMAGE has the new image; takes the options above\n",
     );
     write_all(
         fd,
@@ -69,6 +69,10 @@ fn two(v: u8, c: u8) -> u8 {
 }
 
 pub fn explain() {
+    if os::arg_count() > 3 {
+        write_all(STDERR_FILENO, b"mortarbee: explain takes one number\n");
+        return;
+    }
     let mut word = io::buffer();
     let n = os::arg(2, &mut word);
     let k = number(&word[..n]);
@@ -89,10 +93,10 @@ fn say(text: &[u8]) {
 fn explain_number(k: u8) {
     match k {
         1 => say(
-            b"1: the line or its frame breaks the form of a listing.\nLook at: upper-case digit pairs; one line feed at the end and no carriage return; the kind, 01 to 07; the form number, 00 to 45; a count, 1 to 16; a register, 0 to 3; a variable's name, below 8000; an expression that is cut short; bytes after the last operand.\nExample: 01FF (there is no form FF)\n",
+            b"1: the line or its frame breaks the form of a listing.\nLook at: upper-case digit pairs; one line feed at the end and no carriage return; the kind, 01 to 08; the form number, 00 to 45; a count, 1 to 16; a pad's multiple, 1 to 256; a register, 0 to 3; a variable's name, below 8000; an expression that is cut short; bytes after the last operand.\nExample: 01FF (there is no form FF)\n",
         ),
         2 => say(
-            b"2: a limit is passed: 1,024 statements, 120 bytes (240 characters) a frame, 24,576 frame bytes in all, 32 bytes an expression.\nLook at: the length of the line and of its expressions, and how much stands above it.\nExample: 04 and 240 more digits (a comment of 121 bytes)\n",
+            b"2: a limit is passed: 1,024 statements, 120 bytes (240 characters) a frame, 24,576 frame bytes in all, 32 bytes an expression.\nLook at: the length of the line and of its expressions, and how much stands above it. An output may pass the total where variables were targets.\nExample: 04 and 240 more digits (a comment of 121 bytes)\n",
         ),
         3 => say(
             b"3: the name is defined a second time. Labels and variables share the names below 8000; a local name, 8000 and up, is defined once in a context.\nLook at: the first definition, above this one.\nExample: 020001, then 020001 again\n",
@@ -104,7 +108,7 @@ fn explain_number(k: u8) {
             b"5: an org is below the position that the statements before it reached.\nLook at: the org's location, and the bytes before it.\nExample: 0143, then 050000\n",
         ),
         6 => say(
-            b"6: the position would pass 65,536.\nLook at: the last org, and the bytes after it.\nExample: 05FFFF, then 0143, then 0143\n",
+            b"6: the position would pass 65,536.\nLook at: the last org, and the bytes and pads after it.\nExample: 05FFFF, then 0143, then 0143\n",
         ),
         7 => say(
             b"7: a node of an expression has no value: it leaves -2,147,483,648 to 2,147,483,647, or divides by zero.\nLook at: each operator of the expression, not only its result.\nExample: 06011300000000010000000000 (1 divided by 0)\n",

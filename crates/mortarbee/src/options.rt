@@ -66,9 +66,13 @@ fn then_word(before: Asked, place: usize) -> Asked {
     }
 }
 
-// The settings that the words from the first or from the second on ask for: five at most, so that each may be said more than once.
+// The settings that the words from the first or from the second on ask for: up to the fourth, one more is misuse.
 pub fn options(from_second: bool) -> Asked {
+    if os::arg_count() > 5 {
+        io::write_all(STDERR_FILENO, b"mortarbee: too many words\n");
+        return Asked::Nothing;
+    }
     let all = Asked::Are(by_default());
     let first = if from_second { all } else { then_word(all, 1) };
-    then_word(then_word(then_word(then_word(first, 2), 3), 4), 5)
+    then_word(then_word(then_word(first, 2), 3), 4)
 }

@@ -11,7 +11,7 @@ use Rattle.laws.specs.Lists.{total}
 use Rattle.laws.proofs.Lists.{total-bound}
 use Rattle.laws.proofs.Options.{said-some}
 use Rattle.laws.proofs.Tests.{sub-lt}
-use Rattle.rules.specs.Programs.{Stmt, gone, instr, label, variable, comment, org, bytes, words, Program}
+use Rattle.rules.specs.Programs.{Stmt, gone, instr, label, variable, comment, org, bytes, words, pad, Program}
 use Rattle.rules.specs.declared.Settings.{Settings}
 use Rattle.rules.specs.Judging.{assembles}
 use Rattle.rules.specs.Rewriting.{Chain, more, step, chain, instrBytes}
@@ -36,6 +36,7 @@ bytes-bound (comment x) = omega arith
 bytes-bound (org l) = omega arith
 bytes-bound (bytes es) = omega arith
 bytes-bound (words es) = omega arith
+bytes-bound (pad add m) = omega arith
 
 -- at most 1,024 statements
 pub few-bytes : {contexts : List ℕ} (t : Slots) → Standing t contexts → total instrBytes (programOf t) ≤ 3072

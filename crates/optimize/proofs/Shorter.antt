@@ -9,7 +9,7 @@ use lib.ListN.{getD, set}
 use borrow.Author.Tests.{ne-eqb}
 use Rattle.laws.specs.Options.{orElse, given, firstOf, bind}
 use Rattle.rules.specs.Forms.{formAt, isTransfer, jmp, jmpf, br, call, callf}
-use Rattle.rules.specs.Programs.{Placeℕ, Stmt, gone, instr, label, variable, comment, org, bytes, words, onInstr, asInstr, argsOf, Program, at, kindOf}
+use Rattle.rules.specs.Programs.{Placeℕ, Stmt, gone, instr, label, variable, comment, org, bytes, words, pad, onInstr, asInstr, argsOf, Program, at, kindOf}
 use Rattle.rules.specs.declared.Settings.{Settings}
 use Rattle.rules.specs.Names.{Entry}
 use Rattle.rules.specs.Rewriting.{isChangeJump, noInteriorLabelAt, candidate, shorter, shrinkAt}
@@ -53,6 +53,7 @@ instr-shape t i (comment x) e = absurd (omega arith)
 instr-shape t i (org l) e = absurd (omega arith)
 instr-shape t i (bytes es) e = absurd (omega arith)
 instr-shape t i (words es) e = absurd (omega arith)
+instr-shape t i (pad add m) e = absurd (omega arith)
 
 slot-is : (t : Slots) (i : Placeℕ) → kindOf (slotAt t i) ≡ 1 → slotAt t i ≡ instr (getD (t .forms) i 0) (argsOf (slotAt t i)) (getD (t .carry) i 0)
 slot-is t i e =
@@ -69,6 +70,7 @@ not-instr (comment x) n = refl
 not-instr (org l) n = refl
 not-instr (bytes es) n = refl
 not-instr (words es) n = refl
+not-instr (pad add m) n = refl
 
 or-none : {A : Type 0} (x : Option A) → orElse x none ≡ x
 unfolding orElse

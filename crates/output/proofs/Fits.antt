@@ -18,10 +18,10 @@ use Rattle.rules.specs.Statements.{pairAt, argAt, argumentAt, exprAt, operandAt
 use Rattle.expression.specs.Sound.{AreBytes}
 use Rattle.expression.proofs.RoundTrip.{bytes-drop, written-expr}
 use Rattle.slots.specs.Slots.{isReg, itemAt}
-use Rattle.slots.proofs.Frames.{Left, Reads, Frame, ofInstr, ofLabel, ofVariable, ofComment, ofOrg, ofBytes, ofWords, InstrFrame, DataFrame, frame-read}
+use Rattle.slots.proofs.Frames.{Left, Reads, Frame, ofInstr, ofLabel, ofVariable, ofComment, ofOrg, ofBytes, ofWords, ofPad, InstrFrame, DataFrame, frame-read}
 use Rattle.slots.proofs.Items.{items-read}
 use Rattle.slots.proofs.Operands.{OperandRead, operands-read}
-use Rattle.output.specs.Writable.{ExprFits, OperandFits, isRegister, isValue, OperandsFit, ItemsFit, StmtFits, fitsInstr, fitsLabel, fitsVariable, fitsComment, fitsOrg, fitsBytes, fitsWords}
+use Rattle.output.specs.Writable.{ExprFits, OperandFits, isRegister, isValue, OperandsFit, ItemsFit, StmtFits, fitsInstr, fitsLabel, fitsVariable, fitsComment, fitsOrg, fitsBytes, fitsWords, fitsPad}
 
 module _ (s : List ℕ) (v : AreBytes s) where
   expr-fits : (a : ℕ) (e : Expr) → Reads (drop a s) e → ExprFits e
@@ -71,3 +71,4 @@ module _ (s : List ℕ) (v : AreBytes s) where
       on (ofOrg f) = rw (f .is) (fitsOrg (pairAt s 1) pair-low)
       on (ofBytes f) = rw (f .is) (fitsBytes (f .es) (items-fit _ _ i x f))
       on (ofWords f) = rw (f .is) (fitsWords (f .es) (items-fit _ _ i x f))
+      on (ofPad f) = rw (f .is) (fitsPad (getD s 1 0) (pairAt s 2) (v 1) (f .some) (f .few))

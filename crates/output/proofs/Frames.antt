@@ -1,43 +1,32 @@
 -- A frame that was read is what is written for its statement: `frame-back`. Assumes nothing.
 use mathlib.Core.Path.{_≡_, refl, sym, ap, _∙_}
 use mathlib.Core.List.{List, [], _∷_, _++_, append-assoc, append-nil}
-use mathlib.Core.Logic.{⊎-elim}
+use mathlib.Core.Bool.{_&&_}
 use Prim.Native.Nat.{ℕ, zero, suc, _+_, _*_, _/_, _%_, _≤_, _<_}
 use native.Mathlib.Omega.{arith}
 use lib.Dec.{leb, ltb}
-use lib.ListN.{length, getD, take, drop, length-take, take-append-drop}
-use lib.Seq.{getD-append-add, getD-take}
+use lib.ListN.{length, getD, drop, take-append-drop}
+use lib.Seq.{getD-append-add}
 use Rattle.laws.specs.Lists.{each}
-use Rattle.laws.proofs.Stores.{get-out}
-use Rattle.laws.proofs.Tests.{lt-or-le}
 use Rattle.rules.specs.declared.Kind.{Kind}
 use Rattle.rules.specs.declared.Kind.the-variants.{Reg, I8, D9, Bit, Rel8, A12, A16, Rel16}
 use Rattle.rules.specs.declared.Refusal.the-variants.{Broken}
 use Rattle.rules.specs.Answers.{atPlace, ok, _>>=_, require}
 use Rattle.rules.specs.Expressions.{Expr, bytesOf, pair}
 use Rattle.rules.specs.Forms.{operandsAt}
-use Rattle.rules.specs.Listing.{Taken, taken, takeByte, takePair, takeExpr, takeRegister, takeValue, takeOperand, takeOperands, takeExprs, alone, readLabel, readVariable, readOrg, readFrame}
+use Rattle.rules.specs.Listing.{Taken, taken, takeByte, takePair, takeExpr, takeRegister, takeValue, takeOperand, takeOperands, takeExprs, alone, readLabel, readVariable, readOrg, readPad, readFrame}
 use Rattle.rules.specs.Output.{operandBytes, frameOf}
-use Rattle.rules.specs.Programs.{Operand, register, value, Stmt, label, variable, org, bytes, words}
+use Rattle.rules.specs.Programs.{Operand, register, value, Stmt, label, variable, org, bytes, words, pad}
 use Rattle.rules.proofs.Laws.{no-ok, then-ok, require-ok}
 use Rattle.expression.specs.Sound.{AreBytes}
 use Rattle.expression.proofs.RoundTrip.{bytes-drop, written-expr}
-use Rattle.slots.proofs.Frames.{Left, expr-taken, Frame, ofInstr, ofLabel, ofVariable, ofComment, ofOrg, ofBytes, ofWords, InstrFrame, DataFrame, frame-read}
+use Rattle.slots.proofs.Frames.{Left, expr-taken, Frame, ofInstr, ofLabel, ofVariable, ofComment, ofOrg, ofBytes, ofWords, ofPad, InstrFrame, DataFrame, frame-read}
 use Rattle.slots.proofs.Items.{items-read}
 
 -- ---- lists of bytes
 
 pub bytes-rest : (b r : List ℕ) → AreBytes (b ++ r) → AreBytes r
 bytes-rest b r v i = omega (arith, v (length b + i), getD-append-add b r i 0)
-
-pub bytes-take : (n : ℕ) (s : List ℕ) → AreBytes s → AreBytes (take n s)
-bytes-take n s v i = ⊎-elim inside outside (lt-or-le i n)
-  where
-    inside : i < n → getD (take n s) i 0 < 256
-    inside h = rw (getD-take n s i 0 h) (v i)
-
-    outside : n ≤ i → getD (take n s) i 0 < 256
-    outside h = omega (arith, get-out (take n s) i 0 (simp length-take (omega arith)))
 
 -- ---- what was taken is what is written for it, and the rest follows
 
@@ -152,6 +141,17 @@ variable-back i (b ∷ c ∷ s) x e v =
         let tail : s ≡ bytesOf (t .it) = p ∙ ap (λ z. bytesOf (t .it) ++ z) (m .1) ∙ append-nil (bytesOf (t .it)) in
         ap frameOf (sym (m .0)) ∙ ap (λ l. 3 ∷ (l ++ bytesOf (t .it))) (ap pair q ∙ pair-is b c (v 1)) ∙ ap (λ l. 3 ∷ b ∷ c ∷ l) (sym tail)
 
+pad-back : (i : ℕ) (s : List ℕ) (x : Stmt) → readPad i s ≡ ok x → AreBytes s → frameOf x ≡ 8 ∷ s
+unfolding readPad takePair takeByte _>>=_ frameOf
+pad-back i [] x e v = no-ok _ _ e
+pad-back i (a ∷ []) x e v = no-ok _ _ e
+pad-back i (a ∷ b ∷ []) x e v = no-ok _ _ e
+pad-back i (a ∷ b ∷ c ∷ s) x e v =
+    let n : ℕ = b * 256 + c in
+    let p = require-ok (leb 1 n && leb n 256) (Broken (atPlace i)) (alone i (pad a n) s) x e in
+    let m = alone-ok i (pad a n) x s (p .1) in
+    ap frameOf (sym (m .0)) ∙ ap (λ l. 8 ∷ a ∷ l) (pair-is b c (v 2)) ∙ ap (λ l. 8 ∷ a ∷ b ∷ c ∷ l) (sym (m .1))
+
 -- ---- the whole frame
 
 -- the operands of an instruction end where its frame ends
@@ -187,3 +187,4 @@ frame-back i (a ∷ s) x e v = on (frame-read i (a ∷ s) x e)
     on (ofOrg f) = named-back 5 org (λ n. refl) i s x (rw (f .kind) at e) rest ∙ ap (λ k. k ∷ s) (sym (f .kind))
     on (ofBytes f) = data-back 6 bytes (λ es. refl) i (a ∷ s) x f v
     on (ofWords f) = data-back 7 words (λ es. refl) i (a ∷ s) x f v
+    on (ofPad f) = pad-back i s x (rw (f .kind) at e) rest ∙ ap (λ k. k ∷ s) (sym (f .kind))

@@ -13,7 +13,7 @@ use Rattle.laws.specs.Counts.{tab}
 use Rattle.laws.specs.Lists.{each}
 use Rattle.laws.proofs.Tests.{eq-or-not}
 use Rattle.laws.proofs.Counts.{rises, length-tab, tab-suc, each-tab}
-use Rattle.rules.specs.Programs.{Operand, Stmt, gone, instr, label, variable, comment, org, bytes, words, Program, retarget, isGone}
+use Rattle.rules.specs.Programs.{Operand, Stmt, gone, instr, label, variable, comment, org, bytes, words, pad, Program, retarget, isGone}
 use Rattle.rules.specs.Output.{plainTarget, writeBack, compact, stemsFrom, stems, frameOf, lineOf, textOf}
 use Rattle.listing.specs.Tables.{Held}
 use Rattle.slots.specs.Slots.{Slots, goneForm, slotAt, programOf}
@@ -33,6 +33,7 @@ gone-same f (comment x) = refl
 gone-same f (org l) = refl
 gone-same f (bytes es) = refl
 gone-same f (words es) = refl
+gone-same f (pad add m) = refl
 
 text-lines : (p q : Program) → textOf (compact (map (λ s. retarget (plainTarget p) s) q)) ≡ each (lineIn p) q
 unfolding textOf compact each lineIn

@@ -22,14 +22,14 @@ use Rattle.rules.specs.declared.Op2.the-variants.{Plus, Minus, Times, Divide, X
 use Rattle.rules.specs.Answers.{ok, _>>=_, require}
 use Rattle.rules.specs.Expressions.{Expr, num, name, two, one, code1, code2, pair, four, bytesOf}
 use Rattle.rules.specs.Forms.{operandsAt}
-use Rattle.rules.specs.Listing.{takeByte, takePair, takeExpr, takeRegister, takeValue, takeOperand, takeOperands, takeExprs, takeItems, readInstr, readLabel, readVariable, readOrg, readBytes, readWords, readFrame}
-use Rattle.rules.specs.Programs.{Operand, register, Stmt, instr, variable}
+use Rattle.rules.specs.Listing.{takeByte, takePair, takeExpr, takeRegister, takeValue, takeOperand, takeOperands, takeExprs, takeItems, readInstr, readLabel, readVariable, readOrg, readBytes, readWords, readPad, readFrame}
+use Rattle.rules.specs.Programs.{Operand, register, Stmt, instr, variable, pad}
 use Rattle.rules.specs.Output.{operandBytes, frameOf}
 use Rattle.expression.specs.Sound.{Sound, AreBytes}
 use Rattle.expression.proofs.RoundTrip.{reads-expr}
 use Rattle.slots.specs.Slots.{isReg}
 use Rattle.slots.proofs.Frames.{Left}
-use Rattle.output.specs.Writable.{ExprFits, OperandFits, isRegister, isValue, OperandsFit, ItemsFit, StmtFits, fitsInstr, fitsLabel, fitsVariable, fitsComment, fitsOrg, fitsBytes, fitsWords, settle}
+use Rattle.output.specs.Writable.{ExprFits, OperandFits, isRegister, isValue, OperandsFit, ItemsFit, StmtFits, fitsInstr, fitsLabel, fitsVariable, fitsComment, fitsOrg, fitsBytes, fitsWords, fitsPad, settle}
 
 -- ---- lists of bytes
 
@@ -102,6 +102,7 @@ frame-are-bytes (fitsComment x v) = more-bytes 4 x (omega arith) v
 frame-are-bytes (fitsOrg l h) = more-bytes 5 (pair l) (omega arith) (pair-bytes l h)
 frame-are-bytes (fitsBytes es h) = more-bytes 6 (length es ∷ each (λ e. bytesOf e) es) (omega arith) (items-bytes es h)
 frame-are-bytes (fitsWords es h) = more-bytes 7 (length es ∷ each (λ e. bytesOf e) es) (omega arith) (items-bytes es h)
+frame-are-bytes (fitsPad add m h l g) = more-bytes 8 (add ∷ pair m) (omega arith) (more-bytes add (pair m) h (pair-bytes m (omega arith)))
 
 -- ---- what was written is taken, and what follows is left
 
@@ -174,6 +175,10 @@ variable-reads i n e h f =
     let all = ap (takeExpr i) (sym (append-nil (bytesOf e))) ∙ take-expr i e [] f in
     rw (pair-back n, lt-ltb n 0x8000 h, all)
 
+pad-reads : (i add m : ℕ) → 1 ≤ m → m ≤ 256 → readPad i (add ∷ pair m) ≡ ok (pad add m)
+unfolding readPad takePair takeByte _>>=_ require
+pad-reads i add m l h = rw (pair-back m, le-leb 1 m l, le-leb m 256 h)
+
 pub frame-reads : (i : ℕ) {s : Stmt} → StmtFits s → readFrame i (frameOf s) ≡ ok (settle i s)
 unfolding frameOf readFrame readLabel readOrg readBytes readWords takePair takeByte _>>=_
 frame-reads i (fitsInstr f xs c h o) = instr-reads i f xs h o
@@ -183,3 +188,4 @@ frame-reads i (fitsComment x v) = refl
 frame-reads i (fitsOrg l h) = rw (pair-back l)
 frame-reads i (fitsBytes es h) = rw (items-taken i es h)
 frame-reads i (fitsWords es h) = rw (items-taken i es h)
+frame-reads i (fitsPad add m h l g) = pad-reads i add m l g

@@ -15,18 +15,18 @@ use Rattle.laws.proofs.Tests.{eq-or-not}
 use Rattle.rules.specs.Expressions.{bytesOf}
 use Rattle.rules.specs.Forms.{isTransfer, operandsAt}
 use Rattle.rules.specs.Layout.{position}
-use Rattle.rules.specs.Programs.{Operand, Stmt, gone, instr, label, variable, comment, org, bytes, words, Program, argsOf, lastOf, onLast, retarget, kindOf, isGone}
+use Rattle.rules.specs.Programs.{Operand, Stmt, gone, instr, label, variable, comment, org, bytes, words, pad, Program, argsOf, lastOf, onLast, retarget, kindOf, isGone}
 use Rattle.rules.specs.Output.{plainTarget, operandBytes, frameOf, lineOf}
 use Rattle.expression.specs.Sound.{AreBytes}
 use Rattle.expression.proofs.RoundTrip.{bytes-drop}
 use Rattle.listing.specs.Tables.{frameAt, Held}
 use Rattle.slots.specs.Slots.{Slots, Sound, WroteTarget, goneForm, noOwner, written, targetOf, aimedAt, slotAt, programOf}
-use Rattle.slots.proofs.Frames.{Left, InstrFrame, Frame, ofInstr, ofLabel, ofVariable, ofComment, ofOrg, ofBytes, ofWords, frame-of}
+use Rattle.slots.proofs.Frames.{Left, InstrFrame, Frame, ofInstr, ofLabel, ofVariable, ofComment, ofOrg, ofBytes, ofWords, ofPad, frame-of}
 use Rattle.slots.proofs.Operands.{operands-read}
 use Rattle.slots.proofs.Slots.{slot-instr, slot-data, not-gone, kind-read, kind-kept, written-frame}
-use Rattle.slots.proofs.Tables.{reads-as, frame-is}
+use Rattle.slots.proofs.Tables.{reads-as, frame-is, bytes-frame}
 use Rattle.output.specs.Lines.{lineIn, ownEnd, targetBytes, carriedBytes, ownBytes, bytesAt}
-use Rattle.output.proofs.Frames.{bytes-take, operands-end, frame-back}
+use Rattle.output.proofs.Frames.{operands-end, frame-back}
 use Rattle.output.proofs.Targets.{last-same, last-twice, plain-last, own-other, target-in}
 
 -- ---- statements that are no instruction stay as they are
@@ -40,6 +40,7 @@ other-same f (comment x) n = refl
 other-same f (org l) n = refl
 other-same f (bytes es) n = refl
 other-same f (words es) n = refl
+other-same f (pad add m) n = refl
 
 gone-kind : (s : Stmt) → isGone s ≡ eqb (kindOf s) 0
 gone-kind gone = refl
@@ -50,6 +51,7 @@ gone-kind (comment x) = refl
 gone-kind (org l) = refl
 gone-kind (bytes es) = refl
 gone-kind (words es) = refl
+gone-kind (pad add m) = refl
 
 pub kept-kind : (s : Stmt) → 1 ≤ kindOf s → isGone s ≡ false
 kept-kind s h = gone-kind s ∙ ne-eqb (kindOf s) 0 (λ e. omega arith)
@@ -67,6 +69,7 @@ kind-least i s x (ofComment f) = rw (f .is) (omega arith)
 kind-least i s x (ofOrg f) = rw (f .is) (omega arith)
 kind-least i s x (ofBytes f) = rw (f .is) (omega arith)
 kind-least i s x (ofWords f) = rw (f .is) (omega arith)
+kind-least i s x (ofPad f) = rw (f .is) (omega arith)
 
 pub kept-form : (t : Slots) → Held (t .frames) (t .starts) (t .count) → (i : ℕ) → i < t .count → (getD (t .forms) i 0 ≡ goneForm → ⊥) → 1 ≤ kindOf (slotAt t i)
 kept-form t h i l n = rw (kind-kept t i n) (kind-least i (frameAt (t .frames) (t .starts) i) (written t i) (frame-is (t .frames) (t .starts) (t .count) h i l))
@@ -88,8 +91,7 @@ module _ (t : Slots) (h : Sound t) (v : AreBytes (t .frames)) where
   frame i = frameAt (t .frames) (t .starts) i
 
   frame-bytes : (i : ℕ) → AreBytes (frame i)
-  unfolding frameAt
-  frame-bytes i = bytes-take (getD (t .starts) (suc i) 0 - getD (t .starts) i 0) (drop (getD (t .starts) i 0) (t .frames)) (bytes-drop (getD (t .starts) i 0) (t .frames) v)
+  frame-bytes i = bytes-frame (t .frames) (t .starts) v i
 
   abbrev p : Program
   p = programOf t

@@ -10,7 +10,7 @@ use Rattle.rules.specs.declared.Kind.{Kind}
 use Rattle.rules.specs.declared.Kind.the-variants.{Reg}
 use Rattle.rules.specs.Expressions.{Expr, num, bytesOf}
 use Rattle.rules.specs.Forms.{operandsAt}
-use Rattle.rules.specs.Programs.{Placeℕ, Operand, register, value, Stmt, instr, label, variable, comment, org, bytes, words, Program, at, onInstr}
+use Rattle.rules.specs.Programs.{Placeℕ, Operand, register, value, Stmt, instr, label, variable, comment, org, bytes, words, pad, Program, at, onInstr}
 use Rattle.rules.specs.Output.{frameOf}
 use Rattle.expression.specs.Sound.{Sound, AreBytes}
 use Rattle.slots.specs.Slots.{isReg}
@@ -43,6 +43,7 @@ pub data StmtFits : Stmt → Type 0 where
   fitsOrg : (l : ℕ) → l < 65536 → StmtFits (org l)
   fitsBytes : (es : List Expr) → ItemsFit es → StmtFits (bytes es)
   fitsWords : (es : List Expr) → ItemsFit es → StmtFits (words es)
+  fitsPad : (add m : ℕ) → add < 256 → 1 ≤ m → m ≤ 256 → StmtFits (pad add m)
 
 -- "At most 1,024 statements, 120 bytes a frame, .. 24,576 frame bytes in all."
 pub record Writable (q : Program) : Type 0 where

@@ -17,7 +17,7 @@ use Rattle.rules.specs.declared.Place.{Place}
 use Rattle.rules.specs.declared.Kind.{Kind}
 use Rattle.rules.specs.declared.Kind.the-variants.{Reg, I8, D9, Bit, Rel8, A12, A16, Rel16}
 use Rattle.rules.specs.Forms.{isTransfer, operandsAt}
-use Rattle.rules.specs.Programs.{Operand, register, value, inner, Stmt, gone, instr, label, variable, comment, org, bytes, words, argsOf, lastOf, onLast, kindOf}
+use Rattle.rules.specs.Programs.{Operand, register, value, inner, Stmt, gone, instr, label, variable, comment, org, bytes, words, pad, argsOf, lastOf, onLast, kindOf}
 use Rattle.rules.specs.Rewriting.{ofInner, everyInnerLabel}
 use Rattle.rules.specs.Statements.{argAt, argumentAt, operandAt}
 use Rattle.slots.specs.Slots.{Slots, noOwner, slotAt, programOf, targetOf, Sound}
@@ -90,6 +90,7 @@ module _ (f : ℕ → ℕ → Bool) where
   none-decides (org l) n = refl
   none-decides (bytes es) n = refl
   none-decides (words es) n = refl
+  none-decides (pad add m) n = refl
 
   of-label : (x : Operand) → ofInner f x ≡ ofLabel f (labelOf x)
   of-label (register r) = refl
@@ -117,6 +118,7 @@ none-label (comment x) n = refl
 none-label (org l) n = refl
 none-label (bytes es) n = refl
 none-label (words es) n = refl
+none-label (pad add m) n = refl
 
 -- ---- by slot
 

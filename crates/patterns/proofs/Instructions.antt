@@ -15,7 +15,7 @@ use Rattle.rules.specs.declared.Kind.{Kind}
 use Rattle.rules.specs.declared.Kind.the-variants.{Reg, I8, D9, Bit, Rel8, A12, A16, Rel16}
 use Rattle.rules.specs.Expressions.{Expr}
 use Rattle.rules.specs.Forms.{formAt, isAddress, endsInAddress, isTransfer, isUnconditional, operandsAt}
-use Rattle.rules.specs.Programs.{Operand, register, value, inner, Stmt, gone, instr, label, variable, comment, org, bytes, words, Instruction, asInstr, asLabel, argsOf, lastOf, onLast, kindOf}
+use Rattle.rules.specs.Programs.{Operand, register, value, inner, Stmt, gone, instr, label, variable, comment, org, bytes, words, pad, Instruction, asInstr, asLabel, argsOf, lastOf, onLast, kindOf}
 use Rattle.rules.specs.Rewriting.{branch, unconditional, localLabel}
 use Rattle.rules.specs.Statements.{argAt, argumentAt, exprAt, operandAt}
 use Rattle.listing.specs.Tables.{frameAt, inputAt, Held}
@@ -41,6 +41,7 @@ as-instr (comment x) e = absurd (omega arith)
 as-instr (org l) e = absurd (omega arith)
 as-instr (bytes es) e = absurd (omega arith)
 as-instr (words es) e = absurd (omega arith)
+as-instr (pad add m) e = absurd (omega arith)
 
 -- no form, no instruction
 pub not-instr : (s : Stmt) → (kindOf s ≡ 1 → ⊥) → formIn s ≡ goneForm
@@ -52,6 +53,7 @@ not-instr (comment x) n = refl
 not-instr (org l) n = refl
 not-instr (bytes es) n = refl
 not-instr (words es) n = refl
+not-instr (pad add m) n = refl
 
 pub form-kind : (s : Stmt) → (formIn s ≡ goneForm → ⊥) → kindOf s ≡ 1
 form-kind gone n = absurd (n refl)
@@ -62,6 +64,7 @@ form-kind (comment x) n = absurd (n refl)
 form-kind (org l) n = absurd (n refl)
 form-kind (bytes es) n = absurd (n refl)
 form-kind (words es) n = absurd (n refl)
+form-kind (pad add m) n = absurd (n refl)
 
 given-is : {A : Type 0} (b : Bool) (a : A) → isSome (given b (some a)) ≡ b
 unfolding given
@@ -79,6 +82,7 @@ branch-form f l (comment x) = sym (ne-eqb goneForm f (λ e. omega arith))
 branch-form f l (org m) = sym (ne-eqb goneForm f (λ e. omega arith))
 branch-form f l (bytes es) = sym (ne-eqb goneForm f (λ e. omega arith))
 branch-form f l (words es) = sym (ne-eqb goneForm f (λ e. omega arith))
+branch-form f l (pad add m) = sym (ne-eqb goneForm f (λ e. omega arith))
 
 pub unconditional-form : (s : Stmt) → isSome (unconditional s) ≡ isUnconditional (formIn s)
 unfolding unconditional asInstr bind
@@ -90,6 +94,7 @@ unconditional-form (comment x) = refl
 unconditional-form (org m) = refl
 unconditional-form (bytes es) = refl
 unconditional-form (words es) = refl
+unconditional-form (pad add m) = refl
 
 given-found : {A : Type 0} (b : Bool) (a : A) → isSome (given b (some a)) ≡ true → given b (some a) ≡ some a
 unfolding given
@@ -259,6 +264,7 @@ no-label (comment x) n = refl
 no-label (org l) n = refl
 no-label (bytes es) n = refl
 no-label (words es) n = refl
+no-label (pad add m) n = refl
 
 pub low-label : (n : ℕ) → n < 0x8000 → labelAs (localLabel (label n)) ≡ Nothing
 unfolding localLabel asLabel bind given

@@ -9,7 +9,7 @@ use lib.ListN.{length, getD, drop, take}
 use lib.Seq.{take-length}
 use Rattle.laws.specs.Counts.{sumTo}
 use Rattle.laws.specs.Lists.{total}
-use Rattle.laws.proofs.Tests.{false-true, cond-le}
+use Rattle.laws.proofs.Tests.{false-true, true-false, cond-le}
 use Rattle.laws.proofs.Counts.{total-by, sum-ext}
 use Rattle.rules.specs.declared.Kind.{Kind}
 use Rattle.rules.specs.declared.Kind.the-variants.{Reg, I8, D9, Bit, Rel8, A12, A16, Rel16}
@@ -19,13 +19,13 @@ use Rattle.rules.specs.Expressions.{Expr, readExpr, parse, byTag, tagOf, mentio
 use Rattle.rules.specs.Forms.{isTransfer, operandsAt}
 use Rattle.rules.specs.Listing.{readFrame}
 use Rattle.rules.specs.Names.{Placed, placed, contextAt}
-use Rattle.rules.specs.Programs.{Operand, register, Stmt, Program, gone, instr, label, variable, comment, org, bytes, words, argsOf, onLast, inOperand, overExprs, at, kindOf}
+use Rattle.rules.specs.Programs.{Operand, register, Stmt, Program, gone, instr, label, variable, comment, org, bytes, words, pad, argsOf, onLast, inOperand, overExprs, at, kindOf}
 use Rattle.rules.specs.Rewriting.{references}
 use Rattle.rules.specs.Statements.{argAt, argumentAt, exprAt, operandAt}
 use Rattle.rules.proofs.Laws.{length-placed, placed-at}
 use Rattle.listing.specs.Tables.{frameAt, inputAt, Held}
-use Rattle.slots.specs.Slots.{Slots, written, slotAt, programOf, targetOf, isReg, InstrIn, DataIn, Sound}
-use Rattle.slots.proofs.Frames.{Left, Reads, Frame, ofInstr, ofLabel, ofVariable, ofComment, ofOrg, ofBytes, ofWords, VariableFrame, frame-of, frame-read, was-read}
+use Rattle.slots.specs.Slots.{Slots, written, slotAt, programOf, targetOf, isReg, isData, InstrIn, DataIn, Sound}
+use Rattle.slots.proofs.Frames.{Left, Reads, Frame, ofInstr, ofLabel, ofVariable, ofComment, ofOrg, ofBytes, ofWords, ofPad, VariableFrame, frame-of, frame-read, was-read}
 use Rattle.slots.proofs.Operands.{OperandRead, instr-in, operands-in}
 use Rattle.slots.proofs.Tables.{frame-is}
 use Rattle.slots.proofs.Slots.{kind-read, kind-kept, not-gone}
@@ -120,6 +120,7 @@ over-args w (comment x) e = absurd (omega arith)
 over-args w (org l) e = absurd (omega arith)
 over-args w (bytes es) e = absurd (omega arith)
 over-args w (words es) e = absurd (omega arith)
+over-args w (pad add m) e = absurd (omega arith)
 
 module _ (t : Slots) (s : Sound t) (n i : ℕ) (l : i < t .count) (e : kindOf (slotAt t i) ≡ 1) where
   abbrev frame : List ℕ
@@ -178,18 +179,20 @@ data-in i s h = on (frame-read i s (readAs i s) (was-read (readFrame i s) (h .re
     on (ofOrg f) = absurd (omega (arith, f .kind, h .kind))
     on (ofBytes f) = record { long = f .long; few = f .few; items = rw (f .is) (items-read i s (getD s 1 0) 2 (Left (f .es) []) (f .items)); over = λ w. rw (f .is) }
     on (ofWords f) = record { long = f .long; few = f .few; items = rw (f .is) (items-read i s (getD s 1 0) 2 (Left (f .es) []) (f .items)); over = λ w. rw (f .is) }
+    on (ofPad f) = absurd (omega (arith, f .kind, h .no-pad))
 
 -- ---- what holds no expression
 
-pub in-none : (w : Expr → ℕ) (s : Stmt) → (kindOf s ≡ 1 → ⊥) → (kindOf s ≡ 3 → ⊥) → kindOf s < 6 → overExprs w s ≡ 0
+pub in-none : (w : Expr → ℕ) (s : Stmt) → (kindOf s ≡ 1 → ⊥) → (kindOf s ≡ 3 → ⊥) → isData (kindOf s) ≡ false → overExprs w s ≡ 0
 in-none w gone a b l = refl
 in-none w (instr f xs c) a b l = absurd (a refl)
 in-none w (label m) a b l = refl
 in-none w (variable m d) a b l = absurd (b refl)
 in-none w (comment x) a b l = refl
 in-none w (org m) a b l = refl
-in-none w (bytes es) a b l = absurd (omega arith)
-in-none w (words es) a b l = absurd (omega arith)
+in-none w (bytes es) a b l = true-false l
+in-none w (words es) a b l = true-false l
+in-none w (pad add m) a b l = refl
 
 -- ---- the whole, by place
 

@@ -8,7 +8,7 @@ use lib.ListN.{length}
 use Rattle.laws.specs.Counts.{scan}
 use Rattle.laws.proofs.Counts.{length-tab, getD-tab, scan-bound}
 use Rattle.laws.proofs.Stores.{get-out}
-use Rattle.rules.specs.Programs.{Stmt, gone, instr, label, variable, comment, org, bytes, words, at, kindOf}
+use Rattle.rules.specs.Programs.{Stmt, gone, instr, label, variable, comment, org, bytes, words, pad, at, kindOf}
 use Rattle.rules.specs.Rewriting.{insignificant, next}
 use Rattle.slots.specs.Slots.{Slots, slotAt, programOf}
 
@@ -34,6 +34,7 @@ significant-kind (comment x) = refl
 significant-kind (org l) = refl
 significant-kind (bytes es) = refl
 significant-kind (words es) = refl
+significant-kind (pad add m) = refl
 
 -- ---- the search for the next significant place, which stands at j
 module _ (t : Slots) where

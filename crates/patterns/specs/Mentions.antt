@@ -8,7 +8,7 @@ use lib.ListN.{getD}
 use Rattle.rules.specs.Answers.{orD, isOk}
 use Rattle.rules.specs.Expressions.{Expr, mentions}
 use Rattle.rules.specs.Listing.{readFrame}
-use Rattle.rules.specs.Programs.{Placeℕ, Stmt, gone, instr, label, variable, comment, org, bytes, words}
+use Rattle.rules.specs.Programs.{Placeℕ, Stmt, gone, instr, label, variable, comment, org, bytes, words, pad}
 
 -- how often an expression holds the name n
 abbrev pub times : (n : ℕ) → Expr → ℕ
@@ -28,6 +28,7 @@ itemsOf (comment x) = []
 itemsOf (org l) = []
 itemsOf (bytes es) = es
 itemsOf (words es) = es
+itemsOf (pad add m) = []
 
 -- a frame that was read at place i is a variable
 pub record VariableIn (i : Placeℕ) (s : List ℕ) : Type 0 where

@@ -8,6 +8,7 @@ use instruction::tables::operand_count;
 use rules::Place;
 use slots::argument_in;
 use slots::frame_at;
+use slots::is_data;
 use slots::is_register;
 use slots::item_in;
 use slots::items_in;
@@ -154,10 +155,10 @@ fn in_statement(
     if kind == 3 {
         return in_variable(frame, at, n);
     }
-    if kind < 6 {
-        return 0;
+    if is_data(kind) {
+        return in_items(frame, at, n);
     }
-    in_items(frame, at, n)
+    0
 }
 
 // In the statement at a place, if it is of the context: "a name of another context is another name".

@@ -4,6 +4,7 @@ use crate::targets::NO_OWNER;
 use crate::targets::form_at;
 use crate::targets::number_at;
 use instruction::tables::is_transfer;
+use rules::Address;
 use rules::Place;
 use slots::size_at;
 ghost use mathlib.Core.Path.{_≡_};
@@ -11,12 +12,11 @@ ghost use mathlib.Core.Bool.{_&&_, not};
 ghost use mathlib.Core.List.{List};
 ghost use Prim.Native.Nat.{ℕ, _<_};
 ghost use lib.Dec.{eqb, leb, ltb};
-ghost use Rattle.rules.specs.Programs.{byteCount};
+ghost use Rattle.rules.specs.Layout.{sizeIn};
 ghost use Rattle.rules.specs.Rewriting.{everyInnerLabel, noInnerLabelBetween, noInteriorLabelAt};
 ghost use Rattle.listing.specs.Tables.{Held};
-ghost use Rattle.slots.specs.Slots.{slots, programOf, Sound};
+ghost use Rattle.slots.specs.Slots.{slots, programOf, Positioned, Sound};
 ghost use Rattle.patterns.specs.Labels.{labelAt, ofLabel, OwnerIn};
-ghost use Rattle.patterns.specs.Targets.{standsAt};
 
 // The inner label that the target of the transfer in a slot became.
 pub fn inner_label_at(
@@ -132,24 +132,38 @@ pub fn no_interior_label_at(
     true
 }
 
-// The offset is below the size of the owner.
+// A position of the table.
+fn position_in(x: u32) -> Address
+    ensures { λ r. ⌜ r .0 ≡ x ⌝ }
+{
+    Address(x as usize)
+}
+
+// The offset is below the size of the owner, where it comes. `positions` are those of the slots.
 fn fits_owner(
     frames: &[u8],
     starts: &[u16; 1025],
     count: usize,
     forms: &[u8; 1024],
+    positions: &[u32; 1025],
     label: InnerLabel,
 ) -> bool
     requires { ⌜ Held (now frames) (now starts) count × OwnerIn count label ⌝ }
-    ensures { λ r. ⌜ ((carry owners offsets : List ℕ) → r ≡ ofLabel (λ owner o. ltb o (byteCount (standsAt (slots (now (frames .entry)) (now (starts .entry)) count (now (forms .entry)) carry owners offsets) owner))) label) ⌝ }
+    ensures { λ r. ⌜ ((carry owners offsets : List ℕ) →
+        (let t = slots (now (frames .entry)) (now (starts .entry)) count (now (forms .entry)) carry owners offsets in
+        Positioned t (now (positions .entry)) → r ≡ ofLabel (λ owner o. ltb o (sizeIn (programOf t) owner)) label)) ⌝ }
 {
     match label {
-        InnerLabel::Of(owner, offset) => offset < size_at(frames, starts, count, forms, owner),
+        InnerLabel::Of(owner, offset) => {
+            let i = owner.0;
+            let q = position_in(positions[i]);
+            offset < size_at(frames, starts, count, forms, owner, q)
+        }
         InnerLabel::Nothing => true,
     }
 }
 
-// "every inner label's offset is below its owner's size"
+// "every inner label's offset is below its owner's size". `positions` are those of the slots.
 pub fn offsets_fit(
     frames: &[u8],
     starts: &[u16; 1025],
@@ -158,9 +172,13 @@ pub fn offsets_fit(
     carry: &[u16; 1024],
     owners: &[u16; 1024],
     offsets: &[u16; 1024],
+    positions: &[u32; 1025],
 ) -> bool
-    requires { ⌜ Sound (slots (now frames) (now starts) count (now forms) (now carry) (now owners) (now offsets)) ⌝ }
-    ensures { λ r. ⌜ r ≡ everyInnerLabel (λ owner o. ltb o (byteCount (standsAt (slots (now (frames .entry)) (now (starts .entry)) count (now (forms .entry)) (now (carry .entry)) (now (owners .entry)) (now (offsets .entry))) owner))) (programOf (slots (now (frames .entry)) (now (starts .entry)) count (now (forms .entry)) (now (carry .entry)) (now (owners .entry)) (now (offsets .entry)))) ⌝ }
+    requires { ⌜ (let t = slots (now frames) (now starts) count (now forms) (now carry) (now owners) (now offsets) in
+        Sound t × Positioned t (now positions)) ⌝ }
+    ensures { λ r. ⌜ (let p = programOf (slots (now (frames .entry)) (now (starts .entry)) count (now (forms .entry))
+        (now (carry .entry)) (now (owners .entry)) (now (offsets .entry))) in
+        r ≡ everyInnerLabel (λ owner o. ltb o (sizeIn p owner)) p) ⌝ }
 {
     let mut j = 0;
     while j < count {
@@ -174,7 +192,7 @@ pub fn offsets_fit(
             offsets,
             Place(j),
         );
-        if !fits_owner(frames, starts, count, forms, label) {
+        if !fits_owner(frames, starts, count, forms, positions, label) {
             return false;
         }
         j += 1;

@@ -21,8 +21,8 @@ use Rattle.rules.specs.Refusals.{faultOf}
 use Rattle.rules.specs.Answers.{atPlace, Judged, ok, no, require}
 use Rattle.rules.specs.Expressions.{Parsed, got, long, broken, readExpr}
 use Rattle.rules.specs.Forms.{operandsAt}
-use Rattle.rules.specs.Programs.{Placeℕ, Operand, register, Stmt, gone, instr, label, variable, comment, org, bytes, words, Program}
-use Rattle.rules.specs.Listing.{taken, Line, linesOf, takeByte, takePair, parsed, takeExpr, takeRegister, takeValue, takeOperand, takeOperands, takeExprs, takeItems, alone, readInstr, readLabel, readVariable, readOrg, readBytes, readWords, readFrame, unhex, withinLimits, wellFormed, readLines, readListing}
+use Rattle.rules.specs.Programs.{Placeℕ, Operand, register, Stmt, gone, instr, label, variable, comment, org, bytes, words, pad, Program}
+use Rattle.rules.specs.Listing.{taken, Line, linesOf, takeByte, takePair, parsed, takeExpr, takeRegister, takeValue, takeOperand, takeOperands, takeExprs, takeItems, alone, readInstr, readLabel, readVariable, readOrg, readBytes, readWords, readPad, readFrame, unhex, withinLimits, wellFormed, readLines, readListing}
 use Rattle.rules.specs.Names.{Entry}
 use Rattle.rules.specs.Rewriting.{instrBytes}
 use Rattle.rules.specs.Run.{outputOf, run}
@@ -135,6 +135,13 @@ module _ (i : Placeℕ) where
   unfolding readWords
   words-here s = says-bind Any Any Here (takeItems i s) _ (items-here s) (λ es t. alone-here (words (es .it)) (es .rest))
 
+  pad-here : (s : List ℕ) → Says Any Here (readPad i s)
+  unfolding readPad
+  pad-here s =
+      says-bind Any Any Here (takeByte i s) _ (byte-here s) (λ a t.
+      says-bind Any Any Here (takePair i (a .rest)) _ (pair-here (a .rest)) (λ m u.
+      says-require Any Here (leb 1 (m .it) && leb (m .it) 256) (Broken (atPlace i)) (alone i (pad (a .it) (m .it)) (m .rest)) refl (λ e. alone-here (pad (a .it) (m .it)) (m .rest))))
+
   frame-here : (s : List ℕ) → Says Any Here (readFrame i s)
   unfolding readFrame
   frame-here s = says-bind Any Any Here (takeByte i s) _ (byte-here s) (λ k t. kinds (k .it) (k .rest))
@@ -151,7 +158,8 @@ module _ (i : Placeℕ) where
           (cond (eqb k 5) (readOrg i s)
           (cond (eqb k 6) (readBytes i s)
           (cond (eqb k 7) (readWords i s)
-          (no (Broken (atPlace i))))))))))
+          (cond (eqb k 8) (readPad i s)
+          (no (Broken (atPlace i)))))))))))
       kinds k s =
           on (eqb k 1) (readInstr i s) _ (instr-here s)
           (on (eqb k 2) (readLabel i s) _ (label-here s)
@@ -159,7 +167,8 @@ module _ (i : Placeℕ) where
           (on (eqb k 4) (ok (comment s)) _ tt
           (on (eqb k 5) (readOrg i s) _ (org-here s)
           (on (eqb k 6) (readBytes i s) _ (bytes-here s)
-          (on (eqb k 7) (readWords i s) (no (Broken (atPlace i))) (words-here s) refl))))))
+          (on (eqb k 7) (readWords i s) _ (words-here s)
+          (on (eqb k 8) (readPad i s) (no (Broken (atPlace i))) (pad-here s) refl)))))))
 
 -- ---- line by line: the 1,025th is refused
 abbrev Early : Refusal → Type 0
@@ -263,6 +272,7 @@ instr-small (comment x) = omega arith
 instr-small (org l) = omega arith
 instr-small (bytes es) = omega arith
 instr-small (words es) = omega arith
+instr-small (pad add m) = omega arith
 
 pub few-rewrites : (asked : Settings) (text : List ℕ) (p : Program) → readListing text ≡ ok p → outputOf asked p .count ≤ 3072
 few-rewrites asked text p e =

@@ -17,8 +17,8 @@ use Rattle.rules.specs.declared.Outcome.{Outcome}
 use Rattle.rules.specs.declared.Outcome.the-variants.{Is}
 use Rattle.rules.specs.Answers.{ok}
 use Rattle.rules.specs.Expressions.{Expr}
-use Rattle.rules.specs.Programs.{Placeℕ, Operand, register, value, inner, Stmt, gone, Program, at, byteCount, argsOf, onLast, retarget}
-use Rattle.rules.specs.Layout.{position, Origin, origin}
+use Rattle.rules.specs.Programs.{Placeℕ, Operand, register, value, inner, Stmt, gone, Program, at, argsOf, onLast, retarget}
+use Rattle.rules.specs.Layout.{position, Origin, origin, sizeIn}
 use Rattle.rules.specs.Judging.{worth, worthOf, judge, assembles, namesOf}
 use Rattle.rules.specs.Rewriting.{innerAt, anchor, ofInner, everyInnerLabel, acceptable, step, optimized, instrBytes, movingOf, holdsLabel}
 use Rattle.rules.proofs.Laws.{by-instr, other}
@@ -30,13 +30,13 @@ use Rattle.promises.proofs.Frames.{isPlain}
 use Rattle.promises.proofs.Listings.{WellMade, made-instr}
 use Rattle.promises.proofs.Passes.{image-assembles}
 use Rattle.promises.proofs.Alike.{Alike, judge-alike}
-use Rattle.promises.proofs.Positions.{SameRoom, AllSameRoom, room-same, room-retarget, position-same, origin-of}
+use Rattle.promises.proofs.Positions.{SameRoom, AllSameRoom, room-same, room-retarget, position-same, origin-of, size-same}
 use Rattle.promises.proofs.Retargets.{Kept, KeptBy, positions-kept, same-alike, retarget-alike}
 
 -- what rule 5 asks of a candidate
-pub acceptable-parts : (p : Program) → acceptable p ≡ true → (everyInnerLabel (λ owner o. ltb o (byteCount (at p owner))) p ≡ true) × (assembles p ≡ true)
+pub acceptable-parts : (p : Program) → acceptable p ≡ true → (everyInnerLabel (λ owner o. ltb o (sizeIn p owner)) p ≡ true) × (assembles p ≡ true)
 unfolding acceptable
-acceptable-parts p e = and-true (everyInnerLabel (λ owner o. ltb o (byteCount (at p owner))) p) (assembles p) e
+acceptable-parts p e = and-true (everyInnerLabel (λ owner o. ltb o (sizeIn p owner)) p) (assembles p) e
 
 -- ---- anchoring moves nothing and keeps what each operand is worth
 module _ (p : Program) where
@@ -83,7 +83,7 @@ module _ (p : Program) where
 
   -- an inner label's offset is below its owner's size
   below-owner : Placeℕ → ℕ → Bool
-  below-owner i o = ltb o (byteCount (at (anchor p) i))
+  below-owner i o = ltb o (sizeIn (anchor p) i)
 
   label-below : (i : Placeℕ) (x : Operand) → isPlain x ≡ true → ofInner below-owner (anchorIn p i x) ≡ true
   unfolding below-owner here
@@ -94,7 +94,7 @@ module _ (p : Program) where
       aimed-at none d = refl
       aimed-at (some g) d =
           let w = origin-of p (here i e) g d in
-          lt-ltb (g .offset) (byteCount (at (anchor p) (g .place))) (omega (arith, anchor-room .1 (g .place) .as-big, w .2 .has-byte))
+          lt-ltb (g .offset) (sizeIn (anchor p) (g .place)) (omega (arith, size-same p (anchor p) anchor-room (g .place), w .2 .has-byte))
 
       on : (b : Bool) → ofInner below-owner (cond b (value e) (innerAt e (origin p (here i e)))) ≡ true
       on true = refl

@@ -20,7 +20,7 @@ use Rattle.rules.specs.Values.{below, signedByte, nat, mod256}
 use Rattle.rules.specs.Encoding.{page, field, byte, word}
 use Rattle.rules.specs.Expressions.{Expr, num}
 use Rattle.rules.specs.Forms.{sizeAt, operandsAt}
-use Rattle.rules.specs.Programs.{Placeℕ, Addressℕ, Operand, register, Stmt, gone, instr, label, variable, comment, org, bytes, words, Program, at}
+use Rattle.rules.specs.Programs.{Placeℕ, Addressℕ, Operand, register, Stmt, gone, instr, label, variable, comment, org, bytes, words, pad, Program, at}
 use Rattle.rules.specs.Layout.{after, position}
 use Rattle.rules.specs.Names.{Entry, contextAt}
 use Rattle.rules.specs.Judging.{valueAt, worth, worthOf, fields, items, encode}
@@ -130,6 +130,7 @@ module _ (names : List Entry) (p : Program) (i : Placeℕ) (r : Refusal) where
       from-item es (inl e) (says-no Any (Of (worth names (contextAt p i)) (num (pos 0)) (after (position p i) (at p i)) i 0 es) _ r (items-amount names 256 byte (after (position p i) (at p i)) i (contextAt p i) 0 es) h)
   by-statement (words es) e h =
       from-item es (inr e) (says-no Any (Of (worth names (contextAt p i)) (num (pos 0)) (after (position p i) (at p i)) i 0 es) _ r (items-amount names 65536 word (after (position p i) (at p i)) i (contextAt p i) 0 es) h)
+  by-statement (pad add m) e h = clash (cc h)
 
   -- number-at-fault: what encoding refuses has the argument's place and the number at fault
   pub number-at-fault : encodeAt names p i ≡ no r → NumberAtFault names p i r

@@ -11,7 +11,7 @@ use Rattle.laws.specs.Lists.{total}
 use Rattle.laws.proofs.Tests.{and-true}
 use Rattle.rules.specs.Expressions.{name}
 use Rattle.rules.specs.Forms.{isTransfer}
-use Rattle.rules.specs.Programs.{Placeℕ, Operand, register, value, inner, Stmt, gone, instr, label, variable, comment, org, bytes, words, Program, at, onInstr, lastOf, onLast, retarget}
+use Rattle.rules.specs.Programs.{Placeℕ, Operand, register, value, inner, Stmt, gone, instr, label, variable, comment, org, bytes, words, Program, at, onInstr, lastOf, onLast, retarget, pad}
 use Rattle.rules.specs.Rewriting.{anchor, aimed}
 use Rattle.promises.specs.Demand3.{aimsAt, carries}
 use Rattle.rules.proofs.Laws.{by-instr, by-change, other}
@@ -68,6 +68,7 @@ carrier c s o (comment x) h = absurd (omega arith)
 carrier c s o (org l) h = absurd (omega arith)
 carrier c s o (bytes es) h = absurd (omega arith)
 carrier c s o (words es) h = absurd (omega arith)
+carrier c s o (pad add m) h = absurd (omega arith)
 
 -- a rewrite keeps their number: the branch holds a bare name and takes the target that the dropped unconditional held
 pub carries-step : (c s o : ℕ) (p q : Program) → Step p q → total (carries c s o) q ≡ total (carries c s o) p

@@ -16,7 +16,7 @@ use Rattle.rules.specs.declared.Kind.the-variants.{Reg, I8, D9, Bit, Rel8, A12,
 use Rattle.rules.specs.Answers.{atPlace, Judged, ok, no, _>>=_, _>>_, checkEach, require}
 use Rattle.rules.specs.Expressions.{Expr}
 use Rattle.rules.specs.Forms.{sizeAt, operandsAt}
-use Rattle.rules.specs.Programs.{Placeℕ, Addressℕ, Operand, register, value, inner, Stmt, gone, instr, label, variable, comment, org, bytes, words, Program, asName, argsOf, isGone, Space, empty, exactly, from, spaceOf, Naming, unnamed, labels, binds, namingOf}
+use Rattle.rules.specs.Programs.{Placeℕ, Addressℕ, Operand, register, value, inner, Stmt, gone, instr, label, variable, comment, org, bytes, words, Program, asName, argsOf, isGone, Space, empty, exactly, from, spaceAt, Naming, unnamed, labels, binds, namingOf, pad}
 use Rattle.rules.specs.Layout.{after}
 use Rattle.rules.specs.Names.{enter, Key, Entry, placedFrom, placed}
 use Rattle.rules.specs.Values.{below, signedByte, nat}
@@ -41,6 +41,7 @@ view (comment x) = is-live refl
 view (org l) = is-live refl
 view (bytes es) = is-live refl
 view (words es) = is-live refl
+view (pad add m) = is-live refl
 
 -- a slot that is kept stays
 pub compact-live : (s : Stmt) (p : Program) → isGone s ≡ false → compact (s ∷ p) ≡ s ∷ compact p
@@ -63,7 +64,7 @@ reaches-moved : (i j : Placeℕ) (q : Addressℕ) → reaches i q ≡ ok tt → 
 reaches-moved i j q e = require-moved (leb q 65536) _ _ (ok tt) (ok tt) tt (λ z. z) e
 
 settles-moved : (i j : Placeℕ) (q : Addressℕ) (s : Stmt) → settles i q s ≡ ok tt → settles j q s ≡ ok tt
-settles-moved i j q s = on (spaceOf s)
+settles-moved i j q s = on (spaceAt q s)
   where
     on : (x : Space) → settlesIn i q x ≡ ok tt → settlesIn j q x ≡ ok tt
     on empty e = e
@@ -136,6 +137,7 @@ encode-moved names p p′ i j k q (comment x) b h e = e
 encode-moved names p p′ i j k q (org l) b h e = e
 encode-moved names p p′ i j k q (bytes es) b h e = items-moved names 256 byte i j k 0 es b e
 encode-moved names p p′ i j k q (words es) b h e = items-moved names 65536 word i j k 0 es b e
+encode-moved names p p′ i j k q (pad add m) b h e = e
 
 -- ---- the passes
 once-compact : (seen : List Key) (i j k q : ℕ) (p : Program) → noNameTwice seen (placedFrom i k q p) ≡ ok tt → noNameTwice seen (placedFrom j k q (compact p)) ≡ ok tt

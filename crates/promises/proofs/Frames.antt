@@ -18,8 +18,8 @@ use Rattle.rules.specs.Refusals.{faultOf}
 use Rattle.rules.specs.Answers.{atPlace, Judged, ok, no, _>>=_}
 use Rattle.rules.specs.Expressions.{Expr, Parsed, got, long, broken, readExpr, bytesOf}
 use Rattle.rules.specs.Forms.{operandsAt}
-use Rattle.rules.specs.Programs.{Placeℕ, Operand, register, Stmt, instr, label, variable, comment, org, bytes, words, onInstr}
-use Rattle.rules.specs.Listing.{Taken, taken, takeByte, takePair, parsed, takeExpr, takeRegister, takeValue, takeOperand, takeOperands, takeExprs, takeItems, alone, readInstr, readLabel, readVariable, readOrg, readBytes, readWords, readFrame}
+use Rattle.rules.specs.Programs.{Placeℕ, Operand, register, Stmt, instr, label, variable, comment, org, bytes, words, onInstr, pad}
+use Rattle.rules.specs.Listing.{Taken, taken, takeByte, takePair, parsed, takeExpr, takeRegister, takeValue, takeOperand, takeOperands, takeExprs, takeItems, alone, readInstr, readLabel, readVariable, readOrg, readBytes, readWords, readFrame, readPad}
 use Rattle.rules.specs.Rewriting.{ofInner}
 use Rattle.rules.specs.Output.{operandBytes, frameOf}
 use Rattle.promises.specs.Demand1.{hasNumber}
@@ -226,6 +226,20 @@ module _ (i : Placeℕ) (s : List ℕ) where
       says-bind (InItems s) F (OfReading i) (takeItems i s) _ (items-taken i s) (λ es h.
       alone-framed i (suc (length s)) (Bytes s) (words (es .it)) (es .rest) (λ z. record { made = refl; as-long = omega (arith, h .all); sound = λ b. h .good b .0 }))
 
+  pad-framed : Says F (OfReading i) (readPad i s)
+  unfolding readPad frameOf Byte Pair
+  pad-framed =
+      says-bind (Byte s) F (OfReading i) (takeByte i s) _ (byte-taken i s) (λ add h.
+      says-bind (Pair (add .rest)) F (OfReading i) (takePair i (add .rest)) _ (pair-taken i (add .rest)) (λ m k.
+      says-require F (OfReading i) (leb 1 (m .it) && leb (m .it) 256) (Broken (atPlace i)) _ (refl, refl) (λ t.
+      let l = and-true (leb 1 (m .it)) (leb (m .it) 256) t in
+      alone-framed i (suc (length s)) (Bytes s) (pad (add .it) (m .it)) (m .rest) (λ z.
+      record {
+        made = refl;
+        as-long = omega (arith, h .all, k .all);
+        sound = λ b. (h .good b .0, leb-true 1 (m .it) (l .0), leb-true (m .it) 256 (l .1));
+      }))))
+
   -- by the first byte
   kind-framed : (k : ℕ) → Says F (OfReading i) (readFrame i (k ∷ s))
   unfolding readFrame frameOf takeByte _>>=_
@@ -236,7 +250,8 @@ module _ (i : Placeℕ) (s : List ℕ) where
       (on (eqb k 4) (ok (comment s)) _ (record { made = refl; as-long = refl; sound = all-bytes s })
       (on (eqb k 5) (readOrg i s) _ org-framed
       (on (eqb k 6) (readBytes i s) _ bytes-framed
-      (on (eqb k 7) (readWords i s) (no (Broken (atPlace i))) words-framed (refl, refl)))))))
+      (on (eqb k 7) (readWords i s) _ words-framed
+      (on (eqb k 8) (readPad i s) (no (Broken (atPlace i))) pad-framed (refl, refl))))))))
     where
       on : (b : Bool) (x y : Judged Stmt) → Says F (OfReading i) x → Says F (OfReading i) y → Says F (OfReading i) (cond b x y)
       on b x y h j = says-cond F (OfReading i) b x y (λ t. h) (λ t. j)

@@ -14,8 +14,8 @@ use Rattle.rules.specs.declared.Kind.the-variants.{Reg, I8, D9, Bit, Rel8, A12,
 use Rattle.rules.specs.Answers.{ok, _>>=_, require}
 use Rattle.rules.specs.Expressions.{Expr, pair, bytesOf}
 use Rattle.rules.specs.Forms.{operandsAt}
-use Rattle.rules.specs.Programs.{Placeℕ, Operand, register, value, inner, Stmt, gone, instr, label, variable, comment, org, bytes, words, isGone}
-use Rattle.rules.specs.Listing.{taken, takeByte, takePair, takeExpr, takeRegister, takeValue, takeOperand, takeOperands, takeExprs, takeItems, readInstr, readLabel, readVariable, readOrg, readBytes, readWords, readFrame}
+use Rattle.rules.specs.Programs.{Placeℕ, Operand, register, value, inner, Stmt, gone, instr, label, variable, comment, org, bytes, words, isGone, pad}
+use Rattle.rules.specs.Listing.{taken, takeByte, takePair, takeExpr, takeRegister, takeValue, takeOperand, takeOperands, takeExprs, takeItems, readInstr, readLabel, readVariable, readOrg, readBytes, readWords, readFrame, readPad}
 use Rattle.rules.specs.Output.{operandBytes, frameOf}
 use Rattle.promises.specs.Demand2.{own}
 use Rattle.promises.proofs.RoundTrip.{two-back, readExpr-back, AllBytes, no-bytes, cons-bytes, append-bytes, pair-bytes, fine-bytes}
@@ -85,7 +85,7 @@ module _ (i : Placeℕ) where
 
   -- ---- frames
   pub frame-back : (s : Stmt) → SoundStmt s → plainStmt s ≡ true → isGone s ≡ false → readFrame i (frameOf s) ≡ ok (own i s)
-  unfolding readFrame frameOf takeByte _>>=_ require readInstr readLabel readVariable readOrg readBytes readWords
+  unfolding readFrame frameOf takeByte _>>=_ require readInstr readLabel readVariable readOrg readBytes readWords readPad
   frame-back gone s h g = true-false g
   frame-back (instr f xs c) s h g =
       rw (lt-ltb f 70 (s .0), ← append-nil (each (λ x. operandBytes x) xs), operands-back (operandsAt f) xs (s .1) h [], _>>=_)
@@ -96,6 +96,7 @@ module _ (i : Placeℕ) where
   frame-back (org l) s h g = rw (pair-back l [], _>>=_)
   frame-back (bytes es) s h g = rw (items-back es (s .0) (s .1) (s .2), _>>=_)
   frame-back (words es) s h g = rw (items-back es (s .0) (s .1) (s .2), _>>=_)
+  frame-back (pad add m) s h g = rw (pair-back m [], _>>=_, le-leb 1 m (s .1), le-leb m 256 (s .2))
 
 -- ---- what is written are bytes
 operand-bytes : (b : Bool) (x : Operand) → Sound b x → AllBytes (operandBytes x)
@@ -129,3 +130,4 @@ frame-bytes (comment x) s = cons-bytes 4 x (omega arith) s
 frame-bytes (org l) s = cons-bytes 5 (pair l) (omega arith) (pair-bytes l [] s no-bytes)
 frame-bytes (bytes es) s = cons-bytes 6 (length es ∷ each (λ e. bytesOf e) es) (omega arith) (cons-bytes (length es) (each (λ e. bytesOf e) es) (omega (arith, s .1)) (exprs-bytes es (s .2)))
 frame-bytes (words es) s = cons-bytes 7 (length es ∷ each (λ e. bytesOf e) es) (omega arith) (cons-bytes (length es) (each (λ e. bytesOf e) es) (omega (arith, s .1)) (exprs-bytes es (s .2)))
+frame-bytes (pad add m) s = cons-bytes 8 (add ∷ pair m) (omega arith) (cons-bytes add (pair m) (s .0) (pair-bytes m [] (omega (arith, s .2)) no-bytes))

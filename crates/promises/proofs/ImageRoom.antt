@@ -7,7 +7,7 @@ use Prim.Native.Nat.{ℕ, zero, suc, _+_, _-_, _*_, _/_, _%_, _^_, _≤_, _<_}
 use native.Mathlib.Nat.{mul-suc}
 use native.Mathlib.Omega.{arith}
 use lib.Dec.{T, leb, eqb}
-use lib.ListN.{length, getD, length-append, length-replicate, length-map}
+use lib.ListN.{length, getD, length-append, length-replicate, length-map, replicate}
 use borrow.Author.Tests.{eqb-true, leb-true}
 use Rattle.laws.specs.Counts.{allTo}
 use Rattle.laws.proofs.Tests.{lt-or-le}
@@ -17,12 +17,12 @@ use Rattle.rules.specs.Answers.{ok, require}
 use Rattle.rules.specs.Expressions.{Expr}
 use Rattle.rules.specs.Forms.{table, form, formAt, sizeAt, operandsAt}
 use Rattle.rules.specs.Patterns.{codes, argument, ontoByte, Mode, bit, letter, digits, readPattern, rowsOf, bytesAt}
-use Rattle.rules.specs.Programs.{Placeℕ, Addressℕ, Stmt, gone, instr, label, variable, comment, org, bytes, words, Program}
-use Rattle.rules.specs.Layout.{after, gap, lay}
+use Rattle.rules.specs.Programs.{Placeℕ, Addressℕ, Stmt, gone, instr, label, variable, comment, org, bytes, words, Program, pad, Space, empty, exactly, from, upTo, spaceAt, bytesIn, byteCount}
+use Rattle.rules.specs.Layout.{after, gap, lay, behind, layIn}
 use Rattle.rules.specs.Names.{enter, Entry, placedFrom, placed}
 use Rattle.rules.specs.Encoding.{byte, word}
 use Rattle.rules.specs.Values.{nat, below}
-use Rattle.rules.specs.Judging.{settles, positionsFit, valueAt, worth, fields, items, encode, encodeAll, judge}
+use Rattle.rules.specs.Judging.{positionsFit, valueAt, worth, fields, items, encode, encodeAll, judge, settlesIn}
 use Rattle.rules.proofs.Laws.{then-ok, require-ok}
 use Rattle.promises.proofs.Passes.{judge-passes}
 use Rattle.promises.proofs.Positions.{fit-cons}
@@ -104,36 +104,41 @@ reached : (q n l : ℕ) (rest : List ℕ) → l ≡ n → q + n ≤ 65536 → (1
 reached q n l [] e h k = omega arith
 reached q n l (b ∷ rest) e h k = omega (arith, k (omega arith))
 
-gap-length : (n : ℕ) (rest : List ℕ) → 1 ≤ length rest → length (gap n rest) ≡ n + length rest
+none-of : (b : List ℕ) → b ≡ [] → length b ≡ 0
+none-of b e = ap length e
+
+pub gap-length : (n : ℕ) (rest : List ℕ) → 1 ≤ length rest → length (gap n rest) ≡ n + length rest
 gap-length n [] h = absurd (omega arith)
 gap-length n (b ∷ rest) h = rw (length-append, length-replicate)
 
-gap-some : (n : ℕ) (rest : List ℕ) → 1 ≤ length (gap n rest) → 1 ≤ length rest
+pub gap-some : (n : ℕ) (rest : List ℕ) → 1 ≤ length (gap n rest) → 1 ≤ length rest
 gap-some n [] h = h
 gap-some n (b ∷ rest) h = omega arith
 
-lays : (names : List Entry) (p : Program) (i k : ℕ) (q : Addressℕ) (s : Stmt) (b rest : List ℕ) → encode names p i k q s ≡ ok b → settles i q s ≡ ok tt
-    → (1 ≤ length rest → after q s + length rest ≤ 65536) → 1 ≤ length (lay q s b rest) → q + length (lay q s b rest) ≤ 65536
+-- a statement has as many bytes as its space says
+pub encode-size : (names : List Entry) (p : Program) (i k : ℕ) (q : Addressℕ) (s : Stmt) (b : List ℕ) → encode names p i k q s ≡ ok b → length b ≡ byteCount q s
 unfolding encode
-lays names p i k q gone b rest e t h l = h l
-lays names p i k q (instr f xs c) b rest e t h l =
+encode-size names p i k q gone b e = none-of b (cc e)
+encode-size names p i k q (instr f xs c) b e =
     let v = then-ok (fields names p i k (q + sizeAt f) 0 (operandsAt f) xs) _ b e in
     let z : b ≡ bytesAt f (v .0) = cc (v .2) in
-    let n : length b ≡ sizeAt f = ap length z ∙ bytes-size f (v .0) in
-    rw (length-append b rest) (reached q (sizeAt f) (length b) rest n (leb-true (q + sizeAt f) 65536 (require-ok (leb (q + sizeAt f) 65536) _ _ tt t .0)) h)
-lays names p i k q (label n) b rest e t h l = h l
-lays names p i k q (variable n d) b rest e t h l = h l
-lays names p i k q (comment x) b rest e t h l = h l
-lays names p i k q (org a) b rest e t h l =
+    ap length z ∙ bytes-size f (v .0)
+encode-size names p i k q (label n) b e = none-of b (cc e)
+encode-size names p i k q (variable n d) b e = none-of b (cc e)
+encode-size names p i k q (comment x) b e = none-of b (cc e)
+encode-size names p i k q (org a) b e = none-of b (cc e)
+encode-size names p i k q (bytes es) b e = omega (arith, items-size names 256 1 byte (λ v. refl) i k 0 es b e)
+encode-size names p i k q (words es) b e = items-size names 65536 2 word (λ v. refl) i k 0 es b e
+encode-size names p i k q (pad add m) b e = let z : b ≡ replicate (upTo q m + add) 0 = cc e in ap length z ∙ length-replicate (upTo q m + add) 0
+
+lays : (i : Placeℕ) (q : Addressℕ) (x : Space) (b rest : List ℕ) → length b ≡ bytesIn x → settlesIn i q x ≡ ok tt
+    → (1 ≤ length rest → behind q x + length rest ≤ 65536) → 1 ≤ length (layIn q x b rest) → q + length (layIn q x b rest) ≤ 65536
+lays i q empty b rest e t h l = h l
+lays i q (exactly n) b rest e t h l = rw (length-append b rest) (reached q n (length b) rest e (leb-true (q + n) 65536 (require-ok (leb (q + n) 65536) _ _ tt t .0)) h)
+lays i q (from a) b rest e t h l =
     let up = leb-true q a (require-ok (leb q a) _ _ tt t .0) in
     let some : 1 ≤ length rest = gap-some (a - q) rest l in
     rw (gap-length (a - q) rest some) (omega (arith, h some))
-lays names p i k q (bytes es) b rest e t h l =
-    let n : length b ≡ length es = omega (arith, items-size names 256 1 byte (λ v. refl) i k 0 es b e) in
-    rw (length-append b rest) (reached q (length es) (length b) rest n (leb-true (q + length es) 65536 (require-ok (leb (q + length es) 65536) _ _ tt t .0)) h)
-lays names p i k q (words es) b rest e t h l =
-    let n : length b ≡ 2 * length es = items-size names 65536 2 word (λ v. refl) i k 0 es b e in
-    rw (length-append b rest) (reached q (2 * length es) (length b) rest n (leb-true (q + 2 * length es) 65536 (require-ok (leb (q + 2 * length es) 65536) _ _ tt t .0)) h)
 
 -- ---- the image from a statement on
 image-from : (names : List Entry) (p₀ : Program) (i k q : ℕ) (p : Program) (image : List ℕ) → positionsFit (placedFrom i k q p) ≡ ok tt
@@ -146,7 +151,7 @@ image-from names p₀ i k q (s ∷ p) image f e l =
     let r = then-ok (encodeAll names p₀ (placedFrom (suc i) (enter k s) (after q s) p)) _ image (b .2) in
     let z : image ≡ lay q s (b .0) (r .0) = cc (r .2) in
     let m : 1 ≤ length (lay q s (b .0) (r .0)) = rw z at l in
-    rw z (lays names p₀ i (enter k s) q s (b .0) (r .0) (b .1) (t .settled) (image-from names p₀ (suc i) (enter k s) (after q s) p (r .0) (t .rest) (r .1)) m)
+    rw z (lays i q (spaceAt q s) (b .0) (r .0) (encode-size names p₀ i (enter k s) q s (b .0) (b .1)) (t .settled) (image-from names p₀ (suc i) (enter k s) (after q s) p (r .0) (t .rest) (r .1)) m)
 
 -- from address 0
 pub image-room : (p : Program) (image : List ℕ) → judge p ≡ ok image → length image ≤ 65536

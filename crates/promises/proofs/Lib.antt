@@ -32,6 +32,8 @@ pub mod Chains
 pub mod Anchors
 pub mod RunEnds
 pub mod Acceptable
+pub mod Rises
+pub mod ImageEnds
 -- ---- the output
 pub mod WritesBack
 pub mod Shows

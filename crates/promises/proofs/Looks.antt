@@ -11,7 +11,7 @@ use Rattle.laws.proofs.Options.{bind-some, given-some}
 use Rattle.rules.specs.Expressions.{Expr, num, name, two, one}
 use Rattle.rules.specs.Forms.{isUnconditional}
 use Rattle.rules.specs.Names.{isLocal}
-use Rattle.rules.specs.Programs.{Operand, register, value, inner, Stmt, gone, instr, label, variable, comment, org, bytes, words, Instruction, asInstr, asLabel, lastOf, onLast}
+use Rattle.rules.specs.Programs.{Operand, register, value, inner, Stmt, gone, instr, label, variable, comment, org, bytes, words, Instruction, asInstr, asLabel, lastOf, onLast, pad}
 use Rattle.rules.specs.Rewriting.{branch, unconditional, localLabel, namesBare, isBare, bareIn}
 
 -- ---- statements
@@ -25,6 +25,7 @@ asInstr-some (comment t) x e = none-some x e
 asInstr-some (org l) x e = none-some x e
 asInstr-some (bytes es) x e = none-some x e
 asInstr-some (words es) x e = none-some x e
+asInstr-some (pad add m) x e = none-some x e
 
 -- a label
 pub asLabel-some : (s : Stmt) (n : ℕ) → asLabel s ≡ some n → s ≡ label n
@@ -37,6 +38,7 @@ asLabel-some (comment t) n e = none-some n e
 asLabel-some (org l) n e = none-some n e
 asLabel-some (bytes es) n e = none-some n e
 asLabel-some (words es) n e = none-some n e
+asLabel-some (pad add m) n e = none-some n e
 
 -- a branch of form f
 pub branch-some : (f : ℕ) (s : Stmt) (x : Instruction) → branch f s ≡ some x → s ≡ instr f (x .args) (x .carried)

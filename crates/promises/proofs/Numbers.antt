@@ -18,7 +18,7 @@ use Rattle.rules.specs.Answers.{atPlace, Judged, ok, checkEach, require}
 use Rattle.rules.specs.Values.{below, signedByte, nat}
 use Rattle.rules.specs.Expressions.{Expr}
 use Rattle.rules.specs.Forms.{sizeAt, operandsAt}
-use Rattle.rules.specs.Programs.{Placeℕ, Addressℕ, Operand, Stmt, gone, instr, label, variable, comment, org, bytes, words, Program, asName, Space, empty, exactly, from, spaceOf, Naming as NamingOf, unnamed, labels, binds, namingOf}
+use Rattle.rules.specs.Programs.{Placeℕ, Addressℕ, Operand, Stmt, gone, instr, label, variable, comment, org, bytes, words, Program, asName, Space, empty, exactly, from, spaceAt, Naming as NamingOf, unnamed, labels, binds, namingOf, pad}
 use Rattle.rules.specs.Layout.{after}
 use Rattle.rules.specs.Names.{enter, Key, Entry, placedFrom, placed}
 use Rattle.rules.specs.Encoding.{page, field, byte, word}
@@ -54,7 +54,7 @@ module _ (P : Placeℕ → Type 0) where
   reaches-says i q h = says-require Any (Laying P) (leb q 65536) (Beyond (atPlace i)) (ok tt) (record { number = refl; place = h }) (λ t. tt)
 
   pub settles-says : (i : Placeℕ) (q : Addressℕ) (s : Stmt) → P i → Says Any (Laying P) (settles i q s)
-  settles-says i q s h = on (spaceOf s)
+  settles-says i q s h = on (spaceAt q s)
     where
       on : (x : Space) → Says Any (Laying P) (settlesIn i q x)
       on empty = tt
@@ -131,6 +131,7 @@ module _ (P : Placeℕ → Type 0) where
   encode-says names p i k q (org l) h = tt
   encode-says names p i k q (bytes es) h = items-say names 256 byte i k 0 es h
   encode-says names p i k q (words es) h = items-say names 65536 word i k 0 es h
+  encode-says names p i k q (pad add m) h = tt
 
 -- ---- the passes, over n statements at most
 module _ (n : ℕ) where

@@ -79,10 +79,10 @@ unfolding writeBack
 rank-writeBack p b = rank-map (plainTarget p) p b
 
 -- what has a byte is not gone; nor is an instruction
-pub byte-live : (s : Stmt) (o : ℕ) → o < byteCount s → isGone s ≡ false
-byte-live s o h = on (view s) h
+pub byte-live : (q : Addressℕ) (s : Stmt) (o : ℕ) → o < byteCount q s → isGone s ≡ false
+byte-live q s o h = on (view s) h
   where
-    on : {s : Stmt} → View s → o < byteCount s → isGone s ≡ false
+    on : {s : Stmt} → View s → o < byteCount q s → isGone s ≡ false
     on is-gone h = absurd (omega arith)
     on (is-live l) h = l
 

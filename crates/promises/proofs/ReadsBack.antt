@@ -15,7 +15,7 @@ use Rattle.laws.proofs.Counts.{all-at}
 use Rattle.rules.specs.declared.Settings.{Settings}
 use Rattle.rules.specs.Answers.{ok}
 use Rattle.rules.specs.Forms.{formAt, operandsAt}
-use Rattle.rules.specs.Programs.{Placeℕ, Operand, register, value, inner, Stmt, gone, instr, label, variable, comment, org, bytes, words, Program, at, asName}
+use Rattle.rules.specs.Programs.{Placeℕ, Operand, register, value, inner, Stmt, gone, instr, label, variable, comment, org, bytes, words, Program, at, asName, pad}
 use Rattle.rules.specs.Listing.{readListing}
 use Rattle.rules.specs.Judging.{judge, encode, namesOf}
 use Rattle.rules.specs.Rewriting.{optimized}
@@ -74,6 +74,7 @@ frame-short (comment x) k = leb-true (frameBytes (comment x)) 120 (k .short)
 frame-short (org l) k = leb-true (frameBytes (org l)) 120 (k .short)
 frame-short (bytes es) k = leb-true (frameBytes (bytes es)) 120 (k .short)
 frame-short (words es) k = leb-true (frameBytes (words es)) 120 (k .short)
+frame-short (pad add m) k = leb-true (frameBytes (pad add m)) 120 (k .short)
 
 -- ---- what is left can be written
 shown-sound : (asked : Settings) (p : Program) → ((i : Placeℕ) → Kept-sound (at p i)) → (i : Placeℕ) → Kept-sound (at (shown asked p) i)
@@ -107,7 +108,7 @@ own-alike p p′ kept names k i s =
     (λ s n. same-alike p p′ kept names k s) s
 
 own-room : (i : Placeℕ) (s : Stmt) → SameRoom s (own i s)
-own-room i s = by-change SameRoom _ (λ f xs c. record { goes-on = λ q. refl; as-big = refl }) (λ s n. room-same s) s
+own-room i s = by-change SameRoom _ (λ f xs c. record { goes-on = λ q. refl; as-big = λ q. refl }) (λ s n. room-same s) s
 
 -- as many statements
 pub length-own : (i : Placeℕ) (p : Program) → length (ownFrom i p) ≡ length p

@@ -4,7 +4,7 @@ use mathlib.Core.List.{List, [], _∷_}
 use Prim.Native.Nat.{ℕ, suc, _+_}
 use Rattle.rules.specs.declared.Kind.{Kind}
 use Rattle.rules.specs.Forms.{sizeAt, operandsAt}
-use Rattle.rules.specs.Programs.{Placeℕ, Addressℕ, Operand, register, value, inner, Stmt, gone, instr, label, variable, comment, org, bytes, words, Program, asName, onLast, retarget}
+use Rattle.rules.specs.Programs.{Placeℕ, Addressℕ, Operand, register, value, inner, Stmt, gone, instr, label, variable, comment, org, bytes, words, Program, asName, onLast, retarget, pad}
 use Rattle.rules.specs.Layout.{position}
 use Rattle.rules.specs.Names.{Entry}
 use Rattle.rules.specs.Judging.{worthOf, fields, encode}
@@ -54,6 +54,7 @@ module _ (p p′ : Program) (kept : Kept p p′) where
         encoded (org l) i q = unfold encode in refl
         encoded (bytes es) i q = unfold encode in refl
         encoded (words es) i q = unfold encode in refl
+        encoded (pad add m) i q = unfold encode in refl
 
     module _ (f : Operand → Operand) (changed : KeptBy names k f p p′) where
       fields-last : (i n j : ℕ) (ds : List Kind) (xs : List Operand) → fields names p′ i k n j ds (onLast f xs) ≡ fields names p i k n j ds xs

@@ -7,7 +7,7 @@ use lib.IntN.{pos}
 use lib.ListN.{length, length-map, List·getD-map}
 use Rattle.rules.specs.declared.Settings.{Settings}
 use Rattle.rules.specs.Expressions.{num}
-use Rattle.rules.specs.Programs.{Placeℕ, Operand, register, value, inner, Stmt, gone, instr, label, variable, comment, org, bytes, words, Program, at, asName, onLast, retarget}
+use Rattle.rules.specs.Programs.{Placeℕ, Operand, register, value, inner, Stmt, gone, instr, label, variable, comment, org, bytes, words, Program, at, asName, onLast, retarget, pad}
 use Rattle.rules.specs.Layout.{position}
 use Rattle.rules.specs.Names.{Entry, enter, contextFrom, contextAt}
 use Rattle.rules.specs.Judging.{encode, judge, namesOf}
@@ -34,6 +34,7 @@ by-spoken P asked o g (comment x) = on (asked .comments)
 by-spoken P asked o g (org l) = o (org l)
 by-spoken P asked o g (bytes es) = o (bytes es)
 by-spoken P asked o g (words es) = o (words es)
+by-spoken P asked o g (pad add m) = o (pad add m)
 
 module _ (asked : Settings) (p : Program) where
   -- at each place
@@ -48,7 +49,7 @@ module _ (asked : Settings) (p : Program) where
   -- each takes the room that it took
   pub shown-room : AllSameRoom p (shown asked p)
   shown-room =
-      (length-shown, λ i. rw (at-shown i) (by-spoken SameRoom asked room-same (λ x. record { goes-on = λ q. refl; as-big = refl }) (at p i)))
+      (length-shown, λ i. rw (at-shown i) (by-spoken SameRoom asked room-same (λ x. record { goes-on = λ q. refl; as-big = λ q. refl }) (at p i)))
 
   -- and stands where it stood
   pub shown-position : (i : Placeℕ) → position (shown asked p) i ≡ position p i
@@ -118,6 +119,7 @@ retarget-spoken asked f (comment x) = on (asked .comments)
 retarget-spoken asked f (org l) = refl
 retarget-spoken asked f (bytes es) = refl
 retarget-spoken asked f (words es) = refl
+retarget-spoken asked f (pad add m) = refl
 
 pub writeBack-shown : (asked : Settings) (p : Program) → writeBack (shown asked p) ≡ shown asked (writeBack p)
 unfolding writeBack shown

@@ -18,8 +18,8 @@ use Rattle.rules.specs.declared.Settings.{Settings}
 use Rattle.rules.specs.Answers.{ok}
 use Rattle.rules.specs.Expressions.{Expr, num, bytesOf}
 use Rattle.rules.specs.Forms.{formAt, isUnconditional}
-use Rattle.rules.specs.Programs.{Placeℕ, Addressℕ, Operand, register, value, inner, Stmt, gone, instr, Program, at, byteCount, onInstr, argsOf, lastOf, onLast, retarget, Space, empty, exactly, from, spaceOf, bytesIn}
-use Rattle.rules.specs.Layout.{after, positionFrom, position, Origin, origin}
+use Rattle.rules.specs.Programs.{Placeℕ, Addressℕ, Operand, register, value, inner, Stmt, gone, instr, Program, at, byteCount, onInstr, argsOf, lastOf, onLast, retarget, Space, empty, exactly, from, spaceAt, bytesIn}
+use Rattle.rules.specs.Layout.{after, positionFrom, position, Origin, origin, sizeIn}
 use Rattle.rules.specs.Names.{enter, placedFrom, placed, contextAt}
 use Rattle.rules.specs.Judging.{settles, positionsFit, settlesIn, worth, namesOf}
 use Rattle.rules.specs.Rewriting.{innerAt, anchor, ofInner, everyInnerLabel, aimed, dropAll, acceptable, optimized, instrBytes, movingOf, holdsLabel}
@@ -151,21 +151,22 @@ unfolding optimized
 end-kept asked p w = chain-keeps asked AllKept kept-step (total instrBytes p) (anchor p) (anchor-kept p w)
 
 -- ---- a byte of a statement lies below 65,536
-reaches-end : (i : Placeℕ) (q : Addressℕ) (s : Stmt) → settles i q s ≡ ok tt → 1 ≤ byteCount s → q + byteCount s ≤ 65536
-reaches-end i q s = on (spaceOf s)
+reaches-end : (i : Placeℕ) (q : Addressℕ) (s : Stmt) → settles i q s ≡ ok tt → 1 ≤ byteCount q s → q + byteCount q s ≤ 65536
+reaches-end i q s = on (spaceAt q s)
   where
     on : (x : Space) → settlesIn i q x ≡ ok tt → 1 ≤ bytesIn x → q + bytesIn x ≤ 65536
     on empty e h = absurd (omega arith)
     on (exactly n) e h = leb-true (q + n) 65536 (require-ok (leb (q + n) 65536) _ _ tt e .0)
     on (from l) e h = absurd (omega arith)
 
-position-end : (i k q : ℕ) (p : Program) → positionsFit (placedFrom i k q p) ≡ ok tt → (j : Placeℕ) → 1 ≤ byteCount (at p j) → positionFrom q p j + byteCount (at p j) ≤ 65536
+position-end : (i k q : ℕ) (p : Program) → positionsFit (placedFrom i k q p) ≡ ok tt → (j : Placeℕ) → 1 ≤ byteCount (positionFrom q p j) (at p j)
+    → positionFrom q p j + byteCount (positionFrom q p j) (at p j) ≤ 65536
 unfolding positionFrom
 position-end i k q [] e j h = absurd (omega arith)
 position-end i k q (s ∷ p) e zero h = reaches-end i q s (fit-cons i k q s p e .settled) h
 position-end i k q (s ∷ p) e (suc j) h = position-end (suc i) (enter k s) (after q s) p (fit-cons i k q s p e .rest) j h
 
-byte-below : (p : Program) → positionsFit (placed p) ≡ ok tt → (j o : ℕ) → o < byteCount (at p j) → position p j + o < 65536
+byte-below : (p : Program) → positionsFit (placed p) ≡ ok tt → (j o : ℕ) → o < sizeIn p j → position p j + o < 65536
 unfolding placed position
 byte-below p e j o h = omega (arith, position-end 0 0 0 p e j (omega arith))
 
@@ -174,7 +175,7 @@ sound-number : (a : ℕ) → a < 65536 → SoundExpr (num (pos a))
 unfolding bytesOf
 sound-number a h = (record { sfits = omega arith }, omega arith)
 
-sounds-written : (p : Program) → positionsFit (placed p) ≡ ok tt → (bs : List Bool) (xs : List Operand) → every (ofInner (λ owner o. ltb o (byteCount (at p owner)))) xs ≡ true
+sounds-written : (p : Program) → positionsFit (placed p) ≡ ok tt → (bs : List Bool) (xs : List Operand) → every (ofInner (λ owner o. ltb o (sizeIn p owner))) xs ≡ true
     → Sounds bs xs → Sounds bs (onLast (plainTarget p) xs)
 unfolding every
 sounds-written p l [] [] t s = s
@@ -184,15 +185,15 @@ sounds-written p l (b ∷ bs) (register r ∷ []) t s = s
 sounds-written p l (b ∷ bs) (value e ∷ []) t s = s
 sounds-written p l (true ∷ bs) (inner i o ∷ []) t s = absurd (s .0)
 sounds-written p l (false ∷ bs) (inner i o ∷ []) t s =
-    (sound-number (position p i + o) (byte-below p l i o (ltb-true o (byteCount (at p i)) (and-true (ltb o (byteCount (at p i))) true t .0))), s .1)
+    (sound-number (position p i + o) (byte-below p l i o (ltb-true o (sizeIn p i) (and-true (ltb o (sizeIn p i)) true t .0))), s .1)
 sounds-written p l (b ∷ bs) (x ∷ y ∷ xs) t s =
-    let test : Operand → Bool = ofInner (λ owner o. ltb o (byteCount (at p owner))) in
+    let test : Operand → Bool = ofInner (λ owner o. ltb o (sizeIn p owner)) in
     (s .0, sounds-written p l bs (y ∷ xs) (and-true (test x) (every test (y ∷ xs)) t .1) (s .1))
 
-kept-written : (p : Program) → positionsFit (placed p) ≡ ok tt → (s : Stmt) → every (ofInner (λ owner o. ltb o (byteCount (at p owner)))) (argsOf s) ≡ true → Kept-sound s
+kept-written : (p : Program) → positionsFit (placed p) ≡ ok tt → (s : Stmt) → every (ofInner (λ owner o. ltb o (sizeIn p owner))) (argsOf s) ≡ true → Kept-sound s
     → Kept-sound (retarget (plainTarget p) s)
 kept-written p l s =
-    by-change (λ s t. every (ofInner (λ owner o. ltb o (byteCount (at p owner)))) (argsOf s) ≡ true → Kept-sound s → Kept-sound t) _
+    by-change (λ s t. every (ofInner (λ owner o. ltb o (sizeIn p owner))) (argsOf s) ≡ true → Kept-sound s → Kept-sound t) _
     (λ f xs c t k. record { sound = (k .sound .0, sounds-written p l (shapes f) xs t (k .sound .1)); short = refl }) (λ s n t k. k) s
 
 -- the end form, written back
@@ -205,4 +206,4 @@ written-sound asked p w good i =
     let laid = judge-passes e (image .0) (image .1) .laid in
     rw (at-writeBack e i)
     (kept-written e laid (at e i)
-    (every-any (λ s. every (ofInner (λ owner o. ltb o (byteCount (at e owner)))) (argsOf s)) e i gone (unfold every in refl) (parts .0)) (end-kept asked p w i))
+    (every-any (λ s. every (ofInner (λ owner o. ltb o (sizeIn e owner))) (argsOf s)) e i gone (unfold every in refl) (parts .0)) (end-kept asked p w i))

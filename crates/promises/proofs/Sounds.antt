@@ -10,7 +10,7 @@ use Rattle.rules.specs.declared.Kind.{Kind}
 use Rattle.rules.specs.declared.Kind.the-variants.{Reg, I8, D9, Bit, Rel8, A12, A16, Rel16}
 use Rattle.rules.specs.Expressions.{Expr, bytesOf}
 use Rattle.rules.specs.Forms.{operandsAt}
-use Rattle.rules.specs.Programs.{Operand, register, value, inner, Stmt, gone, instr, label, variable, comment, org, bytes, words}
+use Rattle.rules.specs.Programs.{Operand, register, value, inner, Stmt, gone, instr, label, variable, comment, org, bytes, words, pad}
 use Rattle.promises.proofs.Parses.{Bytes, Fine}
 use Rattle.promises.proofs.RoundTrip.{isByte, AllBytes}
 
@@ -64,3 +64,4 @@ SoundStmt (comment x) = AllBytes x
 SoundStmt (org l) = l < 65536
 SoundStmt (bytes es) = (1 ≤ length es) × (length es ≤ 16) × SoundExprs es
 SoundStmt (words es) = (1 ≤ length es) × (length es ≤ 16) × SoundExprs es
+SoundStmt (pad add m) = (add < 256) × (1 ≤ m) × (m ≤ 256)

@@ -17,8 +17,8 @@ use Rattle.laws.proofs.Lists.{total-one, total-some, total-two-any, every-any}
 use Rattle.rules.specs.declared.Settings.{Settings}
 use Rattle.rules.specs.declared.Outcome.the-variants.{Is}
 use Rattle.rules.specs.Answers.{ok}
-use Rattle.rules.specs.Programs.{Placeℕ, Operand, register, value, inner, Stmt, gone, instr, Program, at, byteCount, argsOf, lastOf, onLast, retarget, isGone}
-use Rattle.rules.specs.Layout.{position, origin}
+use Rattle.rules.specs.Programs.{Placeℕ, Operand, register, value, inner, Stmt, gone, instr, Program, at, argsOf, lastOf, onLast, retarget, isGone}
+use Rattle.rules.specs.Layout.{position, origin, sizeIn}
 use Rattle.rules.specs.Names.{placed, contextAt}
 use Rattle.rules.specs.Judging.{positionsFit, judge, worth, namesOf}
 use Rattle.rules.specs.Rewriting.{isAnchored, innerAt, anchor, ofInner, everyInnerLabel, instrBytes, optimized}
@@ -34,7 +34,7 @@ use Rattle.promises.proofs.Chains.{chain-keeps}
 use Rattle.promises.proofs.Anchors.{at-anchor, anchorIn}
 use Rattle.promises.proofs.Listings.{WellMade, read-made, made-instr}
 use Rattle.promises.proofs.Passes.{judge-passes}
-use Rattle.promises.proofs.Positions.{origin-at}
+use Rattle.promises.proofs.Positions.{origin-at, size-same}
 use Rattle.promises.proofs.Acceptable.{acceptable-parts, end-acceptable}
 use Rattle.promises.proofs.WritesBack.{at-writeBack, length-writeBack, writeBack-position, writeBack-room}
 use Rattle.promises.proofs.ImageOfOutput.{image-of-output}
@@ -101,15 +101,15 @@ module _ (asked : Settings) (p : Program) (w : WellMade p) (i s o : ℕ) (a : Ai
   carrier-at = let j = total-some (carries i s o) end gone (omega (arith, ends-once)) in (j .0, carrier i s o (at end (j .0)) (j .2))
 
   -- and the byte is the owner's
-  has-byte : (image : List ℕ) → judge p ≡ ok image → o < byteCount (at end s)
+  has-byte : (image : List ℕ) → judge p ≡ ok image → o < sizeIn end s
   unfolding everyInnerLabel
   has-byte image e =
       let good = acceptable-parts end (end-acceptable asked p w image e) .0 in
-      let test : Operand → Bool = ofInner (λ owner o. ltb o (byteCount (at end owner))) in
+      let test : Operand → Bool = ofInner (λ owner o. ltb o (sizeIn end owner)) in
       let k = carrier-at .1 in
       let args-pass : every test (k .args) ≡ true =
       ap (λ (x : Stmt). every test (argsOf x)) (sym (k .is)) ∙ every-any (λ x. every test (argsOf x)) end (carrier-at .0) gone (unfold every in refl) good in
-      ltb-true o (byteCount (at end s)) (ap test (sym (k .target-is)) ∙ every-last test (k .args) refl args-pass)
+      ltb-true o (sizeIn end s) (ap test (sym (k .target-is)) ∙ every-last test (k .args) refl args-pass)
 
   -- ---- the output
   abbrev written : Program
@@ -150,15 +150,15 @@ module _ (asked : Settings) (p : Program) (w : WellMade p) (i s o : ℕ) (a : Ai
           absurd (omega (arith, total-two-any (ofPlace i) (compact left) j (rank left (carrier-at .0)) gone refl n, output-alone))
 
   -- the byte that the number names
-  module _ (byte : o < byteCount (at end s)) (laid : positionsFit (placed (compact left)) ≡ ok tt) where
-    byte-left : o < byteCount (at left s)
-    byte-left = omega (arith, shown-room asked written .1 s .as-big, writeBack-room end .1 s .as-big, byte)
+  module _ (byte : o < sizeIn end s) (laid : positionsFit (placed (compact left)) ≡ ok tt) where
+    byte-left : o < sizeIn left s
+    byte-left = omega (arith, size-same written left (shown-room asked written) s, size-same end written (writeBack-room end) s, byte)
 
     live : isGone (at left s) ≡ false
-    live = byte-live (at left s) o byte-left
+    live = byte-live (position left s) (at left s) o byte-left
 
-    byte-output : o < byteCount (at (compact left) (rank left s))
-    byte-output = rw (at-rank left s live) byte-left
+    byte-output : o < sizeIn (compact left) (rank left s)
+    byte-output = rw (at-rank left s live, position-rank left s live) byte-left
 
     position-is : position (compact left) (rank left s) ≡ position end s
     position-is = position-rank left s live ∙ shown-position asked written s ∙ writeBack-position end s
@@ -174,7 +174,7 @@ target-kept asked p h i s o a =
     let e : Program = optimized asked p .program in
     let left : Program = shown asked (writeBack e) in
     let k = carrier-at asked p w i s o a in
-    let byte : o < byteCount (at e s) = has-byte asked p w i s o a (h .image) (h .assembles) in
+    let byte : o < sizeIn e s = has-byte asked p w i s o a (h .image) (h .assembles) in
     let q = image-of-output asked p h in
     let laid : positionsFit (placed (compact left)) ≡ ok tt = judge-passes (compact left) (q .image) (q .of-output) .laid in
     let st = stems-rank left s 0 (live asked p w i s o a byte laid) in

@@ -4,5 +4,6 @@ pub mod Faults
 pub mod Demand2
 pub mod Demand3
 pub mod Room
+pub mod Pads
 -- ---- all of it, down to the entry
 pub mod Entry

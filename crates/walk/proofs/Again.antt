@@ -13,8 +13,8 @@ use Rattle.laws.proofs.Tests.{and-true, and-both, or-first, or-second}
 use Rattle.laws.proofs.Lists.{every-any, every-all}
 use Rattle.rules.specs.declared.Outcome.the-variants.{Is}
 use Rattle.rules.specs.Forms.{isUnconditional, bz, bnz}
-use Rattle.rules.specs.Programs.{Placeℕ, Operand, inner, Stmt, gone, isGone, instr, Program, at, byteCount, argsOf, lastOf, onLast, retarget}
-use Rattle.rules.specs.Layout.{position, origin}
+use Rattle.rules.specs.Programs.{Placeℕ, Operand, inner, Stmt, gone, isGone, instr, Program, at, argsOf, lastOf, onLast, retarget}
+use Rattle.rules.specs.Layout.{position, sizeIn, origin}
 use Rattle.rules.specs.Names.{contextAt}
 use Rattle.rules.specs.Rewriting.{ofInner, everyInnerLabel, acceptable}
 use Rattle.rules.specs.Output.{plainTarget, writeBack, compact}
@@ -45,30 +45,30 @@ every-compact f (s ∷ p) h = on (isGone s) (and-true (f s) (every f p) h .0) (e
     on false x below = and-both (f s) (every f (compact p)) x below
 
 -- rule 5: an inner label's offset is below its owner's size, so that its owner has a byte
-inner-sized : (p : Program) → acceptable p ≡ true → (i f c : ℕ) (xs : List Operand) (d : ℕ) → at p i ≡ instr f xs c → lastOf xs ≡ inner d 0 → 0 < byteCount (at p d)
+inner-sized : (p : Program) → acceptable p ≡ true → (i f c : ℕ) (xs : List Operand) (d : ℕ) → at p i ≡ instr f xs c → lastOf xs ≡ inner d 0 → 0 < sizeIn p d
 unfolding everyInnerLabel
-inner-sized p g i f c xs d s t = ltb-true 0 (byteCount (at p d)) (ap test (sym t) ∙ every-last test xs refl all)
+inner-sized p g i f c xs d s t = ltb-true 0 (sizeIn p d) (ap test (sym t) ∙ every-last test xs refl all)
   where
     test : Operand → Bool
-    test = ofInner (λ owner o. ltb o (byteCount (at p owner)))
+    test = ofInner (λ owner o. ltb o (sizeIn p owner))
 
-    all : every (ofInner (λ owner o. ltb o (byteCount (at p owner)))) xs ≡ true
+    all : every (ofInner (λ owner o. ltb o (sizeIn p owner))) xs ≡ true
     all =
-        ap (λ (s : Stmt). every (ofInner (λ owner o. ltb o (byteCount (at p owner)))) (argsOf s)) (sym s)
-        ∙ every-any (λ s. every (ofInner (λ owner o. ltb o (byteCount (at p owner)))) (argsOf s)) p i gone (unfold every in refl) (acceptable-parts p g .0)
+        ap (λ (s : Stmt). every (ofInner (λ owner o. ltb o (sizeIn p owner))) (argsOf s)) (sym s)
+        ∙ every-any (λ s. every (ofInner (λ owner o. ltb o (sizeIn p owner))) (argsOf s)) p i gone (unfold every in refl) (acceptable-parts p g .0)
 
 own-walked : (o : Program) (i : Placeℕ) (s : Stmt) → isWalked o (own i s) ≡ isWalked o s
 own-walked o i s = by-change (λ s t. isWalked o t ≡ isWalked o s) (λ x. instr (x .form) (x .args) i) (λ f xs c. refl) (λ s n. refl) s
 
 module _ {end o : Program} {m : Machine} (r : Resolved end m) (s : Shown end o) where
   -- what has a byte is an instruction, and is shown as one of the same form
-  sized : (i : Placeℕ) → 0 < byteCount (at end i) → 0 < byteCount (at o (rank end i))
+  sized : (i : Placeℕ) → 0 < sizeIn end i → 0 < sizeIn o (rank end i)
   sized i h = on refl (r .all i)
     where
-      as-big : (f : ℕ) (xs : List Operand) (c : ℕ) → at end i ≡ instr f xs c → 0 < byteCount (at o (rank end i))
+      as-big : (f : ℕ) (xs : List Operand) (c : ℕ) → at end i ≡ instr f xs c → 0 < sizeIn o (rank end i)
       as-big f xs c e = rw (s .instr-at i f xs c e .1) (rw e at h)
 
-      on : {t : Stmt} {x : Deed} → at end i ≡ t → Matches (Lands end (contextAt end i)) t x → 0 < byteCount (at o (rank end i))
+      on : {t : Stmt} {x : Deed} → at end i ≡ t → Matches (Lands end (contextAt end i)) t x → 0 < sizeIn o (rank end i)
       on e is-gone = absurd (omega (arith, rw e at h))
       on e is-label = absurd (omega (arith, rw e at h))
       on e is-comment = absurd (omega (arith, rw e at h))
@@ -77,11 +77,11 @@ module _ {end o : Program} {m : Machine} (r : Resolved end m) (s : Shown end o) 
       on e (is-test {f = f} {xs = xs} {c = c} w z l) = as-big f xs c e
 
   -- a bare label stays, and a number is the first byte of the statement that owned the inner label
-  target-admitted : (k : ℕ) (x : Operand) (d : ℕ) → Lands end k x d → (x ≡ inner d 0 → 0 < byteCount (at end d)) → isPlainTarget o (plainTarget end x) ≡ true
+  target-admitted : (k : ℕ) (x : Operand) (d : ℕ) → Lands end k x d → (x ≡ inner d 0 → 0 < sizeIn end d) → isPlainTarget o (plainTarget end x) ≡ true
   target-admitted k x d (named e z) h = refl
   target-admitted k x d anchored h =
-      let has : 0 < byteCount (at end d) = h refl in
-      let here : position o (rank end d) + 0 ≡ position end d + 0 = ap (λ (a : ℕ). a + 0) (s .position-at d (byte-live (at end d) 0 has)) in
+      let has : 0 < sizeIn end d = h refl in
+      let here : position o (rank end d) + 0 ≡ position end d + 0 = ap (λ (a : ℕ). a + 0) (s .position-at d (byte-live (position end d) (at end d) 0 has)) in
       rw (ap (λ (a : ℕ). origin o (Is (pos a))) (sym here) ∙ origin-at o (rank end d) 0 (s .laid) (sized d has))
 
   transfer-admitted : (i f : ℕ) (xs : List Operand) (c d : ℕ) → at end i ≡ instr f xs c → Lands end (contextAt end i) (lastOf xs) d

@@ -9,12 +9,14 @@ use Rattle.laws.proofs.Tests.{and-both}
 use Rattle.laws.proofs.Lists.{every-any, every-all, every-weaken}
 use Rattle.rules.specs.declared.Settings.{Settings}
 use Rattle.rules.specs.Answers.{isOk}
-use Rattle.rules.specs.Programs.{Placeℕ, Operand, register, value, inner, Stmt, gone, isGone, comment, Program, at, byteCount, argsOf, retarget}
+use Rattle.rules.specs.Programs.{Placeℕ, Operand, register, value, inner, Stmt, gone, isGone, comment, Program, at, argsOf, retarget}
+use Rattle.rules.specs.Layout.{sizeIn}
 use Rattle.rules.specs.Names.{contextAt, keyOf}
 use Rattle.rules.specs.Judging.{judge, assembles}
 use Rattle.rules.specs.Rewriting.{ofInner, everyInnerLabel, acceptable}
 use Rattle.rules.specs.Output.{plainTarget, writeBack, spoken, shown, stemsFrom, stems}
 use Rattle.promises.proofs.Acceptable.{acceptable-parts}
+use Rattle.promises.proofs.Positions.{size-same}
 use Rattle.promises.proofs.Ranks.{gone-retarget}
 use Rattle.promises.proofs.Shows.{by-spoken, at-shown, length-shown, shown-room, judge-shown, shown-context}
 use Rattle.walk.proofs.Machines.{Deed, pass, Machine, deed}
@@ -34,22 +36,22 @@ stems-written p = stems-retarget (plainTarget p) 0 p
 module _ (asked : Settings) {p : Program} {m : Machine} (r : Resolved p m) where
   -- rule 5 holds of it
   abbrev below : Placeℕ → ℕ → Bool
-  below owner o = ltb o (byteCount (at (shown asked p) owner))
+  below owner o = ltb o (sizeIn (shown asked p) owner)
 
-  inner-kept : everyInnerLabel (λ owner o. ltb o (byteCount (at (shown asked p) owner))) (shown asked p) ≡ true
+  inner-kept : everyInnerLabel (λ owner o. ltb o (sizeIn (shown asked p) owner)) (shown asked p) ≡ true
   unfolding everyInnerLabel
   inner-kept = every-all (λ s. every (ofInner below) (argsOf s)) (shown asked p) gone (λ i h. ap (λ (s : Stmt). every (ofInner below) (argsOf s)) (at-shown asked p i)
       ∙ by-spoken (λ s t. every (ofInner below) (argsOf s) ≡ true → every (ofInner below) (argsOf t) ≡ true) asked (λ s e. e) (λ x e. e) (at p i) (once i))
     where
-      same : (x : Operand) → ofInner (λ owner o. ltb o (byteCount (at p owner))) x ≡ true → ofInner below x ≡ true
+      same : (x : Operand) → ofInner (λ owner o. ltb o (sizeIn p owner)) x ≡ true → ofInner below x ≡ true
       same (register n) e = refl
       same (value t) e = refl
-      same (inner owner o) e = ap (ltb o) (shown-room asked p .1 owner .as-big) ∙ e
+      same (inner owner o) e = ap (ltb o) (size-same p (shown asked p) (shown-room asked p) owner) ∙ e
 
       once : (i : Placeℕ) → every (ofInner below) (argsOf (at p i)) ≡ true
       once i =
-          every-weaken (ofInner (λ owner o. ltb o (byteCount (at p owner)))) (ofInner below) (argsOf (at p i)) same
-          (every-any (λ s. every (ofInner (λ owner o. ltb o (byteCount (at p owner)))) (argsOf s)) p i gone (unfold every in refl) (acceptable-parts p (r .good) .0))
+          every-weaken (ofInner (λ owner o. ltb o (sizeIn p owner))) (ofInner below) (argsOf (at p i)) same
+          (every-any (λ s. every (ofInner (λ owner o. ltb o (sizeIn p owner))) (argsOf s)) p i gone (unfold every in refl) (acceptable-parts p (r .good) .0))
 
   acceptable-shown : acceptable (shown asked p) ≡ true
   unfolding acceptable assembles

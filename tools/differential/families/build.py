@@ -41,6 +41,10 @@ def org(location):
     return Statement("org", location=location)
 
 
+def pad(multiple, add=0):
+    return Statement("pad", add=add, multiple=multiple)
+
+
 def data(kind, *trees):
     return Statement(kind, args=trees)
 
@@ -53,7 +57,7 @@ def size_of(statements):
     """Bytes from 0 on, orgs obeyed."""
     at = 0
     for s in statements:
-        at = s.location if s.kind == "org" else at + s.size
+        at = s.location if s.kind == "org" else at + s.size_at(at)
     return at
 
 

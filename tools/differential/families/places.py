@@ -1,5 +1,5 @@
 """Families about positions: orgs and gaps, the reach of a relative branch, pages of 4,096 bytes, the end at 65,536."""
-from .build import (address, branch, comment, data, filler, instr, jump, label, name, number, one_of, org, retargeted, size_of, text_of,
+from .build import (address, branch, comment, data, filler, instr, jump, label, name, number, one_of, org, pad, retargeted, size_of, text_of,
                     with_target)
 from .code import TRANSFERS, shuffled
 
@@ -72,4 +72,19 @@ def ends(rng):
     return text_of([label(0x8001)] + filler(rng, rng.choice([0, 2])) + [org(min(65535, at))] + body + tail)
 
 
-FAMILIES = [orgs, reach, pages, far_pages, ends]
+def pads(rng):
+    """C-11: jumps that shrink before pads, numbers that point into them, branches over them at the edge of their reach."""
+    result = [label(0x8000)]
+    for _ in range(rng.randint(2, 7)):
+        result += one_of(
+            rng,
+            lambda: [pad(rng.choice([1, 2, 3, 4, 8, 16, 128, 131, 132, 256]), rng.choice([0, 0, 0, 1, 2, 255]))],
+            lambda: [jump(rng, name(rng.choice([0x8000, 0x8001]))), *filler(rng, rng.randint(0, 4))],
+            lambda: [instr(rng.choice(["Jmpf", "Jmpf", "Callf", "Br"]), number(rng.randint(0, size_of(result) + 12)))],
+            lambda: [branch(rng, name(rng.choice([0x8000, 0x8001])))],
+            lambda: [org(min(65535, size_of(result) + rng.choice([0, 1, 5])))],
+        )
+    return text_of(result + [label(0x8001)] + filler(rng, rng.choice([0, 1])) + rng.choice([[], [], [pad(4)], [pad(1, 3)]]))
+
+
+FAMILIES = [orgs, reach, pages, far_pages, ends, pads]

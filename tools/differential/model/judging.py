@@ -74,14 +74,15 @@ class Judge:
     # ---- 5 and 6
 
     def layout(self):
-        self.positions, self.highest, at = [], 0, 0
+        self.positions, self.sizes, self.highest, at = [], [], 0, 0
         for place, s in enumerate(self.slots):
             if s is not None and s.kind == "org":
                 if s.location < at and not self.ways.has("org goes back"):
                     raise Refused(5, place)
                 at = s.location
             self.positions.append(at)
-            at += s.size if s is not None else 0
+            self.sizes.append(s.size_at(at) if s is not None else 0)
+            at += self.sizes[-1]
             if at > 65536 and not self.ways.has("no end at 65,536"):
                 raise Refused(6, place)
             self.highest = max(self.highest, at)
@@ -92,7 +93,7 @@ class Judge:
         for s in self.slots:
             at = s.location if s is not None and s.kind == "org" else at
             self.positions.append(at)
-            at += s.size if s is not None else 0
+            at += s.size_at(at) if s is not None else 0
 
     # ---- 4 and 7
 
@@ -137,6 +138,8 @@ class Judge:
                 self.code(place, s)
 
     def code(self, place, s):
+        if s.kind == "pad":
+            return bytes(self.sizes[place])
         if s.kind == "instr":
             n = self.positions[place] + s.size
             return encode(s.form, [self.field(place, j, kind, a, n) for j, (kind, a) in enumerate(zip(s.form.operands, s.args))])
@@ -172,7 +175,7 @@ class Judge:
         """To the last byte of a statement that has bytes."""
         image = bytearray()
         for place, s in enumerate(self.slots):
-            if s is not None and s.size:
+            if s is not None and self.sizes[place]:
                 at, code = self.positions[place], self.code(place, s)
                 image.extend(bytes(max(0, at + len(code) - len(image))))
                 image[at:at + len(code)] = code

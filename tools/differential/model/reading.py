@@ -19,12 +19,17 @@ class Panic(Exception):
 
 
 class Statement:
-    """kind: instr, label, variable, comment, org, bytes or words. args: a number for a register, else an expression."""
+    """kind: instr, label, variable, comment, org, bytes, words or pad. args: a number for a register, else an expression."""
 
-    def __init__(self, kind, form=None, name=None, args=(), location=0, comment=b""):
+    def __init__(self, kind, form=None, name=None, args=(), location=0, comment=b"", add=0, multiple=1):
         self.kind, self.form, self.name = kind, form, name
         self.args, self.location, self.comment = list(args), location, comment
+        self.add, self.multiple = add, multiple
         self.size = {"instr": form.size if form else 0, "bytes": len(self.args), "words": 2 * len(self.args)}.get(kind, 0)
+
+    def size_at(self, position):
+        """A pad's bytes depend on where it comes (C-11)."""
+        return -position % self.multiple + self.add if self.kind == "pad" else self.size
 
     def with_form(self, form, target):
         return Statement("instr", form=form, args=self.args[:-1] + [target])
@@ -98,6 +103,12 @@ class Frame:
             raise self.broken()
         return Statement("variable", name=name, args=[self.expression()])
 
+    def pad(self):
+        add, multiple = self.byte(), self.number(2)
+        if not 1 <= multiple <= 256:
+            raise self.broken()
+        return Statement("pad", add=add, multiple=multiple)
+
     def comment(self):
         self.at = len(self.data)
         return Statement("comment", comment=self.data[1:])
@@ -111,6 +122,7 @@ class Frame:
             5: lambda: Statement("org", location=self.number(2)),
             6: lambda: self.data_of("bytes"),
             7: lambda: self.data_of("words"),
+            8: self.pad,
         }
         kind = self.byte()
         if kind not in kinds:
@@ -162,6 +174,8 @@ def frame_bytes(s):
         return b"\4" + s.comment
     if s.kind == "org":
         return b"\5" + s.location.to_bytes(2, "big")
+    if s.kind == "pad":
+        return bytes([8, s.add]) + s.multiple.to_bytes(2, "big")
     return bytes([6 if s.kind == "bytes" else 7, len(s.args)]) + b"".join(put(a) for a in s.args)
 
 

@@ -51,7 +51,7 @@ class Rewriter:
     def anchor(self):
         origins, anchored, moving = {}, {}, self.moving()
         for place, s in enumerate(self.slots):
-            for offset in range(s.size):
+            for offset in range(self.judged.sizes[place]):
                 origins[self.judged.positions[place] + offset] = (place, offset)
         for place, s in enumerate(self.slots):
             if s.kind == "instr" and s.form.is_transfer and not self.holds_label(place, s.args[-1], moving) and not self.is_change_jump(place):
@@ -158,8 +158,9 @@ class Rewriter:
         self.slots = [changes.get(i, s) for i, s in enumerate(before)]
         self.own()
         try:
-            if all(self.slots[i] is not None and max(offsets) < self.slots[i].size for i, offsets in self.owned.items()):
-                self.judged = Judge(self.slots, self.ways, "candidate").run()
+            judged = Judge(self.slots, self.ways, "candidate").run()
+            if all(max(offsets) < judged.sizes[i] for i, offsets in self.owned.items()):
+                self.judged = judged
                 self.count += 1
                 return True
         except Refused:

@@ -2,6 +2,7 @@
 use mathlib.Core.List.{List}
 use Prim.Native.Nat.{ℕ}
 use borrow.Author.Needs.{needs}
+use Rattle.laws.proofs.Tests.{false-true}
 use Rattle.slots.specs.Slots.{Slots, slots}
 use Rattle.asm.proofs.Carrying.{placed-any}
 use Rattle.asm.proofs.Passing.{named-of}
@@ -23,7 +24,7 @@ lay-and-define-requires c κs =
     let f = c .before .before .before in
     let s = f .before .before .before in (
       s .pre .0 .held,
-      search needs,
+      s .pre .4,
       search needs,
       λ carry owners offsets.
           named-of (over s carry owners offsets) _ _ _ (f .fill-names .ensures .1 carry owners offsets)
@@ -49,18 +50,19 @@ encodes-all-requires c κs =
 returns : tie.Need-returns
 returns c =
     let n = c .before .before in
-    let s = n .before .before .before .before .before .before .before in
-    fails-refused (here s) _ _ _ _ _ (c .enum-told .given .0 .0)
-    (n .lay-and-define .ensures (s .args .carry .now) (s .args .owners .now) (s .args .offsets .now) (s .pre .2)) (c .enum-told .given .1)
+    let s = n .before .before .before .before .before .before .before in (
+      fails-refused (here s) _ _ _ _ _ (c .enum-told .given .0 .0)
+          (n .lay-and-define .ensures (s .args .carry .now) (s .args .owners .now) (s .args .offsets .now) (s .pre .2)) (c .enum-told .given .1),
+      λ e. false-true e,
+    )
 
 returns-2 : tie.Need-returns-2
 returns-2 c =
     let e = c .before .before .before .before in
     let n = e .before .before in
     let s = n .before .before .before .before .before .before .before in
-    assembles-last (here s) _ _ _ _ _
-    (n .lay-and-define .ensures (s .args .carry .now) (s .args .owners .now) (s .args .offsets .now) (s .pre .2) .filled (e .enum-told2 .given .1))
-    (c .encodes-all .ensures)
+    let filled = n .lay-and-define .ensures (s .args .carry .now) (s .args .owners .now) (s .args .offsets .now) (s .pre .2) .filled (e .enum-told2 .given .1) in
+    (assembles-last (here s) _ _ _ _ _ filled (c .encodes-all .ensures), λ d. filled .place)
 
 pub assembles-spec : {M : Type 1} → statement M
 assembles-spec =

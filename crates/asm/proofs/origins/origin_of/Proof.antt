@@ -5,6 +5,7 @@ use Prim.Native.Nat.{ℕ, _-_, _≤_, _<_}
 use native.Mathlib.Omega.{arith}
 use borrow.Author.Needs.{needs}
 use Rattle.rules.specs.Layout.{position, originFrom}
+use Rattle.expression.specs.Sound.{AreBytes}
 use Rattle.slots.specs.Slots.{Slots, slots, programOf}
 use Rattle.env.specs.Tables.{Any}
 use Rattle.asm.proofs.Finding.{fromPlace, from-start, has-from, found-none, found-here, found-later}
@@ -34,6 +35,9 @@ module _ (c : tie.After-has-byte Inv-loop μ-loop) where
 
   inside : here < start .args .count
   inside = c .before .before .before .before .loop-test .taken
+
+  stored : AreBytes (start .args .frames .now)
+  stored i = c .before .before .before .before .before .before .shared-slice-known .given i .fits
 
   module _ (carry owners offsets : List ℕ) where
     at-from : from ≡ position (programOf (over start carry owners offsets)) here
@@ -68,7 +72,7 @@ returns : tie.Need-returns Inv-loop μ-loop
 returns c carry owners offsets =
     let b = c .before .before .before in
     let s = start b in
-    found-here (over s carry owners offsets) (s .pre .0) (s .args .address .0) (here b) (inside b) (from b) (b .before .size-at .result) (at-from b carry owners offsets)
+    found-here (over s carry owners offsets) (s .pre .0) (stored b) (s .args .address .0) (here b) (inside b) (from b) (b .before .size-at .result) (at-from b carry owners offsets)
     (b .before .size-at .ensures carry owners offsets) (b .before .before .before .before .before .loop .inv .1 carry owners offsets)
     (sym (b .has-byte .ensures) ∙ c .before .before .if1 .taken)
 
@@ -84,7 +88,7 @@ loop-again c =
     let s = start b in (
       omega (arith, inside b),
       λ carry owners offsets.
-          found-later (over s carry owners offsets) (s .pre .0) (s .args .address .0) (here b) (inside b) (from b) (b .before .size-at .result) (at-from b carry owners offsets)
+          found-later (over s carry owners offsets) (s .pre .0) (stored b) (s .args .address .0) (here b) (inside b) (from b) (b .before .size-at .result) (at-from b carry owners offsets)
           (b .before .size-at .ensures carry owners offsets) (b .before .before .before .before .before .loop .inv .1 carry owners offsets)
           (sym (b .has-byte .ensures) ∙ c .if1 .left),
     )
@@ -93,7 +97,7 @@ returns-2 : tie.Need-returns-2 Inv-loop μ-loop
 returns-2 c carry owners offsets =
     let l = c .before .loop in
     let s = c .before .before .before in
-    found-none (over s carry owners offsets) (s .pre .0) (s .args .address .0) (l .i) (omega arith) (l .inv .1 carry owners offsets)
+    found-none (over s carry owners offsets) (s .pre .0) (λ i. c .before .before .shared-slice-known .given i .fits) (s .args .address .0) (l .i) (omega arith) (l .inv .1 carry owners offsets)
 
 pub origin-of-spec : {M : Type 1} → statement M
 origin-of-spec =

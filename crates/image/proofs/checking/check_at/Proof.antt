@@ -10,10 +10,11 @@ use Rattle.rules.specs.Names.{contextAt}
 use Rattle.rules.specs.Judging.{items}
 use Rattle.listing.specs.Tables.{frameAt}
 use Rattle.rules.specs.Programs.{kindOf}
-use Rattle.slots.specs.Slots.{slotAt}
+use Rattle.slots.specs.Slots.{slotAt, isData}
+use Rattle.slots.proofs.Items.{data-kind}
 use Rattle.image.specs.Tables.{Tables, tables, program}
 use Rattle.image.specs.Encoding.{encodeAt, checkedAs, checkOf, itemsIn, boundOf, writeOf}
-use Rattle.image.proofs.Passes.{checked-code, encode-none}
+use Rattle.image.proofs.Passes.{checked-code, encode-zeros}
 use Rattle.image.proofs.DataSlots.{DataSlot, data-slot}
 use Rattle.image.proofs.checking.check_at.Statement.{statement}
 use Rattle.image.proofs.checking.check_at.Tie as tie
@@ -49,52 +50,57 @@ returns c =
     let s = e .before .before .before .before in
     c .check-code .ensures ∙ ap checkOf (e .encode-at .ensures) ∙ checked-code (encodeAt (here s) (place s))
 
-returns-2 : tie.Need-returns-2
-unfolding encodeAt
-returns-2 c =
-    let k = c .before .before in
-    let s = k .before .before in
-    let p = program (here s) in
-    sym
-    (ap checkedAs
-    (encode-none (here s .entries) p (place s) (contextAt p (place s)) (position p (place s)) (slotAt (here s .slots) (place s))
-    (λ o. c .before .if1 .left (found k ∙ o)) (omega (arith, found k, c .if2 .taken))))
-
 frame-at-requires : tie.Need-frame-at-requires
-frame-at-requires c κs = let s = c .before .before .before .before in (s .pre .0 .sound .held, s .pre .1)
+frame-at-requires c κs = let s = c .before .before .before .before .before in (s .pre .0 .sound .held, s .pre .1)
+
+-- data, by the kind that was found
+is-data-as : (c : tie.After-is-data) → let s = c .before .before .before .before in c .is-data .result ≡ isData (kindOf (slotAt (here s .slots) (place s)))
+is-data-as c = c .is-data .ensures ∙ ap isData (found (c .before .before))
 
 -- behind the frame there are data
-data-here : (c : tie.After-frame-at) → let s = c .before .before .before .before .before in DataSlot (here s) (place s) (frame s)
+data-here : (c : tie.After-frame-at) → let s = c .before .before .before .before .before .before in DataSlot (here s) (place s) (frame s)
 data-here c =
-    let k = c .before .before .before in
-    let s = k .before .before in
+    let d = c .before .before in
+    let s = d .before .before .before .before in
     let n = kindOf (slotAt (here s .slots) (place s)) in
-    let six : 6 ≤ n = omega (arith, found k, c .before .if2 .left) in
-    data-slot (here s) (s .pre .0) (place s) (s .pre .1) (n - 2) (omega arith) (omega arith)
+    let k = data-kind n (sym (is-data-as d) ∙ c .before .if2 .taken) in
+    data-slot (here s) (s .pre .0) (place s) (s .pre .1) (n - 2) (omega (arith, k .0)) (omega (arith, k .0)) (omega (arith, k .1))
 
 low : (s : tie.Start) → place s < 1024
 low s = omega (arith, s .pre .1, s .pre .0 .sound .held .few)
 
 mul-check-items : tie.Need-mul-check-items
-mul-check-items c = record { fits = omega (arith, low (c .before .before .before .before .before)) }
+mul-check-items c = record { fits = omega (arith, low (c .before .before .before .before .before .before)) }
 
 element-copy-out-check-items : tie.Need-element-copy-out-check-items
-element-copy-out-check-items c = low (c .before .before .before .before .before)
+element-copy-out-check-items c = low (c .before .before .before .before .before .before)
 
 check-items-requires : tie.Need-check-items-requires
 check-items-requires c κs =
     let f = c .before in
-    let s = f .before .before .before .before .before in
+    let s = f .before .before .before .before .before .before in
     rw (f .frame-at .ensures) (data-here f .read, s .pre .0 .sound .held .few)
 
-returns-3 : tie.Need-returns-3
-returns-3 c =
+returns-2 : tie.Need-returns-2
+returns-2 c =
     let f = c .before .before in
-    let s = f .before .before .before .before .before in
+    let s = f .before .before .before .before .before .before in
     let d = here s in
     c .check-items .ensures (writeOf (getD (frame s) 0 0))
     ∙ ap (λ l. checkedAs (items (d .entries) (boundOf (getD l 0 0)) (writeOf (getD (frame s) 0 0)) (place s) (getD (d .contexts) (place s) 0) 0 (itemsIn (place s) l))) (f .frame-at .ensures)
     ∙ sym (ap checkedAs (data-here f .encodes))
+
+returns-3 : tie.Need-returns-3
+unfolding encodeAt
+returns-3 c =
+    let d = c .before in
+    let k = d .before .before in
+    let s = k .before .before in
+    let p = program (here s) in
+    sym
+    (ap checkedAs
+    (encode-zeros (here s .entries) p (place s) (contextAt p (place s)) (position p (place s)) (slotAt (here s .slots) (place s))
+    (λ o. d .before .if1 .left (found k ∙ o)) (sym (is-data-as d) ∙ c .if2 .left)))
 
 pub check-at-spec : {M : Type 1} → statement M
 check-at-spec =
@@ -104,9 +110,10 @@ check-at-spec =
     encode-at-requires
     (λ c κs. search needs)
     returns
-    returns-2
+    (λ c κs. search needs)
     frame-at-requires
     mul-check-items
     element-copy-out-check-items
     check-items-requires
+    returns-2
     returns-3)

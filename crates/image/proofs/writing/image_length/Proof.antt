@@ -1,5 +1,5 @@
 -- `writing::image_length` meets its contract. The invariant: nothing of the image is left from slot i on.
-use mathlib.Core.Path.{_≡_, ap, _∙_}
+use mathlib.Core.Path.{_≡_, ap, _∙_, subst}
 use mathlib.Core.List.{List}
 use Prim.Native.Nat.{ℕ, suc, _-_, _≤_, _<_}
 use native.Mathlib.Numerals.{add-one}
@@ -7,15 +7,19 @@ use native.Mathlib.Omega.{arith}
 use lib.IntN.{ℤ}
 use lib.ListN.{getD}
 use borrow.Author.Needs.{needs}
-use Rattle.image.specs.Tables.{Tables, tables}
+use Rattle.rules.specs.Programs.{byteCount}
+use Rattle.slots.specs.Slots.{slotAt}
+use Rattle.image.specs.Tables.{Tables, tables, Ready}
 use Rattle.image.specs.Image.{imageOf}
-use Rattle.image.proofs.Images.{image-is, Done, done-end, done-more, length-found, length-none}
+use Rattle.image.proofs.Images.{image-is, sizeHere, size-here, Done, done-end, done-more, length-found, length-none}
 use Rattle.image.proofs.writing.image_length.Statement.{statement}
 use Rattle.image.proofs.writing.image_length.Tie as tie
 
 abbrev Inv-loop : tie.InvT-loop
 Inv-loop frames starts count forms positions i₀ i =
-    (i ≤ count) × ((carry owners offsets names contexts : List ℕ) (values : List ℤ) → Done (tables frames starts count forms carry owners offsets names contexts values positions) i)
+    (i ≤ count) × ((carry owners offsets names contexts : List ℕ) (values : List ℤ) →
+    let d = tables frames starts count forms carry owners offsets names contexts values positions in
+    Ready d → Done d i)
 
 abbrev μ-loop : tie.MeasureT-loop
 μ-loop frames starts count forms positions i₀ i = i
@@ -25,58 +29,63 @@ over s carry owners offsets names contexts values =
     tables (s .args .frames .now) (s .args .starts .now) (s .args .count) (s .args .forms .now) carry owners offsets names contexts values (s .args .positions .now)
 
 loop-holds : tie.Need-loop-holds Inv-loop μ-loop
-loop-holds c = (omega arith, λ carry owners offsets names contexts values. done-end (over (c .before) carry owners offsets names contexts values))
+loop-holds c = (omega arith, λ carry owners offsets names contexts values ready. done-end (over (c .before) carry owners offsets names contexts values))
+
+-- the slot is one of the program's
+inside : (c : tie.In-loop Inv-loop μ-loop) → c .before .loop .i - 1 < c .before .before .before .args .count
+inside c = omega (arith, c .before .loop .inv .0, c .loop-test .taken)
+
+low : (c : tie.In-loop Inv-loop μ-loop) → c .before .loop .i - 1 < 1024
+low c = omega (arith, inside c, c .before .before .before .pre .few)
 
 size-at-requires : tie.Need-size-at-requires Inv-loop μ-loop
-size-at-requires c κs =
-    let s = c .before .before .before in
-    (s .pre, omega (arith, c .before .loop .inv .0))
+size-at-requires c κs = let l = c .before .before in (l .before .before .before .pre, inside l)
 
--- the slot is one of the program's, and the one after it was looked at
+-- and the one after it was looked at
 module _ (c : tie.After-size-at Inv-loop μ-loop) where
+  abbrev test : tie.In-loop Inv-loop μ-loop
+  test = c .before .before .before
+
   abbrev start : tie.Start Inv-loop μ-loop
-  start = c .before .before .before .before
+  start = test .before .before .before
 
   abbrev slot : ℕ
-  slot = c .before .before .loop .i - 1
+  slot = test .before .loop .i - 1
 
-  within : slot < start .args .count
-  within = omega (arith, c .before .before .loop .inv .0)
+  module _ (carry owners offsets names contexts : List ℕ) (values : List ℤ) where
+    abbrev here : Tables
+    here = over start carry owners offsets names contexts values
 
-  done-next : (carry owners offsets names contexts : List ℕ) (values : List ℤ) → Done (over start carry owners offsets names contexts values) (suc slot)
-  done-next carry owners offsets names contexts values =
-      let e : c .before .before .loop .i ≡ suc slot = omega arith in
-      rw e at (c .before .before .loop .inv .1 carry owners offsets names contexts values)
+    size-is : Ready here → c .size-at .result ≡ sizeHere here slot
+    size-is ready =
+        c .size-at .ensures carry owners offsets
+        ∙ ap (λ q. byteCount q (slotAt (here .slots) slot)) (c .before .address .ensures)
+        ∙ size-here here ready slot (inside test)
 
-add-address : tie.Need-add-address Inv-loop μ-loop
-add-address c = record { fits = omega (arith, within (c .before), start (c .before) .pre .few) }
-
-mul-address : tie.Need-mul-address Inv-loop μ-loop
-mul-address c = record { fits = omega (arith, within (c .before), start (c .before) .pre .few) }
-
-element-copy-out-address : tie.Need-element-copy-out-address Inv-loop μ-loop
-element-copy-out-address c = omega (arith, within (c .before), start (c .before) .pre .few)
+    done-next : Ready here → Done here (suc slot)
+    done-next ready =
+        let e : test .before .loop .i ≡ suc slot = omega (arith, test .loop-test .taken) in
+        subst (λ (m : ℕ). Done here m) e (test .before .loop .inv .1 carry owners offsets names contexts values ready)
 
 returns : tie.Need-returns Inv-loop μ-loop
 returns c carry owners offsets names contexts values ready fine =
     let z = c .before .before .before in
-    let s = start z in
-    let d = over s carry owners offsets names contexts values in
+    let d = here z carry owners offsets names contexts values in
     let n = slot z in
-    c .address .ensures
-    ∙ ap (λ m. getD (s .args .positions .now) m 0) (add-one n)
-    ∙ ready .position (suc n) (omega (arith, within z))
-    ∙ length-found d ready (imageOf d) (image-is d fine) n (within z) (omega (arith, z .size-at .ensures carry owners offsets, c .before .before .if1 .taken))
-    (done-next z carry owners offsets names contexts values)
+    c .address2 .ensures
+    ∙ ap (λ m. getD (start z .args .positions .now) m 0) (add-one n)
+    ∙ ready .position (suc n) (omega (arith, inside (test z)))
+    ∙ length-found d ready (imageOf d) (image-is d fine) n (inside (test z))
+    (omega (arith, size-is z carry owners offsets names contexts values ready, c .before .before .if1 .taken))
+    (done-next z carry owners offsets names contexts values ready)
 
 loop-again : tie.Need-loop-again Inv-loop μ-loop
 loop-again c =
-    let z = c .before in
-    let s = start z in (
-      omega (arith, within z),
-      λ carry owners offsets names contexts values.
-          done-more (over s carry owners offsets names contexts values) (slot z) (within z)
-          (omega (arith, z .size-at .ensures carry owners offsets, c .if1 .left)) (done-next z carry owners offsets names contexts values),
+    let z = c .before in (
+      omega (arith, inside (test z)),
+      λ carry owners offsets names contexts values ready.
+          done-more (here z carry owners offsets names contexts values) (slot z) (inside (test z))
+          (omega (arith, size-is z carry owners offsets names contexts values ready, c .if1 .left)) (done-next z carry owners offsets names contexts values ready),
     )
 
 returns-2 : tie.Need-returns-2 Inv-loop μ-loop
@@ -85,7 +94,7 @@ returns-2 c carry owners offsets names contexts values ready fine =
     let s = c .before .before .before in
     let d = over s carry owners offsets names contexts values in
     let e : l .i ≡ 0 = omega arith in
-    length-none d (imageOf d) (image-is d fine) (rw e at (l .inv .1 carry owners offsets names contexts values))
+    length-none d (imageOf d) (image-is d fine) (rw e at (l .inv .1 carry owners offsets names contexts values ready))
 
 pub image-length-spec : {M : Type 1} → statement M
 image-length-spec =
@@ -95,10 +104,13 @@ image-length-spec =
     μ-loop
     loop-holds
     (λ c. search needs)
+    (λ c. record { fits = omega (arith, low c) })
+    (λ c. omega (arith, low c))
+    (λ c κs. search needs)
     size-at-requires
-    add-address
-    mul-address
-    element-copy-out-address
+    (λ c. record { fits = omega (arith, low (test (c .before))) })
+    (λ c. record { fits = omega (arith, low (test (c .before))) })
+    (λ c. omega (arith, low (test (c .before))))
     (λ c κs. search needs)
     returns
     (λ c. search needs)

@@ -1,9 +1,9 @@
 -- `writing::write_at` meets its contract, kind by kind: what is in the room is what the statement encodes to.
 use mathlib.Core.Path.{_≡_, sym, ap, _∙_}
-use mathlib.Core.List.{List, []}
+use mathlib.Core.List.{List}
 use Prim.Native.Nat.{ℕ, _-_, _*_, _<_, _≤_}
 use native.Mathlib.Omega.{arith}
-use lib.ListN.{getD}
+use lib.ListN.{getD, replicate}
 use borrow.Author.Needs.{needs}
 use Rattle.rules.specs.Answers.{ok}
 use Rattle.rules.specs.Programs.{byteCount, kindOf}
@@ -13,14 +13,14 @@ use Rattle.rules.specs.Judging.{items}
 use Rattle.rules.proofs.Laws.{no-ok}
 use Rattle.listing.specs.Tables.{frameAt}
 use Rattle.encoding.specs.Encode.{bytesOfCode}
-use Rattle.slots.specs.Slots.{slotAt}
+use Rattle.slots.specs.Slots.{slotAt, isData}
+use Rattle.slots.proofs.Items.{data-kind}
 use Rattle.image.specs.Tables.{Tables, tables, program}
 use Rattle.image.specs.Encoding.{encodeAt, itemsIn, boundOf, writeOf}
-use Rattle.image.specs.Image.{put, widthOf}
-use Rattle.image.proofs.Passes.{ok-same, encode-none}
+use Rattle.image.specs.Image.{put, widthOf, sizeOf}
+use Rattle.image.proofs.Passes.{ok-same, encode-zeros}
 use Rattle.image.proofs.DataSlots.{DataSlot, data-slot, data-size, data-some}
-use Rattle.image.proofs.Rooms.{put-none}
-use Rattle.image.proofs.Images.{bytes-count, Coded, coded, refused, instr-short}
+use Rattle.image.proofs.Images.{sizeHere, size-here, bytes-count, Coded, coded, refused, instr-short}
 use Rattle.image.proofs.writing.write_at.Statement.{statement}
 use Rattle.image.proofs.writing.write_at.Tie as tie
 
@@ -85,7 +85,7 @@ write-code-requires c κs =
     let k = c .before in
     let s = k .before .before .before .before .before .before .before .before .before .before in
     let h = code-is k in
-    let n = bytes-count (here s) (place s) (h .bytes) (h .is) in
+    let n = bytes-count (here s) (place s) (h .bytes) (h .is) ∙ sym (size-here (here s) (s .pre .0) (place s) (s .pre .1)) in
     let q = k .before .before .before .before .before .before .address .ensures in
     (omega (arith, h .len, h .short), λ some. omega (arith, s .pre .2 (omega (arith, some, h .len, n)), h .len, n, q))
 
@@ -100,38 +100,32 @@ returns-2 c b e =
     ∙ ap (λ n. put (room s) n (bytesOfCode (k .before .code .given .0 .0))) (k .before .before .before .before .before .before .address .ensures)
     ∙ ap (put (room s) (where-at s)) (h .holds ∙ same)
 
-returns-3 : tie.Need-returns-3
-unfolding encodeAt
-returns-3 c b e =
-    let k = c .before .before in
-    let s = k .before .before .before .before .before in
-    let d = here s in
-    let p = program d in
-    let none : [] ≡ b =
-    ok-same
-    (sym (encode-none (d .entries) p (place s) (contextAt p (place s)) (position p (place s)) (slotAt (d .slots) (place s)) (λ o. c .before .if1 .left (found k ∙ o)) (omega (arith, found k, c .if2 .taken)))
-    ∙ e) in
-    sym (put-none (room s) (where-at s)) ∙ ap (put (room s) (where-at s)) none
+-- data, by the kind that was found
+is-data-as : (c : tie.After-is-data) →
+    let s = c .before .before .before .before .before .before .before in
+    c .is-data .result ≡ isData (kindOf (slotAt (here s .slots) (place s)))
+is-data-as c = c .is-data .ensures ∙ ap isData (found (c .before .before))
 
 frame-at-requires : tie.Need-frame-at-requires
-frame-at-requires c κs = let s = c .before .before .before .before .before .before .before in (s .pre .0 .sound .held, s .pre .1)
+frame-at-requires c κs = let s = c .before .before .before .before .before .before .before .before in (s .pre .0 .sound .held, s .pre .1)
 
 -- behind the frame there are data
 module _ (c : tie.After-frame-at) where
   abbrev start : tie.Start
-  start = c .before .before .before .before .before .before .before .before
+  start = c .before .before .before .before .before .before .before .before .before
 
   abbrev kind : ℕ
   kind = kindOf (slotAt (here start .slots) (place start))
 
-  is-six : 6 ≤ kind
-  is-six = omega (arith, found (c .before .before .before), c .before .if2 .left)
+  kinds : (6 ≤ kind) × (kind ≤ 7)
+  kinds = data-kind kind (sym (is-data-as (c .before .before)) ∙ c .before .if2 .taken)
 
   data-here : DataSlot (here start) (place start) (frame start)
-  data-here = data-slot (here start) (start .pre .0) (place start) (start .pre .1) (kind - 2) (omega (arith, is-six)) (omega (arith, is-six))
+  data-here =
+      data-slot (here start) (start .pre .0) (place start) (start .pre .1) (kind - 2) (omega (arith, kinds .0)) (omega (arith, kinds .0)) (omega (arith, kinds .1))
 
-  size-here : byteCount (slotAt (here start .slots) (place start)) ≡ widthOf (getD (frame start) 0 0) * getD (frame start) 1 0
-  size-here = data-size (here start) (place start) (frame start) data-here
+  data-bytes : sizeOf (here start) (place start) ≡ widthOf (getD (frame start) 0 0) * getD (frame start) 1 0
+  data-bytes = data-size (here start) (place start) (frame start) data-here
 
 mul-write-items : tie.Need-mul-write-items
 mul-write-items c = record { fits = omega (arith, low (start c)) }
@@ -144,22 +138,65 @@ write-items-requires c κs =
     let f = c .before .before in
     let s = start f in
     let some = data-some (here s) (place s) (frame s) (data-here f) in
-    let q = f .before .before .before .before .address .ensures in
+    let q = f .before .before .before .before .before .address .ensures in
     rw (f .frame-at .ensures) (
       data-here f .read,
       s .pre .0 .sound .held .few,
-      omega (arith, s .pre .2 (omega (arith, some, size-here f)), size-here f, q),
+      omega (arith, s .pre .2 (omega (arith, some, data-bytes f)), data-bytes f, q),
     )
 
-returns-4 : tie.Need-returns-4
-returns-4 c b e =
+returns-3 : tie.Need-returns-3
+returns-3 c b e =
     let w = c .before .before in
     let f = w .before .before .before in
     let s = start f in
     let d = here s in
     let is : items (d .entries) (boundOf (getD (frame s) 0 0)) (writeOf (getD (frame s) 0 0)) (place s) (getD (d .contexts) (place s) 0) 0 (itemsIn (place s) (frame s)) ≡ ok b =
     sym (data-here f .encodes) ∙ e in
-    w .write-items .ensures b (rw (f .frame-at .ensures) is) ∙ ap (λ n. put (room s) n b) (f .before .before .before .before .address .ensures)
+    w .write-items .ensures b (rw (f .frame-at .ensures) is) ∙ ap (λ n. put (room s) n b) (f .before .before .before .before .before .address .ensures)
+
+-- neither an instruction nor data: zeros, if any
+module _ (c : tie.After-size-at) where
+  abbrev origin : tie.Start
+  origin = c .before .before .before .before .before .before .before .before .before
+
+  abbrev q : ℕ
+  q = c .before .before .before .before .before .address .result
+
+  q-is : q ≡ where-at origin
+  q-is = c .before .before .before .before .before .address .ensures
+
+  count-is : c .size-at .result ≡ sizeOf (here origin) (place origin)
+  count-is =
+      c .size-at .ensures (origin .args .carry .now) (origin .args .owners .now) (origin .args .offsets .now)
+      ∙ ap (λ a. byteCount a (slotAt (here origin .slots) (place origin))) q-is
+
+  zeros-are : encodeAt (here origin) (place origin) ≡ ok (replicate (sizeHere (here origin) (place origin)) 0)
+  unfolding encodeAt
+  zeros-are =
+      let d = here origin in
+      let p = program d in
+      let k = c .before .before .before .before in
+      encode-zeros (d .entries) p (place origin) (contextAt p (place origin)) (position p (place origin)) (slotAt (d .slots) (place origin))
+      (λ o. c .before .before .before .if1 .left (found k ∙ o)) (sym (is-data-as (c .before .before)) ∙ c .before .if2 .left)
+
+size-at-requires : tie.Need-size-at-requires
+size-at-requires c κs = let s = c .before .before .before .before .before .before .before .before in (s .pre .0 .sound .held, s .pre .1)
+
+clear-requires : tie.Need-clear-requires
+clear-requires c κs =
+    let z = c .before in
+    λ some. omega (arith, origin z .pre .2 (omega (arith, some, count-is z)), count-is z, q-is z)
+
+returns-4 : tie.Need-returns-4
+returns-4 c b e =
+    let w = c .before .before in
+    let z = w .before .before in
+    let s = origin z in
+    let n : z .size-at .result ≡ sizeHere (here s) (place s) = count-is z ∙ size-here (here s) (s .pre .0) (place s) (s .pre .1) in
+    let is : replicate (sizeHere (here s) (place s)) 0 ≡ b = ok-same (sym (zeros-are z) ∙ e) in
+    w .clear .ensures ∙ ap (λ a. put (room s) a (replicate (z .size-at .result) 0)) (q-is z)
+    ∙ ap (λ m. put (room s) (where-at s) (replicate m 0)) n ∙ ap (put (room s) (where-at s)) is
 
 pub write-at-spec : {M : Type 1} → statement M
 write-at-spec =
@@ -176,10 +213,14 @@ write-at-spec =
     write-code-requires
     (λ c. search needs)
     returns-2
-    returns-3
+    (λ c κs. search needs)
     frame-at-requires
     mul-write-items
     element-copy-out-write-items
     write-items-requires
+    (λ c. search needs)
+    returns-3
+    size-at-requires
+    clear-requires
     (λ c. search needs)
     returns-4)

@@ -11,7 +11,7 @@ use Rattle.image.specs.Tables.{Tables, tables}
 use Rattle.image.specs.Encoding.{encodeSlots}
 use Rattle.image.specs.Image.{imageOf, put}
 use Rattle.image.proofs.Passes.{ok-same, fromSlot, from-start, from-end}
-use Rattle.image.proofs.Rooms.{roomOf, room-length, room-start, room-end}
+use Rattle.image.proofs.Rooms.{put-first, roomOf, room-length, room-start, room-end}
 use Rattle.image.proofs.Images.{image-is, rest-short, slot-fits, laid}
 use Rattle.image.proofs.writing.write_image.Statement.{statement}
 use Rattle.image.proofs.writing.write_image.Tie as tie
@@ -46,7 +46,7 @@ size-is c =
     c .image-length .ensures (s .args .carry .now) (s .args .owners .now) (s .args .offsets .now) (s .args .names .now) (s .args .contexts .now) (s .args .values .now) (s .pre .0) (s .pre .1)
 
 clear-requires : tie.Need-clear-requires Inv-loop μ-loop
-clear-requires c κs = omega (arith, size-is c, c .before .before .before .before .pre .2)
+clear-requires c κs = λ some. omega (arith, size-is c, c .before .before .before .before .pre .2)
 
 -- the cleared room: zeros, and behind them what was there
 module _ (c : tie.After-clear Inv-loop μ-loop) where
@@ -60,7 +60,9 @@ module _ (c : tie.After-clear Inv-loop μ-loop) where
   behind = drop (size start) (start .args .image .now)
 
   cleared-is : cleared ≡ replicate (size start) 0 ++ behind
-  cleared-is = c .clear .ensures ∙ ap (λ n. replicate n 0 ++ drop n (start .args .image .now)) (size-is (c .before))
+  cleared-is =
+      c .clear .ensures ∙ ap (λ n. put (start .args .image .now) 0 (replicate n 0)) (size-is (c .before))
+      ∙ put-first (start .args .image .now) (size start)
 
   behind-is : drop (size start) cleared ≡ behind
   behind-is = ap (drop (size start)) cleared-is ∙ drop-at (replicate (size start) 0) behind (size start) (length-replicate (size start) 0)

@@ -1,12 +1,15 @@
 -- `patterns::counting::in_statement` meets its contract, kind by kind.
 use mathlib.Core.Path.{_≡_, sym, ap, _∙_}
 use mathlib.Core.List.{List, []}
+use mathlib.Core.Bool.{true}
 use Prim.Native.Nat.{ℕ, suc, _-_, _≤_}
 use lib.ListN.{getD}
+use borrow.Author.Needs.{needs}
 use native.Mathlib.Omega.{arith}
 use Rattle.rules.specs.Programs.{overExprs, kindOf}
 use Rattle.listing.specs.Tables.{frameAt, inputAt}
-use Rattle.slots.specs.Slots.{Slots, slots, slotAt}
+use Rattle.slots.specs.Slots.{Slots, slots, slotAt, isData}
+use Rattle.slots.proofs.Items.{data-kind}
 use Rattle.slots.proofs.Slots.{slot-data}
 use Rattle.patterns.specs.Mentions.{times, readAs}
 use Rattle.patterns.proofs.Mentions.{in-none, kind-frame}
@@ -66,39 +69,59 @@ returns-2 c =
       c .in-variable .ensures .1,
     )
 
-returns-3 : tie.Need-returns-3
-returns-3 c =
-    let f = c .before .before in
-    let k = f .before .before in
-    let s = start k in (
-      λ offsets.
-          sym (in-none (times (s .args .n)) (slotAt (over s offsets) (s .args .at .0)) (λ e. f .before .if1 .left (kind k offsets ∙ e)) (λ e. c .before .if2 .left (kind k offsets ∙ e)) (omega (arith, kind k offsets, c .if3 .taken))),
-      omega arith,
-    )
+-- data, by the kind that was found
+is-data-as : (c : tie.After-is-data) (offsets : List ℕ) →
+    let s = start (c .before .before .before .before) in
+    c .is-data .result ≡ isData (kindOf (slotAt (over s offsets) (s .args .at .0)))
+is-data-as c offsets = c .is-data .ensures ∙ ap isData (kind (c .before .before .before .before) offsets)
 
 -- 6 or 7
-module _ (c : tie.After-kind-at) (l : 6 ≤ c .kind-at .result) where
+module _ (c : tie.After-kind-at) (e : isData (c .kind-at .result) ≡ true) where
+  kinds : (6 ≤ c .kind-at .result) × (c .kind-at .result ≤ 7)
+  kinds = data-kind (c .kind-at .result) e
+
   above : (k : ℕ) × (c .kind-at .result ≡ suc (suc k))
-  above = (c .kind-at .result - 2, omega arith)
+  above = (c .kind-at .result - 2, omega (arith, kinds .0))
 
 in-items-requires : tie.Need-in-items-requires
 in-items-requires c κs =
-    let f = c .before .before in
+    let d = c .before in
+    let f = d .before .before in
     let k = f .before .before in
     let s = start k in
-    let a = above k (c .if3 .left) in
-    rw (f .frame-at .ensures) (record { reads = s .pre .1 [] .held .reads (s .args .at .0) (s .pre .0); kind = omega (arith, first-byte k (suc (a .0)) (a .1), a .1, c .if3 .left) })
+    let e = sym (d .is-data .ensures) ∙ c .if3 .taken in
+    let a = above k e in
+    let first = first-byte k (suc (a .0)) (a .1) in
+    rw (f .frame-at .ensures) (record {
+      reads = s .pre .1 [] .held .reads (s .args .at .0) (s .pre .0);
+      kind = omega (arith, first, a .1, kinds k e .0);
+      no-pad = omega (arith, first, a .1, kinds k e .1);
+    })
 
-returns-4 : tie.Need-returns-4
-returns-4 c =
-    let f = c .before .before .before in
+returns-3 : tie.Need-returns-3
+returns-3 c =
+    let d = c .before .before in
+    let f = d .before .before in
     let k = f .before .before in
     let s = start k in
-    let a = above k (c .before .if3 .left) in (
+    let a = above k (sym (d .is-data .ensures) ∙ c .before .if3 .taken) in (
       λ offsets.
           c .in-items .ensures .0 ∙ ap (λ x. overExprs (times (s .args .n)) (readAs (s .args .at .0) x)) (f .frame-at .ensures)
           ∙ sym (ap (overExprs (times (s .args .n))) (as-read k (a .0) (a .1) offsets)),
       c .in-items .ensures .1,
+    )
+
+returns-4 : tie.Need-returns-4
+returns-4 c =
+    let d = c .before in
+    let f = d .before .before in
+    let k = f .before .before in
+    let s = start k in (
+      λ offsets.
+          sym
+          (in-none (times (s .args .n)) (slotAt (over s offsets) (s .args .at .0)) (λ e. f .before .if1 .left (kind k offsets ∙ e))
+          (λ e. d .before .if2 .left (kind k offsets ∙ e)) (sym (is-data-as d offsets) ∙ c .if3 .left)),
+      omega arith,
     )
 
 pub in-statement-spec : {M : Type 1} → statement M
@@ -111,6 +134,7 @@ in-statement-spec =
     frame-at-requires
     in-variable-requires
     returns-2
-    returns-3
+    (λ c κs. search needs)
     in-items-requires
+    returns-3
     returns-4)

@@ -7,9 +7,8 @@ use lib.Dec.{ltb}
 use borrow.Author.Tests.{not-true, not-false}
 use Rattle.laws.specs.Counts.{allTo}
 use Rattle.laws.proofs.Counts.{all-more, all-fails, at-end}
-use Rattle.rules.specs.Programs.{byteCount}
-use Rattle.patterns.specs.Targets.{standsAt}
-use Rattle.slots.specs.Slots.{Slots, slots}
+use Rattle.rules.specs.Layout.{sizeIn}
+use Rattle.slots.specs.Slots.{Slots, slots, programOf}
 use Rattle.patterns.specs.Labels.{labelAt, ofLabel}
 use Rattle.patterns.proofs.InnerLabels.{labels-by}
 use Rattle.patterns.proofs.labels.offsets_fit.Statement.{statement}
@@ -17,37 +16,38 @@ use Rattle.patterns.proofs.labels.offsets_fit.Tie as tie
 
 -- the test of slot j
 abbrev passes : (t : Slots) (j : ℕ) → Bool
-passes t j = ofLabel (λ owner o. ltb o (byteCount (standsAt t owner))) (labelAt t j)
+passes t j = ofLabel (λ owner o. ltb o (sizeIn (programOf t) owner)) (labelAt t j)
 
 abbrev Inv-loop : tie.InvT-loop
-Inv-loop frames starts count forms carry owners offsets j₀ j = (j ≤ count) × (allTo (passes (slots frames starts count forms carry owners offsets)) j ≡ true)
+Inv-loop frames starts count forms carry owners offsets positions j₀ j = (j ≤ count) × (allTo (passes (slots frames starts count forms carry owners offsets)) j ≡ true)
 
 abbrev μ-loop : tie.MeasureT-loop
-μ-loop frames starts count forms carry owners offsets j₀ j = count - j
+μ-loop frames starts count forms carry owners offsets positions j₀ j = count - j
 
 loop-holds : tie.Need-loop-holds Inv-loop μ-loop
 unfolding allTo
 loop-holds c = (omega arith, refl)
 
 inner-label-at-requires : tie.Need-inner-label-at-requires Inv-loop μ-loop
-inner-label-at-requires c κs = (c .before .before .before .pre, c .loop-test .taken)
+inner-label-at-requires c κs = (c .before .before .before .pre .0, c .loop-test .taken)
 
 fits-owner-requires : tie.Need-fits-owner-requires Inv-loop μ-loop
-fits-owner-requires c κs = (c .before .before .before .before .pre .held, c .inner-label-at .ensures .1)
+fits-owner-requires c κs = (c .before .before .before .before .pre .0 .held, c .inner-label-at .ensures .1)
 
 abbrev over : (c : tie.Start Inv-loop μ-loop) → Slots
 over c = slots (c .args .frames .now) (c .args .starts .now) (c .args .count) (c .args .forms .now) (c .args .carry .now) (c .args .owners .now) (c .args .offsets .now)
 
 tested : (c : tie.After-fits-owner Inv-loop μ-loop) → let s : tie.Start Inv-loop μ-loop = c .before .before .before .before .before in
     c .fits-owner .result ≡ passes (over s) (c .before .before .before .loop .j)
-tested c = let s = c .before .before .before .before .before in c .fits-owner .ensures (s .args .carry .now) (s .args .owners .now) (s .args .offsets .now) ∙ ap (ofLabel (λ owner o. ltb o (byteCount (standsAt (over s) owner)))) (c .before .inner-label-at .ensures .0)
+tested c = let s = c .before .before .before .before .before in c .fits-owner .ensures (s .args .carry .now) (s .args .owners .now) (s .args .offsets .now) (s .pre .1)
+    ∙ ap (ofLabel (λ owner o. ltb o (sizeIn (programOf (over s)) owner))) (c .before .inner-label-at .ensures .0)
 
 returns : tie.Need-returns Inv-loop μ-loop
 unfolding allTo
 returns c =
     let k = c .before in
     let s = k .before .before .before .before .before in
-    sym (labels-by (over s) (s .pre) (λ owner o. ltb o (byteCount (standsAt (over s) owner))) ∙ all-fails (passes (over s)) (k .before .before .before .loop .j) (s .args .count) (k .before .before .loop-test .taken) (sym (tested k) ∙ not-true _ (c .if1 .taken)))
+    sym (labels-by (over s) (s .pre .0) (λ owner o. ltb o (sizeIn (programOf (over s)) owner)) ∙ all-fails (passes (over s)) (k .before .before .before .loop .j) (s .args .count) (k .before .before .loop-test .taken) (sym (tested k) ∙ not-true _ (c .if1 .taken)))
 
 add-j : tie.Need-add-j Inv-loop μ-loop
 add-j c = omega arith
@@ -63,7 +63,7 @@ unfolding allTo
 returns-2 c =
     let s = c .before .before .before in
     let l = c .before .loop in
-    sym (labels-by (over s) (s .pre) (λ owner o. ltb o (byteCount (standsAt (over s) owner))) ∙ sym (at-end (allTo (passes (over s))) (l .j) (s .args .count) (l .inv .0) (c .loop-test .left)) ∙ l .inv .1)
+    sym (labels-by (over s) (s .pre .0) (λ owner o. ltb o (sizeIn (programOf (over s)) owner)) ∙ sym (at-end (allTo (passes (over s))) (l .j) (s .args .count) (l .inv .0) (c .loop-test .left)) ∙ l .inv .1)
 
 pub offsets-fit-spec : {M : Type 1} → statement M
 offsets-fit-spec =
