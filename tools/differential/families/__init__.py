@@ -8,8 +8,22 @@ LARGE = texts.LARGE
 BY_NAME = {family.__name__: family for family in EVERYDAY + LARGE}
 
 
+def padded(rng, text):
+    """C-11: one to three pads between the lines of a text, as long as none of its lines is cut and it has room for them."""
+    lines = text.split(b"\n")
+    if lines[-1] or len(lines) > 1000 or len(text) > 48000:
+        return text
+    for _ in range(rng.randint(1, 3)):
+        add, multiple = rng.choice([0, 0, 0, 1, 2, 255]), rng.choice([1, 1, 2, 3, 4, 8, 16, 128, 131, 256])
+        lines.insert(rng.randrange(len(lines)), b"08%02X%04X" % (add, multiple))
+    return b"\n".join(lines)
+
+
 def listing(seed, family, index):
-    return BY_NAME[family](random.Random("%s/%s/%s" % (seed, family, index)))
+    """A listing of a family; every fourth one of each has pads."""
+    rng = random.Random("%s/%s/%s" % (seed, family, index))
+    text = BY_NAME[family](rng)
+    return padded(rng, text) if index % 4 == 3 else text
 
 
 def sequence(seed, only=None, start=0):

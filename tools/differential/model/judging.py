@@ -178,7 +178,8 @@ class Judge:
             if s is not None and self.sizes[place]:
                 at, code = self.positions[place], self.code(place, s)
                 image.extend(bytes(max(0, at + len(code) - len(image))))
-                image[at:at + len(code)] = code
+                if s.kind != "pad":  # the Rust's writes nothing: where an org went back, what stood there stays
+                    image[at:at + len(code)] = code
         if self.ways.has("the image runs to the highest position"):
             image.extend(bytes(self.highest - len(image)))
         return bytes(image)
