@@ -29,7 +29,7 @@ struct mortarbee_reply mortarbee_assemble(const uint8_t *listing, size_t listing
 struct mortarbee_reply mortarbee_optimize_jumps(uint8_t comments, uint8_t callf, uint8_t folds, const uint8_t *listing, size_t listing_len, uint8_t *out, size_t out_len,
                                                 uint8_t *image, size_t image_len);
 
-/* Rooms that are never too short: 49,152 characters, four more for each of 1,024 transfers and 1,024 line feeds, with room to spare, and 65,536 bytes. */
+/* Rooms that are never too short: 57,344 characters, four more for each of 1,024 transfers, 1,024 line feeds and the first line of five, and 65,536 bytes. */
 #define MORTARBEE_LISTING_ROOM 62469
 #define MORTARBEE_IMAGE_ROOM 65536
 

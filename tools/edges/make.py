@@ -9,7 +9,7 @@ import sys
 from pathlib import Path
 
 ROOT = Path(__file__).resolve().parents[2]
-TABLES = ["Points", "RunsReading", "RunsJudging", "RunsRules", "RunsFolds", "RunsSettings", "RunsPads"]
+TABLES = ["Points", "RunsReading", "RunsJudging", "RunsRules", "RunsFolds", "RunsSettings", "RunsPads", "RunsLines"]
 ROW = re.compile(r'^\s+(turns|keeps|encodes|refuses|faults|prints|turnsByDefault|turnsWith(?: (?:true|false)){3}) "((?:[^"\\]|\\.)*)"(.*?)(?: ∷)?$')
 DOCUMENT_01, BY_DEFAULT = 7, 6  # settings by number: 1 keeps comments, 2 lets Callf shrink, 4 lets folds run
 
@@ -42,7 +42,7 @@ def fits_a_block(text):
 
 
 def extras():
-    """Limits that are too long for a table: 1,024 statements, 120 bytes a frame, 24,576 frame bytes in all."""
+    """Limits that are too long for a table: 1,024 statements, 120 bytes a frame, 24,576 frame bytes in all, and those of the new form."""
     long = "04" + 119 * "AB" + "\n"
     full = 204 * long + "04" + 95 * "AB" + "\n"
     yield "1,024 statements", 1024 * "0143\n", "7F0000000400"
@@ -51,6 +51,13 @@ def extras():
     yield "a frame of 121 bytes", long[:-1] + "AB\n", "7E0200000000000000"
     yield "24,576 frame bytes", full, "7F0000000000"
     yield "24,578 frame bytes", full + "0143\n", "7E0200CD0000000000"
+    # C-20: four bytes more a frame, 28,672 frame bytes in all
+    lined = "0400000001" + 119 * "AB" + "\n"
+    filled = "7D02\n" + 231 * lined + "0400000001" + 23 * "AB" + "\n"
+    yield "a frame of 124 bytes", "7D02\n" + lined, "7F0000000000"
+    yield "a frame of 125 bytes", "7D02\n" + lined[:-1] + "AB\n", "7E0200000000000000"
+    yield "28,672 frame bytes", filled, "7F0000000000"
+    yield "28,678 frame bytes", filled + "010000000143\n", "7E0200E80000000000"
 
 
 def blocks():

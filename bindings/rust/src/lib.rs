@@ -3,7 +3,7 @@
 
 use std::fmt;
 
-/// A listing room that is never too short: 49,152 characters, four more for each of 1,024 transfers and 1,024 line feeds, with room to spare.
+/// A listing room that is never too short: 57,344 characters, four more for each of 1,024 transfers, 1,024 line feeds and the first line of five.
 pub const LISTING_ROOM: usize = 62_469;
 /// An image room that is never too short.
 pub const IMAGE_ROOM: usize = 65_536;

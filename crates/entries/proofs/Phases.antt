@@ -1,20 +1,22 @@
 -- What one phase hands to the next: a verdict, a listing that was read, the same result under another name.
-use mathlib.Core.Path.{_≡_, refl, sym, ap, _∙_, subst}
+use mathlib.Core.Path.{_≡_, refl, sym, ap, ap₂, _∙_, subst}
 use mathlib.Core.List.{List}
-use mathlib.Core.Bool.{true, false}
+use mathlib.Core.Bool.{Bool, true, false}
 use Prim.Native.Nat.{ℕ, _<_}
 use native.Mathlib.Omega.{arith}
-use lib.ListN.{length}
+use lib.ListN.{length, take}
 use Rattle.rules.specs.declared.Answer.{Answer}
 use Rattle.rules.specs.declared.Answer.the-variants.{Refused}
 use Rattle.rules.specs.declared.Refusal.{Refusal}
 use Rattle.rules.specs.Answers.{Judged, ok, no, _>>=_, require, isOk}
 use Rattle.rules.specs.Programs.{Program}
-use Rattle.rules.specs.Listing.{readListing}
+use Rattle.rules.specs.Listing.{readListing, ListingForm, besideOf}
 use Rattle.rules.specs.Run.{assembled}
 use Rattle.listing.specs.declared.Listed.{Listed}
 use Rattle.listing.specs.declared.Listed.the-variants.{Read, Refused as Unread}
-use Rattle.listing.specs.Tables.{Holds, ListedAs}
+use Rattle.listing.specs.Form.{formOf}
+use Rattle.listing.specs.Tables.{Holds, ListedAs, BesideAs}
+use Rattle.output.specs.Lines.{besideIn}
 use Rattle.asm.specs.declared.Verdict.{Verdict}
 use Rattle.asm.specs.declared.Verdict.the-variants.{Good, Refused as Bad}
 use Rattle.asm.specs.Verdicts.{verdictAs}
@@ -48,6 +50,12 @@ listed-read frames starts n (no q) r e h = absurd (rw e at h)
 pub listed-refused : (frames starts : List ℕ) (q : Refusal) (x : Judged Program) (r : Listed) → r ≡ Unread q → ListedAs frames starts r x → x ≡ no q
 listed-refused frames starts q (ok p) r e h = absurd (rw e at h)
 listed-refused frames starts q (no s) r e h = let k : q ≡ s = rw e at h in sym (ap no k)
+
+-- C-20: what it says beside its statements
+pub beside-read : (text lines : List ℕ) (n : ℕ) (marked : Bool) (r : Listed) → r ≡ Read n → besideOf text .form ≡ formOf marked → BesideAs text lines r → besideOf text ≡ besideIn marked lines n
+beside-read text lines n marked r e f h =
+    let g : besideOf text .lines ≡ take n lines = rw e at h in
+    ap₂ (λ (w : ListingForm) (ns : List ℕ). record { form = w; lines = ns }) f g
 
 module _ (text : List ℕ) (room : ℕ) where
   assembled-read : (p : Program) → readListing text ≡ ok p → assembled text room ≡ imageIn room p

@@ -1,6 +1,6 @@
 -- What the phases hand to each other is what document 01's run has: the anchored program stands, its end form's text and image are the output's, and
 -- the whole is the run of the text.
-use mathlib.Core.Path.{_≡_, refl, sym, ap, _∙_, subst}
+use mathlib.Core.Path.{_≡_, refl, sym, ap, ap₂, _∙_, subst}
 use mathlib.Core.List.{List, []}
 use mathlib.Core.Bool.{true}
 use Prim.Native.Nat.{ℕ}
@@ -15,12 +15,12 @@ use Rattle.rules.specs.declared.Refusal.the-variants.{Room}
 use Rattle.rules.specs.declared.Settings.{Settings}
 use Rattle.rules.specs.Answers.{Judged, ok, no, _>>=_, _>>_, require, orD, isOk}
 use Rattle.rules.specs.Programs.{Program}
-use Rattle.rules.specs.Listing.{readListing}
+use Rattle.rules.specs.Listing.{readListing, Beside, besideOf}
 use Rattle.rules.specs.Names.{contextAt}
 use Rattle.rules.specs.Judging.{judge, assembles}
 use Rattle.rules.specs.Rewriting.{Chain, anchor, chain, instrBytes, optimized}
 use Rattle.rules.specs.Output.{writeBack, shown, compact, stems, textOf}
-use Rattle.rules.specs.Run.{Output, outputOf, fits, run}
+use Rattle.rules.specs.Run.{Output, outputOf, fits, run, rewritten as run-rewritten}
 use Rattle.promises.specs.Demand2.{Answered, Input, outputProgram}
 use Rattle.promises.proofs.Passes.{judge-passes, assembles-image, image-assembles}
 use Rattle.promises.proofs.Anchors.{instrBytes-anchor}
@@ -63,17 +63,17 @@ module _ (d : Tables) (h : Assembled d) where
   assembled-encodes = ap isOk (sym (h .encodes)) ∙ h .good
 
   -- the image of the tables is the program's
-  pub image-result : (n : ℕ) → imageOf d ≡ resultOf (program d) n .image
+  pub image-result : (b : Beside) (n : ℕ) → imageOf d ≡ resultOf b (program d) n .image
   unfolding imageOf resultOf
-  image-result n = ap (λ x. orD x []) (sym (h .encodes))
+  image-result b n = ap (λ x. orD x []) (sym (h .encodes))
 
-pub listing-result : (t : Slots) (n : ℕ) → listingOf t ≡ resultOf (programOf t) n .listing
+pub listing-result : (b : Beside) (t : Slots) (n : ℕ) → listingOf b t ≡ resultOf b (programOf t) n .listing
 unfolding listingOf resultOf
-listing-result t n = refl
+listing-result b t n = refl
 
-pub count-result : (q : Program) (n : ℕ) → n ≡ resultOf q n .count
+pub count-result : (b : Beside) (q : Program) (n : ℕ) → n ≡ resultOf b q n .count
 unfolding resultOf
-count-result q n = refl
+count-result b q n = refl
 
 -- the positions that the tables hold are the program's
 pub positioned : (d : Tables) → Ready d → Positioned (d .slots) (d .positions)
@@ -100,9 +100,9 @@ anchored-stands t u contexts a g f c k =
 
 -- ---- rewritten
 
-pub rewritten-is : (asked : Settings) (q end : Program) (n : ℕ) → chain asked (total instrBytes q) q ≡ record { program = end; count = n } → rewritten asked q ≡ resultOf (shown asked end) n
+pub rewritten-is : (asked : Settings) (b : Beside) (q end : Program) (n : ℕ) → chain asked (total instrBytes q) q ≡ record { program = end; count = n } → rewritten asked b q ≡ resultOf b (shown asked end) n
 unfolding rewritten
-rewritten-is asked q end n e = ap (λ (c : Chain). resultOf (shown asked (c .program)) (c .count)) e
+rewritten-is asked b q end n e = ap (λ (c : Chain). resultOf b (shown asked (c .program)) (c .count)) e
 
 -- a program without its comments stands as it stood
 pub shown-stands : (asked : Settings) (t u : Slots) (contexts : List ℕ) → Standing t contexts → assembles (programOf t) ≡ true → length (u .forms) ≡ 1024 → length (u .carry) ≡ 1024
@@ -121,63 +121,63 @@ shown-stands asked t u contexts s g f c n h =
     )
 
 -- what the rewriting left, handed out
-pub optimized-fitted : (asked : Settings) (contexts : List ℕ) (t u v : Slots) (n : ℕ) {r : Answer} {out image out′ image′ : List ℕ} → Optimized asked t u contexts n → Shown asked u v
-    → Fitted (t .count) (resultOf (programOf v) n) r out image out′ image′ → Fitted (t .count) (rewritten asked (programOf t)) r out image out′ image′
-optimized-fitted asked contexts t u v n {r} {out} {image} {out′} {image′} h k d =
-    let e = rewritten-is asked (programOf t) (programOf u) n (h .chain-is (total instrBytes (programOf t)) (omega arith)) ∙ ap (λ (p : Program). resultOf p n) (sym (k .program)) in
+pub optimized-fitted : (asked : Settings) (b : Beside) (contexts : List ℕ) (t u v : Slots) (n : ℕ) {r : Answer} {out image out′ image′ : List ℕ} → Optimized asked t u contexts n → Shown asked u v
+    → Fitted (t .count) (resultOf b (programOf v) n) r out image out′ image′ → Fitted (t .count) (rewritten asked b (programOf t)) r out image out′ image′
+optimized-fitted asked b contexts t u v n {r} {out} {image} {out′} {image′} h k d =
+    let e = rewritten-is asked b (programOf t) (programOf u) n (h .chain-is (total instrBytes (programOf t)) (omega arith)) ∙ ap (λ (p : Program). resultOf b p n) (sym (k .program)) in
     subst (λ (o : Output). Fitted (t .count) o r out image out′ image′) (sym e) d
 
 -- of the same program
-pub fitted-program : (asked : Settings) (p q : Program) (n : ℕ) {r : Answer} {out image out′ image′ : List ℕ} → p ≡ q
-    → Fitted n (rewritten asked p) r out image out′ image′ → Fitted n (rewritten asked q) r out image out′ image′
-fitted-program asked p q n {r} {out} {image} {out′} {image′} e d = subst (λ (z : Program). Fitted n (rewritten asked z) r out image out′ image′) e d
+pub fitted-program : (asked : Settings) (b : Beside) (p q : Program) (n : ℕ) {r : Answer} {out image out′ image′ : List ℕ} → p ≡ q
+    → Fitted n (rewritten asked b p) r out image out′ image′ → Fitted n (rewritten asked b q) r out image out′ image′
+fitted-program asked b p q n {r} {out} {image} {out′} {image′} e d = subst (λ (z : Program). Fitted n (rewritten asked b z) r out image out′ image′) e d
 
 -- what is handed out of an accepted program is document 01's output: the end form's image is the output's
-pub rewritten-output : (asked : Settings) (p : Program) → Input p → rewritten asked (anchor p) ≡ outputOf asked p
-unfolding rewritten resultOf outputOf optimized outputProgram
-rewritten-output asked p h =
+pub rewritten-output : (asked : Settings) (b : Beside) (p : Program) → Input p → rewritten asked b (anchor p) ≡ outputOf asked b p
+unfolding rewritten resultOf outputOf run-rewritten optimized outputProgram
+rewritten-output asked b p h =
     let i = image-of-output asked p h in
     let end : Program = optimized asked p .program in
     let same : judge (shown asked end) ≡ judge (compact (shown asked (writeBack end))) = judge-shown asked end ∙ i .of-end ∙ sym (i .of-output) in
-    ap (λ (fuel : ℕ). (let c = chain asked fuel (anchor p) in resultOf (shown asked (c .program)) (c .count))) (instrBytes-anchor p)
-    ∙ ap (λ (q : Program). record { listing = textOf (compact q); stems = stems q; count = optimized asked p .count; image = orD (judge (shown asked end)) [] }) (writeBack-shown asked end)
-    ∙ ap (λ x. record { listing = textOf (compact (shown asked (writeBack end))); stems = stems (shown asked (writeBack end)); count = optimized asked p .count; image = orD x [] }) same
+    ap (λ (fuel : ℕ). (let c = chain asked fuel (anchor p) in resultOf b (shown asked (c .program)) (c .count))) (instrBytes-anchor p)
+    ∙ ap (λ (q : Program). record { listing = textOf b (stems q) (compact q); stems = stems q; count = optimized asked p .count; image = orD (judge (shown asked end)) [] }) (writeBack-shown asked end)
+    ∙ ap (λ x. record { listing = textOf b (stems (shown asked (writeBack end))) (compact (shown asked (writeBack end))); stems = stems (shown asked (writeBack end)); count = optimized asked p .count; image = orD x [] }) same
 
 -- ---- the run
 
-module _ (asked : Settings) (a b : ℕ) (p : Program) where
-  pub judged-no : (q : Refusal) → judge p ≡ no q → judgedRun asked a b p ≡ no q
+module _ (asked : Settings) (e : Beside) (a b : ℕ) (p : Program) where
+  pub judged-no : (q : Refusal) → judge p ≡ no q → judgedRun asked e a b p ≡ no q
   unfolding judgedRun _>>_
-  judged-no q e = rw e
+  judged-no q z = rw z
 
-  judged-ok : (image : List ℕ) → judge p ≡ ok image → judgedRun asked a b p ≡ roomed (length p) a b (rewritten asked (anchor p))
+  judged-ok : (image : List ℕ) → judge p ≡ ok image → judgedRun asked e a b p ≡ roomed (length p) a b (rewritten asked e (anchor p))
   unfolding judgedRun _>>_
-  judged-ok image e = rw e
+  judged-ok image z = rw z
 
-pub judged-delivers : (asked : Settings) (p : Program) (n : ℕ) {r : Answer} {out image out′ image′ : List ℕ} → length p ≡ n → assembles p ≡ true
-    → Fitted n (rewritten asked (anchor p)) r out image out′ image′ → Delivers (judgedRun asked (length out) (length image) p) r out image out′ image′
-judged-delivers asked p n {r} {out} {image} {out′} {image′} e g h =
+pub judged-delivers : (asked : Settings) (b : Beside) (p : Program) (n : ℕ) {r : Answer} {out image out′ image′ : List ℕ} → length p ≡ n → assembles p ≡ true
+    → Fitted n (rewritten asked b (anchor p)) r out image out′ image′ → Delivers (judgedRun asked b (length out) (length image) p) r out image out′ image′
+judged-delivers asked b p n {r} {out} {image} {out′} {image′} e g h =
     let i = assembles-image p g in
-    let z : roomed n (length out) (length image) (rewritten asked (anchor p)) ≡ judgedRun asked (length out) (length image) p =
-    ap (λ m. roomed m (length out) (length image) (rewritten asked (anchor p))) (sym e) ∙ sym (judged-ok asked (length out) (length image) p (i .0) (i .1)) in
+    let z : roomed n (length out) (length image) (rewritten asked b (anchor p)) ≡ judgedRun asked b (length out) (length image) p =
+    ap (λ m. roomed m (length out) (length image) (rewritten asked b (anchor p))) (sym e) ∙ sym (judged-ok asked b (length out) (length image) p (i .0) (i .1)) in
     subst (λ (x : Judged Output). Delivers x r out image out′ image′) z h
 
-pub delivers-program : (asked : Settings) (p q : Program) {r : Answer} {out image out′ image′ : List ℕ} → p ≡ q
-    → Delivers (judgedRun asked (length out) (length image) p) r out image out′ image′ → Delivers (judgedRun asked (length out) (length image) q) r out image out′ image′
-delivers-program asked p q {r} {out} {image} {out′} {image′} e d =
-    subst (λ (z : Program). Delivers (judgedRun asked (length out) (length image) z) r out image out′ image′) e d
+pub delivers-program : (asked : Settings) (b : Beside) (p q : Program) {r : Answer} {out image out′ image′ : List ℕ} → p ≡ q
+    → Delivers (judgedRun asked b (length out) (length image) p) r out image out′ image′ → Delivers (judgedRun asked b (length out) (length image) q) r out image out′ image′
+delivers-program asked b p q {r} {out} {image} {out′} {image′} e d =
+    subst (λ (z : Program). Delivers (judgedRun asked b (length out) (length image) z) r out image out′ image′) e d
 
 module _ (asked : Settings) (text : List ℕ) (a b : ℕ) where
   run-no : (q : Refusal) → readListing text ≡ no q → run asked text a b ≡ no q
   unfolding run _>>=_
   run-no q e = rw e
 
-  run-read : (p : Program) → readListing text ≡ ok p → run asked text a b ≡ judgedRun asked a b p
+  run-read : (p : Program) → readListing text ≡ ok p → run asked text a b ≡ judgedRun asked (besideOf text) a b p
   unfolding run judgedRun _>>=_ _>>_ roomed
   run-read p e = rw e (on (judge p) refl)
     where
-      on : (x : Judged (List ℕ)) → judge p ≡ x → (x >> require (fits a b (outputOf asked p)) (Room (length p)) (ok (outputOf asked p))) ≡ (x >> roomed (length p) a b (rewritten asked (anchor p)))
-      on (ok image) j = ap (λ o. roomed (length p) a b o) (sym (rewritten-output asked p (record { text = text; reads = e; image = image; assembles = j })))
+      on : (x : Judged (List ℕ)) → judge p ≡ x → (x >> require (fits a b (outputOf asked (besideOf text) p)) (Room (length p)) (ok (outputOf asked (besideOf text) p))) ≡ (x >> roomed (length p) a b (rewritten asked (besideOf text) (anchor p)))
+      on (ok image) j = ap (λ o. roomed (length p) a b o) (sym (rewritten-output asked (besideOf text) p (record { text = text; reads = e; image = image; assembles = j })))
       on (no q) j = refl
 
 -- ---- the text
@@ -188,9 +188,10 @@ module _ (asked : Settings) (text out image : List ℕ) where
       let d = delivers-no (run asked text (length out) (length image)) q out image (run-no asked text (length out) (length image) q e) in
       record { answers = d .answers; listing-is = d .listing-is; image-is = d .image-is }
 
-  pub answered-read : (p q : Program) {r : Answer} {out′ image′ : List ℕ} → readListing text ≡ ok p → q ≡ p
-      → Delivers (judgedRun asked (length out) (length image) q) r out image out′ image′ → Answered asked text out image r out′ image′
-  answered-read p q {r} {out′} {image′} e f h =
-      let z : judgedRun asked (length out) (length image) q ≡ run asked text (length out) (length image) = ap (judgedRun asked (length out) (length image)) f ∙ sym (run-read asked text (length out) (length image) p e) in
-      let d = subst (λ (x : Judged Output). Delivers x r out image out′ image′) z h in
+  pub answered-read : (b : Beside) (p q : Program) {r : Answer} {out′ image′ : List ℕ} → besideOf text ≡ b → readListing text ≡ ok p → q ≡ p
+      → Delivers (judgedRun asked b (length out) (length image) q) r out image out′ image′ → Answered asked text out image r out′ image′
+  answered-read b p q {r} {out′} {image′} z e f h =
+      let x : judgedRun asked b (length out) (length image) q ≡ run asked text (length out) (length image) =
+      ap₂ (λ (c : Beside) (s : Program). judgedRun asked c (length out) (length image) s) (sym z) f ∙ sym (run-read asked text (length out) (length image) p e) in
+      let d = subst (λ (y : Judged Output). Delivers y r out image out′ image′) x h in
       record { answers = d .answers; listing-is = d .listing-is; image-is = d .image-is }

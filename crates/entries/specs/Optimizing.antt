@@ -10,6 +10,7 @@ use Rattle.rules.specs.declared.Refusal.the-variants.{Room}
 use Rattle.rules.specs.declared.Settings.{Settings}
 use Rattle.rules.specs.Answers.{Judged, ok, _>>_, require, orD}
 use Rattle.rules.specs.Programs.{Program}
+use Rattle.rules.specs.Listing.{Beside}
 use Rattle.rules.specs.Judging.{namesOf, judge, assembles}
 use Rattle.rules.specs.Rewriting.{Chain, anchor, chain, instrBytes}
 use Rattle.rules.specs.Output.{writeBack, shown, compact, stems, textOf}
@@ -18,22 +19,22 @@ use Rattle.image.specs.Tables.{Tables, program, Ready}
 use Rattle.image.specs.Encoding.{encodeSlots}
 
 -- what is handed out of an end form that n rewrites led to: its text, the places that the statements stem from, and its own image
-unfoldable pub resultOf : (end : Program) (n : ℕ) → Output
-resultOf end n = record { listing = textOf (compact (writeBack end)); stems = stems (writeBack end); count = n; image = orD (judge end) [] }
+unfoldable pub resultOf : Beside → (end : Program) (n : ℕ) → Output
+resultOf b end n = record { listing = textOf b (stems (writeBack end)) (compact (writeBack end)); stems = stems (writeBack end); count = n; image = orD (judge end) [] }
 
 -- what is handed out of an anchored program: comments go "after all rewriting"
-unfoldable pub rewritten : Settings → Program → Output
-rewritten asked q =
+unfoldable pub rewritten : Settings → Beside → Program → Output
+rewritten asked b q =
     let end : Chain = chain asked (total instrBytes q) q in
-    resultOf (shown asked (end .program)) (end .count)
+    resultOf b (shown asked (end .program)) (end .count)
 
 -- "12: lent listing room .. or image room too short", with the statement count
 unfoldable pub roomed : (count listingRoom imageRoom : ℕ) → Output → Judged Output
 roomed count listingRoom imageRoom o = require (fits listingRoom imageRoom o) (Room count) (ok o)
 
 -- a program as read: "After the first assembly only 12 can be given"
-unfoldable pub judgedRun : Settings → (listingRoom imageRoom : ℕ) → Program → Judged Output
-judgedRun asked listingRoom imageRoom p = judge p >> roomed (length p) listingRoom imageRoom (rewritten asked (anchor p))
+unfoldable pub judgedRun : Settings → Beside → (listingRoom imageRoom : ℕ) → Program → Judged Output
+judgedRun asked b listingRoom imageRoom p = judge p >> roomed (length p) listingRoom imageRoom (rewritten asked b (anchor p))
 
 -- tables of a program that was judged good: they hold its names, and what they encode to is its image
 pub record Assembled (d : Tables) : Type 0 where

@@ -172,9 +172,10 @@ fn assemble_read(frames: &[u8], starts: &[u16; 1025], count: usize, image: &mut 
 pub fn assemble(listing: &[u8], image: &mut [u8]) -> Answer
     ensures { λ r. ⌜ Leaves (assembled (now (listing .entry)) (length (now (image .entry)))) r (now (image .entry)) (now (image .exit)) ⌝ }
 {
-    let mut frames = [0u8; 24576];
+    let mut frames = [0u8; 28672];
     let mut starts = [0u16; 1025];
-    match read_listing(listing, &mut frames, &mut starts) {
+    let mut lines = [0u32; 1024];
+    match read_listing(listing, &mut frames, &mut starts, &mut lines) {
         Listed::Refused(r) => Answer::Refused(r),
         Listed::Read(count) => assemble_read(&frames, &starts, count, image),
     }

@@ -51,5 +51,12 @@ pub fn fault_of(r: Refusal) -> Fault
         Refusal::Far(i, j, v) => about_argument(10, i, j, v),
         Refusal::Page(i, j, v) => about_argument(11, i, j, v),
         Refusal::Room(n) => about(12, Place(n)),
+        Refusal::Pairing(k) => about(13, Place(k)),
+        Refusal::Absent => about(14, Place(0)),
+        Refusal::Column(i, c) => about_argument(15, i, 0, c),
+        Refusal::Start => about(16, Place(0)),
+        Refusal::Unknown => about(17, Place(0)),
+        Refusal::Full => about(18, Place(0)),
+        Refusal::Store => about(19, Place(0)),
     }
 }

@@ -11,6 +11,7 @@ use rules::Sizes;
 ghost use mathlib.Core.Path.{_≡_};
 ghost use mathlib.Core.Bool.{true};
 ghost use Rattle.rules.specs.Judging.{assembles};
+ghost use Rattle.output.specs.Lines.{besideIn};
 ghost use Rattle.slots.specs.Slots.{slots, programOf};
 ghost use Rattle.image.specs.Tables.{tables};
 ghost use Rattle.attempts.specs.Standing.{Standing};
@@ -18,6 +19,8 @@ ghost use Rattle.entries.specs.Optimizing.{resultOf, Assembled, Fitted};
 
 // The listing and the image of slots that assemble, `rewrites` being how many rewrites led to them. Both rooms are judged before a byte is written.
 fn write_both(
+    marked: bool,
+    lines: &[u32; 1024],
     frames: &[u8],
     starts: &[u16; 1025],
     count: usize,
@@ -34,9 +37,9 @@ fn write_both(
     image: &mut [u8],
 ) -> Answer
     requires { ⌜ Assembled (tables (now frames) (now starts) count (now forms) (now carry) (now owners) (now offsets) (now names) (now contexts) (now values) (now positions)) ⌝ }
-    ensures { λ r. ⌜ Fitted count (resultOf (programOf (slots (now (frames .entry)) (now (starts .entry)) count (now (forms .entry)) (now (carry .entry)) (now (owners .entry)) (now (offsets .entry)))) rewrites) r (now (out .entry)) (now (image .entry)) (now (out .exit)) (now (image .exit)) ⌝ }
+    ensures { λ r. ⌜ Fitted count (resultOf (besideIn marked (now (lines .entry)) count) (programOf (slots (now (frames .entry)) (now (starts .entry)) count (now (forms .entry)) (now (carry .entry)) (now (owners .entry)) (now (offsets .entry)))) rewrites) r (now (out .entry)) (now (image .entry)) (now (out .exit)) (now (image .exit)) ⌝ }
 {
-    let listing_size = text_length(frames, starts, count, forms, carry, owners);
+    let listing_size = text_length(marked, frames, starts, count, forms, carry, owners);
     let image_size = image_length(frames, starts, count, forms, positions);
     if out.len() < listing_size {
         return Answer::Refused(Refusal::Room(count));
@@ -45,6 +48,8 @@ fn write_both(
         return Answer::Refused(Refusal::Room(count));
     }
     write_text(
+        marked,
+        lines,
         frames,
         starts,
         count,
@@ -78,6 +83,8 @@ fn write_both(
 
 // Names, positions and values of the end form are found once more: it assembles.
 pub fn judge_end(
+    marked: bool,
+    lines: &[u32; 1024],
     frames: &[u8],
     starts: &[u16; 1025],
     count: usize,
@@ -91,7 +98,7 @@ pub fn judge_end(
     image: &mut [u8],
 ) -> Answer
     requires { ⌜ Standing (slots (now frames) (now starts) count (now forms) (now carry) (now owners) (now offsets)) (now contexts) × (assembles (programOf (slots (now frames) (now starts) count (now forms) (now carry) (now owners) (now offsets))) ≡ true) ⌝ }
-    ensures { λ r. ⌜ Fitted count (resultOf (programOf (slots (now (frames .entry)) (now (starts .entry)) count (now (forms .entry)) (now (carry .entry)) (now (owners .entry)) (now (offsets .entry)))) rewrites) r (now (out .entry)) (now (image .entry)) (now (out .exit)) (now (image .exit)) ⌝ }
+    ensures { λ r. ⌜ Fitted count (resultOf (besideIn marked (now (lines .entry)) count) (programOf (slots (now (frames .entry)) (now (starts .entry)) count (now (forms .entry)) (now (carry .entry)) (now (owners .entry)) (now (offsets .entry)))) rewrites) r (now (out .entry)) (now (image .entry)) (now (out .exit)) (now (image .exit)) ⌝ }
 {
     let mut names = [65536u32; 1024];
     let mut positions = [0u32; 1025];
@@ -111,6 +118,8 @@ pub fn judge_end(
     ) {
         Verdict::Refused(r) => Answer::Refused(r),
         Verdict::Good => write_both(
+            marked,
+            lines,
             frames,
             starts,
             count,

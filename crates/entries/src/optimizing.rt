@@ -7,6 +7,7 @@ use asm::start_carry;
 use asm::start_forms;
 use env::fill_contexts;
 use listing::Listed;
+use listing::new_form;
 use listing::read_listing;
 use optimize::optimize;
 use output::show;
@@ -20,6 +21,7 @@ ghost use Rattle.rules.specs.Rewriting as rewriting;
 ghost use Rattle.promises.specs.Demand2.{Answered};
 ghost use Rattle.listing.specs.Tables.{inputOf, Held};
 ghost use Rattle.env.specs.Tables.{Any};
+ghost use Rattle.output.specs.Lines.{besideIn};
 ghost use Rattle.slots.specs.Slots.{slots, programOf, Sound};
 ghost use Rattle.image.specs.Tables.{tables};
 ghost use Rattle.asm.specs.Assembling.{Placed};
@@ -30,6 +32,8 @@ ghost use Rattle.entries.specs.Optimizing.{rewritten, judgedRun, Assembl
 // Rewrites an anchored program to its end form, and writes it, without its comments unless they are asked for.
 fn rewrite_anchored(
     asked: Settings,
+    marked: bool,
+    lines: &[u32; 1024],
     frames: &[u8],
     starts: &[u16; 1025],
     count: usize,
@@ -42,7 +46,7 @@ fn rewrite_anchored(
     image: &mut [u8],
 ) -> Answer
     requires { ⌜ Standing (slots (now frames) (now starts) count (now forms) (now carry) (now owners) (now offsets)) (now contexts) × (assembles (programOf (slots (now frames) (now starts) count (now forms) (now carry) (now owners) (now offsets))) ≡ true) ⌝ }
-    ensures { λ r. ⌜ Fitted count (rewritten asked (programOf (slots (now (frames .entry)) (now (starts .entry)) count (now (forms .entry)) (now (carry .entry)) (now (owners .entry)) (now (offsets .entry))))) r (now (out .entry)) (now (image .entry)) (now (out .exit)) (now (image .exit)) ⌝ }
+    ensures { λ r. ⌜ Fitted count (rewritten asked (besideIn marked (now (lines .entry)) count) (programOf (slots (now (frames .entry)) (now (starts .entry)) count (now (forms .entry)) (now (carry .entry)) (now (owners .entry)) (now (offsets .entry))))) r (now (out .entry)) (now (image .entry)) (now (out .exit)) (now (image .exit)) ⌝ }
 {
     let rewrites = optimize(
         asked,
@@ -57,6 +61,8 @@ fn rewrite_anchored(
     );
     show(asked, frames, starts, count, forms);
     judge_end(
+        marked,
+        lines,
         frames,
         starts,
         count,
@@ -74,6 +80,8 @@ fn rewrite_anchored(
 // Anchors the targets of a program that assembles: `bare` and `none` say that no target is an inner label yet.
 fn anchor_judged(
     asked: Settings,
+    marked: bool,
+    lines: &[u32; 1024],
     frames: &[u8],
     starts: &[u16; 1025],
     count: usize,
@@ -89,7 +97,7 @@ fn anchor_judged(
     image: &mut [u8],
 ) -> Answer
     requires { ⌜ Assembled (tables (now frames) (now starts) count (now forms) (now carry) (now bare) (now none) (now names) (now contexts) (now values) (now positions)) × AsRead (slots (now frames) (now starts) count (now forms) (now carry) (now bare) (now none)) × (length (now forms) ≡ 1024) × (length (now carry) ≡ 1024) × Any (now frames) (now starts) count (now forms) (λ t. Placed t (now contexts)) ⌝ }
-    ensures { λ r. ⌜ Fitted count (rewritten asked (rewriting.anchor (programOf (slots (now (frames .entry)) (now (starts .entry)) count (now (forms .entry)) (now (carry .entry)) (now (bare .entry)) (now (none .entry)))))) r (now (out .entry)) (now (image .entry)) (now (out .exit)) (now (image .exit)) ⌝ }
+    ensures { λ r. ⌜ Fitted count (rewritten asked (besideIn marked (now (lines .entry)) count) (rewriting.anchor (programOf (slots (now (frames .entry)) (now (starts .entry)) count (now (forms .entry)) (now (carry .entry)) (now (bare .entry)) (now (none .entry)))))) r (now (out .entry)) (now (image .entry)) (now (out .exit)) (now (image .exit)) ⌝ }
 {
     let mut owners = [1024u16; 1024];
     let mut offsets = [0u16; 1024];
@@ -110,6 +118,8 @@ fn anchor_judged(
     );
     rewrite_anchored(
         asked,
+        marked,
+        lines,
         frames,
         starts,
         count,
@@ -126,6 +136,8 @@ fn anchor_judged(
 // Judges a program as read: what does not assemble is refused before anything else.
 fn judge_read(
     asked: Settings,
+    marked: bool,
+    lines: &[u32; 1024],
     frames: &[u8],
     starts: &[u16; 1025],
     count: usize,
@@ -138,7 +150,7 @@ fn judge_read(
     image: &mut [u8],
 ) -> Answer
     requires { ⌜ Sound (slots (now frames) (now starts) count (now forms) (now carry) (now bare) (now none)) × AsRead (slots (now frames) (now starts) count (now forms) (now carry) (now bare) (now none)) × (length (now forms) ≡ 1024) × (length (now carry) ≡ 1024) × Any (now frames) (now starts) count (now forms) (λ t. Placed t (now contexts)) ⌝ }
-    ensures { λ r. ⌜ Delivers (judgedRun asked (length (now (out .entry))) (length (now (image .entry))) (programOf (slots (now (frames .entry)) (now (starts .entry)) count (now (forms .entry)) (now (carry .entry)) (now (bare .entry)) (now (none .entry))))) r (now (out .entry)) (now (image .entry)) (now (out .exit)) (now (image .exit)) ⌝ }
+    ensures { λ r. ⌜ Delivers (judgedRun asked (besideIn marked (now (lines .entry)) count) (length (now (out .entry))) (length (now (image .entry))) (programOf (slots (now (frames .entry)) (now (starts .entry)) count (now (forms .entry)) (now (carry .entry)) (now (bare .entry)) (now (none .entry))))) r (now (out .entry)) (now (image .entry)) (now (out .exit)) (now (image .exit)) ⌝ }
 {
     let mut names = [65536u32; 1024];
     let mut positions = [0u32; 1025];
@@ -159,6 +171,8 @@ fn judge_read(
         Verdict::Refused(r) => Answer::Refused(r),
         Verdict::Good => anchor_judged(
             asked,
+            marked,
+            lines,
             frames,
             starts,
             count,
@@ -179,6 +193,8 @@ fn judge_read(
 // The contexts are found first: they stay the same to the end.
 fn place_read(
     asked: Settings,
+    marked: bool,
+    lines: &[u32; 1024],
     frames: &[u8],
     starts: &[u16; 1025],
     count: usize,
@@ -190,12 +206,14 @@ fn place_read(
     image: &mut [u8],
 ) -> Answer
     requires { ⌜ Sound (slots (now frames) (now starts) count (now forms) (now carry) (now bare) (now none)) × AsRead (slots (now frames) (now starts) count (now forms) (now carry) (now bare) (now none)) × (length (now forms) ≡ 1024) × (length (now carry) ≡ 1024) ⌝ }
-    ensures { λ r. ⌜ Delivers (judgedRun asked (length (now (out .entry))) (length (now (image .entry))) (programOf (slots (now (frames .entry)) (now (starts .entry)) count (now (forms .entry)) (now (carry .entry)) (now (bare .entry)) (now (none .entry))))) r (now (out .entry)) (now (image .entry)) (now (out .exit)) (now (image .exit)) ⌝ }
+    ensures { λ r. ⌜ Delivers (judgedRun asked (besideIn marked (now (lines .entry)) count) (length (now (out .entry))) (length (now (image .entry))) (programOf (slots (now (frames .entry)) (now (starts .entry)) count (now (forms .entry)) (now (carry .entry)) (now (bare .entry)) (now (none .entry))))) r (now (out .entry)) (now (image .entry)) (now (out .exit)) (now (image .exit)) ⌝ }
 {
     let mut contexts = [0u16; 1024];
     fill_contexts(frames, starts, count, forms, &mut contexts);
     judge_read(
         asked,
+        marked,
+        lines,
         frames,
         starts,
         count,
@@ -212,6 +230,8 @@ fn place_read(
 // The slots of a listing as read: no target is an inner label.
 fn optimize_read(
     asked: Settings,
+    marked: bool,
+    lines: &[u32; 1024],
     frames: &[u8],
     starts: &[u16; 1025],
     count: usize,
@@ -219,7 +239,7 @@ fn optimize_read(
     image: &mut [u8],
 ) -> Answer
     requires { ⌜ Held (now frames) (now starts) count ⌝ }
-    ensures { λ r. ⌜ Delivers (judgedRun asked (length (now (out .entry))) (length (now (image .entry))) (inputOf (now (frames .entry)) (now (starts .entry)) count)) r (now (out .entry)) (now (image .entry)) (now (out .exit)) (now (image .exit)) ⌝ }
+    ensures { λ r. ⌜ Delivers (judgedRun asked (besideIn marked (now (lines .entry)) count) (length (now (out .entry))) (length (now (image .entry))) (inputOf (now (frames .entry)) (now (starts .entry)) count)) r (now (out .entry)) (now (image .entry)) (now (out .exit)) (now (image .exit)) ⌝ }
 {
     let mut forms = [0u8; 1024];
     let mut carry = [0u16; 1024];
@@ -229,6 +249,8 @@ fn optimize_read(
     let none = [0u16; 1024];
     place_read(
         asked,
+        marked,
+        lines,
         frames,
         starts,
         count,
@@ -245,10 +267,12 @@ fn optimize_read(
 pub fn optimize_jumps(asked: Settings, listing: &[u8], out: &mut [u8], image: &mut [u8]) -> Answer
     ensures { λ r. ⌜ Answered asked (now (listing .entry)) (now (out .entry)) (now (image .entry)) r (now (out .exit)) (now (image .exit)) ⌝ }
 {
-    let mut frames = [0u8; 24576];
+    let mut frames = [0u8; 28672];
     let mut starts = [0u16; 1025];
-    match read_listing(listing, &mut frames, &mut starts) {
+    let mut lines = [0u32; 1024];
+    let marked = new_form(listing);
+    match read_listing(listing, &mut frames, &mut starts, &mut lines) {
         Listed::Refused(r) => Answer::Refused(r),
-        Listed::Read(count) => optimize_read(asked, &frames, &starts, count, out, image),
+        Listed::Read(n) => optimize_read(asked, marked, &lines, &frames, &starts, n, out, image),
     }
 }

@@ -67,8 +67,13 @@ fn kind_range(kind: Kind) {
     }
 }
 
+// Where the form number stands in a line: behind the source line, if the listing has them.
+fn form_at(marked: bool) -> usize {
+    if marked { 10 } else { 2 }
+}
+
 // Document 01: "i8 and byte data 0..255, d9 0..511, bit 0..7, 16-bit and word 0..65,535".
-fn tell_range(line: &[u8], argument: usize) {
+fn tell_range(marked: bool, line: &[u8], argument: usize) {
     let kind = byte_at(line, 0);
     if kind == 7 {
         return tell(b"0 to 65,535");
@@ -76,7 +81,7 @@ fn tell_range(line: &[u8], argument: usize) {
     if kind == 6 {
         return tell(b"0 to 255");
     }
-    match operand_kind(byte_at(line, 2), argument) {
+    match operand_kind(byte_at(line, form_at(marked)), argument) {
         Operand::Is(k) => kind_range(k),
         Operand::Nothing => tell(b"0 to 255"),
     }
@@ -103,7 +108,7 @@ fn tell_place(line: &[u8], argument: usize) {
 }
 
 // A line of standard error for 8 to 11, nothing for the others.
-pub fn tell_amount(number: u8, argument: usize, amount: i32, line: &[u8]) {
+pub fn tell_amount(number: u8, argument: usize, amount: i32, marked: bool, line: &[u8]) {
     if number < 8 {
         return;
     }
@@ -116,12 +121,12 @@ pub fn tell_amount(number: u8, argument: usize, amount: i32, line: &[u8]) {
         tell_distance(amount);
     } else {
         tell_number(amount);
-        tell_allowed(number, argument, line);
+        tell_allowed(number, argument, marked, line);
     }
     tell(b"\n");
 }
 
-fn tell_allowed(number: u8, argument: usize, line: &[u8]) {
+fn tell_allowed(number: u8, argument: usize, marked: bool, line: &[u8]) {
     if number == 11 {
         return tell(b", in another page of 4,096 bytes than the address after the instruction");
     }
@@ -129,6 +134,6 @@ fn tell_allowed(number: u8, argument: usize, line: &[u8]) {
     if number == 9 {
         tell(b"0 to 65,535");
     } else {
-        tell_range(line, argument);
+        tell_range(marked, line, argument);
     }
 }

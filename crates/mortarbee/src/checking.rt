@@ -8,13 +8,14 @@ use libc::STDOUT_FILENO;
 use listing::Listed;
 use listing::read_listing;
 
-// A text that is longer than the buffer is refused within it: 49,152 characters and 1,024 line feeds are the most that is accepted.
+// A text that is longer than the buffer is refused within it: 57,344 characters, 1,024 line feeds and the first line are the most that is accepted.
 pub fn check_listing() {
     let mut text = io::large_buffer();
     let n = read_full(STDIN_FILENO, &mut text);
-    let mut frames = [0u8; 24576];
+    let mut frames = [0u8; 28672];
     let mut starts = [0u16; 1025];
-    match read_listing(&text[..n], &mut frames, &mut starts) {
+    let mut lines = [0u32; 1024];
+    match read_listing(&text[..n], &mut frames, &mut starts, &mut lines) {
         Listed::Read(count) => good(count),
         Listed::Refused(r) => refusals::say(r, &text[..n]),
     }

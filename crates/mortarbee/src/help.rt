@@ -93,10 +93,10 @@ fn say(text: &[u8]) {
 fn explain_number(k: u8) {
     match k {
         1 => say(
-            b"1: the line or its frame breaks the form of a listing.\nLook at: upper-case digit pairs; one line feed at the end and no carriage return; the kind, 01 to 08; the form number, 00 to 45; a count, 1 to 16; a pad's multiple, 1 to 256; a register, 0 to 3; a variable's name, below 8000; an expression that is cut short; bytes after the last operand.\nExample: 01FF (there is no form FF)\n",
+            b"1: the line or its frame breaks the form of a listing.\nLook at: upper-case digit pairs; one line feed at the end and no carriage return; the kind, 01 to 08; the form number, 00 to 45; a count, 1 to 16; a pad's multiple, 1 to 256; after a first line 7D02, four bytes of source line behind the kind; a register, 0 to 3; a variable's name, below 8000; an expression that is cut short; bytes after the last operand.\nExample: 01FF (there is no form FF)\n",
         ),
         2 => say(
-            b"2: a limit is passed: 1,024 statements, 120 bytes (240 characters) a frame, 24,576 frame bytes in all, 32 bytes an expression.\nLook at: the length of the line and of its expressions, and how much stands above it. An output may pass the total where variables were targets.\nExample: 04 and 240 more digits (a comment of 121 bytes)\n",
+            b"2: a limit is passed: 1,024 statements, 120 bytes (240 characters) a frame, 24,576 frame bytes in all, after a first line 7D02 124 and 28,672, and 32 bytes an expression.\nLook at: the length of the line and of its expressions, and how much stands above it.\nExample: 04 and 240 more digits (a comment of 121 bytes)\n",
         ),
         3 => say(
             b"3: the name is defined a second time. Labels and variables share the names below 8000; a local name, 8000 and up, is defined once in a context.\nLook at: the first definition, above this one.\nExample: 020001, then 020001 again\n",

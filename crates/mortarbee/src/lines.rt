@@ -21,7 +21,7 @@ fn line_start(text: &[u8], place: usize) -> usize
     i
 }
 
-// The characters before the first line feed, 240 at most.
+// The characters before the first line feed, 248 at most.
 fn line_length(rest: &[u8]) -> usize
     ensures { λ r. ⌜ Counts r (now (rest .entry)) ⌝ }
 {
@@ -30,7 +30,7 @@ fn line_length(rest: &[u8]) -> usize
         if rest[i] == 10 {
             return i;
         }
-        if i == 240 {
+        if i == 248 {
             return i;
         }
         i += 1;
@@ -59,7 +59,7 @@ fn put_character(c: u8) {
     write_all(STDERR_FILENO, &one);
 }
 
-// The characters of the line at a place, 240 at most; none where there is no such line.
+// The characters of the line at a place, 248 at most; none where there is no such line.
 pub fn line_at(text: &[u8], place: usize) -> &[u8] {
     let start = line_start(text, place);
     let rest = &text[start..];

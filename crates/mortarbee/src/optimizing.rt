@@ -8,7 +8,7 @@ use printing::print_run;
 use rules::Answer;
 use rules::Settings;
 
-// A text that is longer than the buffer is refused within it: 49,152 characters and 1,024 line feeds are the most that is accepted.
+// A text that is longer than the buffer is refused within it: 57,344 characters, 1,024 line feeds and the first line are the most that is accepted.
 pub fn optimize(asked: Settings) {
     let mut text = io::large_buffer();
     let n = read_full(STDIN_FILENO, &mut text);

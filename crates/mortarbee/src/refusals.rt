@@ -7,6 +7,7 @@ use io::print_decimal;
 use io::write_all;
 use libc::STDERR_FILENO;
 use libc::STDOUT_FILENO;
+use listing::new_form;
 use output::refused_line;
 use rules::Refusal;
 
@@ -41,6 +42,16 @@ fn tell_line(place: usize) {
     }
 }
 
+// The line of a statement, from 0: the line that marks the new form is no statement.
+fn line_of(place: usize, marked: bool) -> usize {
+    if place < 65536 {
+        if marked {
+            return place + 1;
+        }
+    }
+    place
+}
+
 // For a person, on standard error: the number, the place, the sentence, how far it is off, and the line's text.
 pub fn tell_person(r: Refusal, text: &[u8]) {
     let f = fault_of(r);
@@ -48,12 +59,14 @@ pub fn tell_person(r: Refusal, text: &[u8]) {
     print_decimal(STDERR_FILENO, f.number as u64);
     tell(b", statement ");
     print_decimal(STDERR_FILENO, f.place as u64);
-    tell_line(f.place);
+    let marked = new_form(text);
+    let at = line_of(f.place, marked);
+    tell_line(at);
     tell(b": ");
     sentence(f.number);
     tell(b"\n");
-    let line = line_at(text, f.place);
-    tell_amount(f.number, f.argument, f.amount, line);
+    let line = line_at(text, at);
+    tell_amount(f.number, f.argument, f.amount, marked, line);
     quote(line);
 }
 

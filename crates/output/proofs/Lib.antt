@@ -5,7 +5,3 @@ pub mod Slots
 pub mod Listings
 pub mod Shows
 pub mod Sizes
-pub mod Hexes
-pub mod Readers
-pub mod Fits
-pub mod ReadsBack

@@ -1,6 +1,6 @@
 -- The text of a program is one line a slot, and nothing for one that is gone; so are the places that statements stem from. Assumes nothing.
 use mathlib.Core.Path.{_≡_, refl, sym, ap, _∙_}
-use mathlib.Core.List.{List, [], _∷_, _++_, map}
+use mathlib.Core.List.{List, [], _∷_, _++_, map, append-assoc, append-nil}
 use mathlib.Core.Logic.{⊎-elim}
 use mathlib.Core.Bool.{Bool, true, false, cond}
 use Prim.Native.Nat.{ℕ, zero, suc, _+_, _≤_, _<_}
@@ -12,17 +12,19 @@ use borrow.Author.Tests.{eq-eqb, ne-eqb}
 use Rattle.laws.specs.Counts.{tab}
 use Rattle.laws.specs.Lists.{each}
 use Rattle.laws.proofs.Tests.{eq-or-not}
-use Rattle.laws.proofs.Counts.{rises, length-tab, tab-suc, each-tab}
+use Rattle.laws.proofs.Counts.{rises, length-tab, tab-suc, each-tab, map-tab}
 use Rattle.rules.specs.Programs.{Operand, Stmt, gone, instr, label, variable, comment, org, bytes, words, pad, Program, retarget, isGone}
-use Rattle.rules.specs.Output.{plainTarget, writeBack, compact, stemsFrom, stems, frameOf, lineOf, textOf}
+use Rattle.rules.specs.Listing.{ListingForm}
+use Rattle.rules.specs.Output.{plainTarget, writeBack, stemsFrom, stems, frameIn, lineOf, markOf, textOf}
+use Rattle.rules.proofs.Laws.{linesAt, lines-by-place}
 use Rattle.listing.specs.Tables.{Held}
 use Rattle.slots.specs.Slots.{Slots, goneForm, slotAt, programOf}
 use Rattle.slots.proofs.Slots.{slot-gone}
-use Rattle.output.specs.Lines.{lineIn, listingOf, linesTo}
+use Rattle.output.specs.Lines.{lineIn, lineAt, listingOf, linesTo}
 use Rattle.output.specs.Stems.{keptTo}
 use Rattle.output.proofs.Slots.{kept-kind, kept-form}
 
--- ---- text
+-- ---- text, by place
 
 gone-same : (f : Operand → Operand) (s : Stmt) → isGone (retarget f s) ≡ isGone s
 gone-same f gone = refl
@@ -35,16 +37,13 @@ gone-same f (bytes es) = refl
 gone-same f (words es) = refl
 gone-same f (pad add m) = refl
 
-text-lines : (p q : Program) → textOf (compact (map (λ s. retarget (plainTarget p) s) q)) ≡ each (lineIn p) q
-unfolding textOf compact each lineIn
-text-lines p [] = refl
-text-lines p (s ∷ q) = rw (gone-same (plainTarget p) s) (on (isGone s) (text-lines p q))
-  where
-    on : (b : Bool) → textOf (compact (map (λ z. retarget (plainTarget p) z) q)) ≡ each (lineIn p) q
-        → textOf (cond b (compact (map (λ z. retarget (plainTarget p) z) q)) (retarget (plainTarget p) s ∷ compact (map (λ z. retarget (plainTarget p) z) q)))
-        ≡ cond b [] (lineOf (frameOf (retarget (plainTarget p) s))) ++ each (lineIn p) q
-    on true e = e
-    on false e = ap (λ z. lineOf (frameOf (retarget (plainTarget p) s)) ++ z) e
+-- of two programs one behind the other
+lines-append : (w : ListingForm) (ns : List ℕ) (i : ℕ) (p q : Program) → linesAt w ns i (p ++ q) ≡ linesAt w ns i p ++ linesAt w ns (i + length p) q
+unfolding linesAt
+lines-append w ns i [] q = let z : i + 0 ≡ i = omega arith in rw z
+lines-append w ns i (s ∷ p) q =
+    let z : suc i + length p ≡ i + suc (length p) = omega arith in
+    rw (lines-append w ns (suc i) p q, z, append-assoc)
 
 -- ---- places, of two programs one behind the other
 
@@ -80,25 +79,51 @@ module _ (t : Slots) where
   unfolding programOf
   program-is = refl
 
-  pub lines-all : linesTo t (t .count) ≡ listingOf t
-  unfolding linesTo listingOf writeBack
-  lines-all = ap (each (lineIn (programOf t))) (sym program-is) ∙ sym (text-lines (programOf t) (programOf t))
+  abbrev plain : ℕ → Stmt
+  plain i = retarget (plainTarget (programOf t)) (slotAt t i)
 
-  pub lines-none : linesTo t 0 ≡ []
-  unfolding linesTo each tab
-  lines-none = refl
+  plain-is : writeBack (programOf t) ≡ tab plain (t .count)
+  unfolding writeBack
+  plain-is = ap (map (λ s. retarget (plainTarget (programOf t)) s)) program-is ∙ map-tab (slotAt t) (λ s. retarget (plainTarget (programOf t)) s) (t .count)
 
-  pub lines-more : (n : ℕ) → linesTo t (n + 1) ≡ linesTo t n ++ lineIn (programOf t) (slotAt t n)
-  unfolding linesTo
-  lines-more n = each-tab (lineIn (programOf t)) (slotAt t) n
+  module _ (w : ListingForm) (ns : List ℕ) where
+    one-line : (n : ℕ) → linesAt w ns n (plain n ∷ []) ≡ lineAt w ns t n
+    unfolding linesAt lineIn
+    one-line n = append-nil (cond (isGone (plain n)) [] (lineOf (frameIn w (getD ns n 0) (plain n)))) ∙ rw (gone-same (plainTarget (programOf t)) (slotAt t n))
 
-  pub length-more : (n : ℕ) → length (linesTo t (n + 1)) ≡ length (linesTo t n) + length (lineIn (programOf t) (slotAt t n))
-  length-more n = ap length (lines-more n) ∙ length-append (linesTo t n) (lineIn (programOf t) (slotAt t n))
+    no-lines : linesAt w ns 0 (tab plain 0) ≡ each (lineAt w ns t) (tab (λ i. i) 0)
+    unfolding linesAt tab each
+    no-lines = refl
 
-  pub lines-within : (i : ℕ) → i ≤ t .count → length (linesTo t i) ≤ length (listingOf t)
-  lines-within i l =
-      rw (← lines-all)
-      (rises (λ n. length (linesTo t n)) (λ n. let e : length (linesTo t (suc n)) ≡ length (linesTo t (n + 1)) = ap (λ m. length (linesTo t m)) (sym (add-one n)) in omega (arith, length-more n)) i (t .count) l)
+    slot-lines : (n : ℕ) → linesAt w ns 0 (tab plain n) ≡ each (lineAt w ns t) (tab (λ i. i) n)
+    slot-lines zero = no-lines
+    slot-lines (suc n) =
+        let z : 0 + length (tab plain n) ≡ n = omega (arith, length-tab plain n) in
+        ap (λ m. linesAt w ns 0 (tab plain m)) (sym (add-one n)) ∙ ap (linesAt w ns 0) (tab-suc plain n) ∙ lines-append w ns 0 (tab plain n) (plain n ∷ [])
+        ∙ rw (z, one-line n, slot-lines n) (sym (each-tab (lineAt w ns t) (λ i. i) n)) ∙ ap (λ m. each (lineAt w ns t) (tab (λ i. i) m)) (add-one n)
+
+    pub lines-all : linesTo w ns t (t .count) ≡ listingOf (record { form = w; lines = ns }) t
+    unfolding linesTo listingOf textOf stems
+    lines-all =
+        ap (λ (l : List ℕ). markOf w ++ l)
+        (sym (slot-lines (t .count)) ∙ ap (linesAt w ns 0) (sym plain-is) ∙ sym (lines-by-place w ns 0 (writeBack (programOf t))))
+
+    pub lines-none : linesTo w ns t 0 ≡ markOf w
+    unfolding linesTo each tab
+    lines-none = append-nil (markOf w)
+
+    pub lines-more : (n : ℕ) → linesTo w ns t (n + 1) ≡ linesTo w ns t n ++ lineAt w ns t n
+    unfolding linesTo
+    lines-more n =
+        ap (λ (l : List ℕ). markOf w ++ l) (each-tab (lineAt w ns t) (λ i. i) n) ∙ sym (append-assoc (markOf w) (each (lineAt w ns t) (tab (λ i. i) n)) (lineAt w ns t n))
+
+    pub length-more : (n : ℕ) → length (linesTo w ns t (n + 1)) ≡ length (linesTo w ns t n) + length (lineAt w ns t n)
+    length-more n = ap length (lines-more n) ∙ length-append (linesTo w ns t n) (lineAt w ns t n)
+
+    pub lines-within : (i : ℕ) → i ≤ t .count → length (linesTo w ns t i) ≤ length (listingOf (record { form = w; lines = ns }) t)
+    lines-within i l =
+        rw (← lines-all)
+        (rises (λ n. length (linesTo w ns t n)) (λ n. let e : length (linesTo w ns t (suc n)) ≡ length (linesTo w ns t (n + 1)) = ap (λ m. length (linesTo w ns t m)) (sym (add-one n)) in omega (arith, length-more n)) i (t .count) l)
 
   -- ---- and its places
 

@@ -5,12 +5,15 @@ use Prim.Native.Nat.{ℕ, _+_, _*_, _≤_, _<_}
 use native.Mathlib.Numerals.{add-one}
 use native.Mathlib.Omega.{arith}
 use lib.ListN.{length, getD, set, take, drop, length-append, length-drop, take-append-drop}
-use lib.Seq.{length-take-le, set-split, drop-drop}
+use lib.Seq.{length-take-le, set-split, drop-drop, drop-at, take-append-le, take-take}
 use Rattle.laws.specs.Lists.{each}
 use Rattle.laws.proofs.Lists.{each-more, each-append}
 use Rattle.laws.proofs.Stores.{front-put}
+use Rattle.rules.specs.Expressions.{four}
+use Rattle.rules.specs.Listing.{ListingForm, oldForm, newForm, lineBytes}
 use Rattle.rules.specs.Output.{hexByte, lineOf}
 use Rattle.output.specs.Digits.{hexOf, laid, Put}
+use Rattle.output.specs.Lines.{bytesIn, sourced}
 
 pub length-laid : (d : List ℕ) (a : ℕ) (x : List ℕ) → a + length x ≤ length d → length (laid d a x) ≡ length d
 unfolding laid
@@ -90,3 +93,34 @@ put-line d a x d₁ e d₂ r line p q n is h =
       q ∙ ap (λ z. laid z e (10 ∷ [])) (p .is) ∙ laid-more d (hexOf x) (10 ∷ []) a e (omega (arith, length-hex x, p .ends)) (omega (arith, p .ends)) ∙ ap (laid d a) (sym is),
       omega (arith, p .ends),
     )
+
+-- ---- C-20: a source line
+
+-- y stored over the beginning of what was stored behind it: x and z at b, y up to the end of x
+laid-over : (d x y z : List ℕ) (a b : ℕ) → a ≤ b → b + length x ≡ a + length y → b + length (x ++ z) ≤ length d
+    → laid (laid d b (x ++ z)) a y ≡ laid d a (y ++ z)
+unfolding laid
+laid-over d x y z a b l e h =
+    let n = length-append x z in
+    let front : length (take b d ++ x) ≡ a + length y = omega (arith, length-append (take b d) x, length-take-le b d (omega arith)) in
+    let out : List ℕ = laid d b (x ++ z) in
+    let room : out ≡ (take b d ++ x) ++ (z ++ drop (b + length (x ++ z)) d) =
+    ap (λ (t : List ℕ). take b d ++ t) (append-assoc x z (drop (b + length (x ++ z)) d)) ∙ sym (append-assoc (take b d) x (z ++ drop (b + length (x ++ z)) d)) in
+    let behind : drop (a + length y) out ≡ z ++ drop (b + length (x ++ z)) d = ap (drop (a + length y)) room ∙ drop-at (take b d ++ x) (z ++ drop (b + length (x ++ z)) d) (a + length y) front in
+    let before : take a out ≡ take a d = take-append-le a (take b d) ((x ++ z) ++ drop (b + length (x ++ z)) d) (omega (arith, length-take-le b d (omega arith))) ∙ take-take a b d l in
+    let all : a + length (y ++ z) ≡ b + length (x ++ z) = omega (arith, length-append y z) in
+    rw (before, behind, all, append-assoc y z (drop (b + length (x ++ z)) d))
+
+-- a frame stored behind room for its source line, and that before it
+pub put-source : (w : ListingForm) (d : List ℕ) (a k n : ℕ) (r d₁ : List ℕ) (e : ℕ) → Put d (a + 2 * lineBytes w) (k ∷ r) d₁ e
+    → a + 2 * (length (k ∷ r) + lineBytes w) ≤ length d → Put d a (bytesIn w n (k ∷ r)) (sourced w k n d₁ a) e
+unfolding each
+put-source oldForm d a k n r d₁ e p h = let z : a + 2 * 0 ≡ a = omega arith in record { is = p .is ∙ ap (λ (m : ℕ). laid d m (hexOf (k ∷ r))) z; ends = omega (arith, p .ends) }
+put-source newForm d a k n r d₁ e p h =
+    record {
+      is =
+          ap (λ (l : List ℕ). laid l a (hexOf (k ∷ four n))) (p .is)
+          ∙ laid-over d (hexByte k) (hexOf (k ∷ four n)) (hexOf r) a (a + 8) (omega arith) (omega (arith, length-hex (k ∷ four n))) (omega (arith, length-hex r, length-append (hexByte k) (hexOf r)))
+          ∙ ap (laid d a) (sym (each-append (λ b. hexByte b) (k ∷ four n) r));
+      ends = omega (arith, p .ends);
+    }

@@ -1,8 +1,8 @@
 -- How many bytes the parts of a slot have, and that those of an instruction stand in frames of instructions: `drawn`. Assumes nothing.
 use mathlib.Core.Path.{_≡_, sym, ap, _∙_}
-use mathlib.Core.List.{List, [], _∷_}
+use mathlib.Core.List.{List, [], _∷_, _++_}
 use mathlib.Core.Bool.{true, false}
-use Prim.Native.Nat.{ℕ, _+_, _-_, _*_, _≤_, _<_}
+use Prim.Native.Nat.{ℕ, suc, _+_, _-_, _*_, _≤_, _<_}
 use native.Mathlib.Omega.{arith}
 use lib.ListN.{length, getD, drop, length-drop}
 use lib.Seq.{length-take-le}
@@ -11,6 +11,8 @@ use Rattle.laws.specs.Counts.{tab}
 use Rattle.laws.proofs.Counts.{getD-tab}
 use Rattle.rules.specs.Expressions.{four}
 use Rattle.rules.specs.Forms.{isTransfer}
+use Rattle.rules.specs.Listing.{ListingForm, oldForm, newForm, lineBytes}
+use Rattle.rules.specs.Output.{withLine}
 use Rattle.rules.specs.Layout.{position}
 use Rattle.expression.specs.Sound.{AreBytes}
 use Rattle.listing.specs.Tables.{frameAt, Held}
@@ -18,9 +20,9 @@ use Rattle.rules.specs.Programs.{kindOf}
 use Rattle.slots.specs.Slots.{Slots, noOwner, written, slotAt, programOf, InstrIn, Sound}
 use Rattle.slots.proofs.Slots.{kind-read, written-frame}
 use Rattle.slots.proofs.Tables.{bounds, length-frame, frame-is}
-use Rattle.output.specs.Lines.{lineIn, ownEnd, ownBytes, targetBytes, carriedBytes, bytesAt, InstrAt, Drawn}
+use Rattle.output.specs.Lines.{lineIn, bytesIn, ownEnd, ownBytes, targetBytes, carriedBytes, bytesAt, InstrAt, Drawn}
 use Rattle.output.proofs.Rooms.{length-line}
-use Rattle.output.proofs.Slots.{line-kept}
+use Rattle.output.proofs.Slots.{line-kept, kind-kept-first}
 use Rattle.output.proofs.Targets.{end-within}
 
 -- ---- an instruction's own bytes
@@ -55,15 +57,26 @@ module _ (t : Slots) (positions : List ℕ) (f c : ℕ) where
 
 -- ---- frames and lines
 
-pub frame-most : (frames starts : List ℕ) (n : ℕ) (h : Held frames starts n) (i : ℕ) → i < n → length (frameAt frames starts i) ≤ 24576
+pub frame-most : (frames starts : List ℕ) (n : ℕ) (h : Held frames starts n) (i : ℕ) → i < n → length (frameAt frames starts i) ≤ 28672
 frame-most frames starts n h i l = omega (arith, length-frame frames starts n h i l, bounds frames starts n h i l .within)
 
+-- a source line has four bytes, or none
+pub length-bytes-in : (w : ListingForm) (n k : ℕ) (x r : List ℕ) → x ≡ k ∷ r → length (bytesIn w n x) ≡ length x + lineBytes w
+length-bytes-in oldForm n k x r e = omega arith
+length-bytes-in newForm n k x r e =
+    let a : length x ≡ suc (length r) = ap length e in
+    let b : length (withLine n x) ≡ length (k ∷ (four n ++ r)) = ap (λ (f : List ℕ). length (withLine n f)) e in
+    omega (arith, a, b)
+
 -- a line by its bytes, at any table that holds the positions
-pub line-size : (t : Slots) → Sound t → AreBytes (t .frames) → (i : ℕ) → i < t .count → 1 ≤ kindOf (slotAt t i)
-    → length (lineIn (programOf t) (slotAt t i)) ≡ 2 * length (bytesAt t (tab (position (programOf t)) (t .count)) i) + 1
-line-size t h v i l e =
+pub line-size : (w : ListingForm) (n : ℕ) (t : Slots) → Sound t → AreBytes (t .frames) → (i : ℕ) → i < t .count → 1 ≤ kindOf (slotAt t i)
+    → length (lineIn w n (programOf t) (slotAt t i)) ≡ 2 * (length (bytesAt t (tab (position (programOf t)) (t .count)) i) + lineBytes w) + 1
+line-size w n t h v i l e =
     let positions = tab (position (programOf t)) (t .count) in
-    ap length (line-kept t h v positions (λ w m. getD-tab (position (programOf t)) (t .count) w 0 m) i l e) ∙ length-line (bytesAt t positions i)
+    let are : (u : ℕ) → u < t .count → getD positions u 0 ≡ position (programOf t) u = λ u m. getD-tab (position (programOf t)) (t .count) u 0 m in
+    let k = kind-kept-first t h v positions are i l e in
+    ap length (line-kept t h v positions are i l w n e) ∙ length-line (bytesIn w n (bytesAt t positions i))
+    ∙ ap (λ (m : ℕ). 2 * m + 1) (length-bytes-in w n (kindOf (slotAt t i)) (bytesAt t positions i) (k .0) (k .1))
 
 -- ---- where an instruction's bytes stand
 

@@ -16,7 +16,8 @@ use Rattle.rules.specs.Expressions.{bytesOf}
 use Rattle.rules.specs.Forms.{isTransfer, operandsAt}
 use Rattle.rules.specs.Layout.{position}
 use Rattle.rules.specs.Programs.{Operand, Stmt, gone, instr, label, variable, comment, org, bytes, words, pad, Program, argsOf, lastOf, onLast, retarget, kindOf, isGone}
-use Rattle.rules.specs.Output.{plainTarget, operandBytes, frameOf, lineOf}
+use Rattle.rules.specs.Listing.{ListingForm, oldForm, newForm}
+use Rattle.rules.specs.Output.{plainTarget, operandBytes, frameOf, frameIn, lineOf}
 use Rattle.expression.specs.Sound.{AreBytes}
 use Rattle.expression.proofs.RoundTrip.{bytes-drop}
 use Rattle.listing.specs.Tables.{frameAt, Held}
@@ -25,7 +26,7 @@ use Rattle.slots.proofs.Frames.{Left, InstrFrame, Frame, ofInstr, ofLabel, ofVa
 use Rattle.slots.proofs.Operands.{operands-read}
 use Rattle.slots.proofs.Slots.{slot-instr, slot-data, not-gone, kind-read, kind-kept, written-frame}
 use Rattle.slots.proofs.Tables.{reads-as, frame-is, bytes-frame}
-use Rattle.output.specs.Lines.{lineIn, ownEnd, targetBytes, carriedBytes, ownBytes, bytesAt}
+use Rattle.output.specs.Lines.{lineIn, bytesIn, ownEnd, targetBytes, carriedBytes, ownBytes, bytesAt}
 use Rattle.output.proofs.Frames.{operands-end, frame-back}
 use Rattle.output.proofs.Targets.{last-same, last-twice, plain-last, own-other, target-in}
 
@@ -56,9 +57,27 @@ gone-kind (pad add m) = refl
 pub kept-kind : (s : Stmt) → 1 ≤ kindOf s → isGone s ≡ false
 kept-kind s h = gone-kind s ∙ ne-eqb (kindOf s) 0 (λ e. omega arith)
 
-pub line-gone : (p : Program) (s : Stmt) → kindOf s ≡ 0 → lineIn p s ≡ []
+pub line-gone : (w : ListingForm) (n : ℕ) (p : Program) (s : Stmt) → kindOf s ≡ 0 → lineIn w n p s ≡ []
 unfolding lineIn
-line-gone p s e = rw (gone-kind s, eq-eqb (kindOf s) 0 e)
+line-gone w n p s e = rw (gone-kind s, eq-eqb (kindOf s) 0 e)
+
+-- C-20: a frame with its source line, by the frame's bytes
+frame-in : (w : ListingForm) (n : ℕ) (s : Stmt) → frameIn w n s ≡ bytesIn w n (frameOf s)
+frame-in oldForm n s = refl
+frame-in newForm n s = refl
+
+-- a frame's first byte is its kind
+first-kind : (f : Operand → Operand) (s : Stmt) → 1 ≤ kindOf s → (r : List ℕ) × (frameOf (retarget f s) ≡ kindOf s ∷ r)
+unfolding frameOf
+first-kind f gone h = absurd (omega arith)
+first-kind f (instr g xs c) h = (_, refl)
+first-kind f (label m) h = (_, refl)
+first-kind f (variable m d) h = (_, refl)
+first-kind f (comment x) h = (_, refl)
+first-kind f (org l) h = (_, refl)
+first-kind f (bytes es) h = (_, refl)
+first-kind f (words es) h = (_, refl)
+first-kind f (pad add m) h = (_, refl)
 
 -- a slot whose form is not that of one that is gone is not gone
 kind-least : (i : ℕ) (s : List ℕ) (x : Stmt) → Frame i s x → 1 ≤ kindOf x
@@ -164,6 +183,10 @@ module _ (t : Slots) (h : Sound t) (v : AreBytes (t .frames)) where
       pub frame-kept : 1 ≤ kindOf (slotAt t i) → frameOf (retarget (plainTarget p) (slotAt t i)) ≡ bytesAt t positions i
       frame-kept h = ⊎-elim instr-bytes (λ n. other-bytes (kindOf (slotAt t i) - 2) (omega arith)) (eq-or-not (kindOf (slotAt t i)) 1)
 
-      pub line-kept : 1 ≤ kindOf (slotAt t i) → lineIn p (slotAt t i) ≡ lineOf (bytesAt t positions i)
+      pub line-kept : (w : ListingForm) (n : ℕ) → 1 ≤ kindOf (slotAt t i) → lineIn w n p (slotAt t i) ≡ lineOf (bytesIn w n (bytesAt t positions i))
       unfolding lineIn
-      line-kept h = rw (kept-kind (slotAt t i) h) (ap lineOf (frame-kept h))
+      line-kept w n h =
+          rw (kept-kind (slotAt t i) h) (ap lineOf (frame-in w n (retarget (plainTarget p) (slotAt t i)) ∙ ap (bytesIn w n) (frame-kept h)))
+
+      pub kind-kept-first : 1 ≤ kindOf (slotAt t i) → (r : List ℕ) × (bytesAt t positions i ≡ kindOf (slotAt t i) ∷ r)
+      kind-kept-first h = let f = first-kind (plainTarget p) (slotAt t i) h in (f .0, sym (frame-kept h) ∙ f .1)

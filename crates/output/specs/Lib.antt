@@ -3,4 +3,3 @@ pub mod Digits
 pub mod Lines
 pub mod Stems
 pub mod Showing
-pub mod Writable

@@ -1,7 +1,7 @@
 -- What is written for a slot, as the tables have it: bytes of its own frame, its form, and the target that it carries.
 use mathlib.Core.Path.{_≡_}
 use mathlib.Core.List.{List, [], _∷_, _++_}
-use mathlib.Core.Bool.{true, cond}
+use mathlib.Core.Bool.{Bool, true, cond}
 use Prim.Native.Nat.{ℕ, _+_, _-_, _≤_, _<_}
 use lib.Dec.{eqb, ltb}
 use lib.ListN.{length, getD, take, drop}
@@ -11,28 +11,45 @@ use Rattle.rules.specs.Expressions.{four}
 use Rattle.rules.specs.Forms.{isTransfer, operandsAt}
 use Rattle.rules.specs.Layout.{position}
 use Rattle.rules.specs.Programs.{Placeℕ, Stmt, Program, retarget, kindOf, isGone}
-use Rattle.rules.specs.Output.{plainTarget, writeBack, compact, frameOf, lineOf, textOf}
+use Rattle.rules.specs.Listing.{ListingForm, oldForm, newForm, Beside}
+use Rattle.rules.specs.Output.{plainTarget, writeBack, compact, stems, lineOf, withLine, frameIn, markOf, textOf}
 use Rattle.rules.specs.Statements.{argumentAt}
+use Rattle.listing.specs.Form.{formOf}
 use Rattle.listing.specs.Tables.{frameAt, Held}
+use Rattle.output.specs.Digits.{hexOf, laid}
 use Rattle.slots.specs.Slots.{Slots, slots, noOwner, slotAt, programOf, InstrIn, Sound}
 
 -- ---- the definition, slot by slot
 
--- the line of a statement of p; nothing where it is gone
-unfoldable pub lineIn : (p : Program) → Stmt → List ℕ
-lineIn p s = cond (isGone s) [] (lineOf (frameOf (retarget (plainTarget p) s)))
+-- the line of a statement of p, in a listing of form w and with the source line n; nothing where it is gone
+unfoldable pub lineIn : ListingForm → (n : ℕ) (p : Program) → Stmt → List ℕ
+lineIn w n p s = cond (isGone s) [] (lineOf (frameIn w n (retarget (plainTarget p) s)))
 
--- the line of place i of the program that the tables hold
-abbrev pub lineAt : Slots → (i : Placeℕ) → List ℕ
-lineAt t i = lineIn (programOf t) (slotAt t i)
+-- the line of place i of the program that the tables hold; `lines` has the source lines by place
+abbrev pub lineAt : ListingForm → (lines : List ℕ) → Slots → (i : Placeℕ) → List ℕ
+lineAt w lines t i = lineIn w (getD lines i 0) (programOf t) (slotAt t i)
 
 -- the text of the program that the tables hold
-unfoldable pub listingOf : Slots → List ℕ
-listingOf t = textOf (compact (writeBack (programOf t)))
+unfoldable pub listingOf : Beside → Slots → List ℕ
+listingOf b t = textOf b (stems (writeBack (programOf t))) (compact (writeBack (programOf t)))
 
--- its first n slots
-unfoldable pub linesTo : Slots → (n : ℕ) → List ℕ
-linesTo t n = each (lineIn (programOf t)) (tab (slotAt t) n)
+-- the mark of its form, and its first n slots
+unfoldable pub linesTo : ListingForm → (lines : List ℕ) → Slots → (n : ℕ) → List ℕ
+linesTo w lines t n = markOf w ++ each (lineAt w lines t) (tab (λ i. i) n)
+
+-- what the code has beside the statements
+abbrev pub besideIn : (marked : Bool) (lines : List ℕ) (count : ℕ) → Beside
+besideIn marked lines count = record { form = formOf marked; lines = take count lines }
+
+-- bytes of a frame, with the source line n behind the kind
+abbrev pub bytesIn : ListingForm → (n : ℕ) → List ℕ → List ℕ
+bytesIn oldForm n x = x
+bytesIn newForm n x = withLine n x
+
+-- the room d with a kind and a source line stored at a, in the new form
+abbrev pub sourced : ListingForm → (k n : ℕ) (d : List ℕ) (a : ℕ) → List ℕ
+sourced oldForm k n d a = d
+sourced newForm k n d a = laid d a (hexOf (k ∷ four n))
 
 -- ---- the same by the tables
 
@@ -101,13 +118,13 @@ abbrev pub InstrHas : (frames starts : List ℕ) (count : ℕ) (forms carry owne
 InstrHas frames starts count forms carry owners i n =
     (offsets positions : List ℕ) → n ≡ length (instrBytes (slots frames starts count forms carry owners offsets) positions i)
 
--- the line of place i, and the text, have n characters
-abbrev pub LineHas : (frames starts : List ℕ) (count : ℕ) (forms carry owners : List ℕ) (i : Placeℕ) (n : ℕ) → Type 0
-LineHas frames starts count forms carry owners i n =
-    (offsets : List ℕ) → Sound (slots frames starts count forms carry owners offsets)
-    → n ≡ length (lineAt (slots frames starts count forms carry owners offsets) i)
+-- the line of place i, and the text, have n characters, whatever the source lines are
+abbrev pub LineHas : ListingForm → (frames starts : List ℕ) (count : ℕ) (forms carry owners : List ℕ) (i : Placeℕ) (n : ℕ) → Type 0
+LineHas w frames starts count forms carry owners i n =
+    (lines offsets : List ℕ) → Sound (slots frames starts count forms carry owners offsets)
+    → n ≡ length (lineAt w lines (slots frames starts count forms carry owners offsets) i)
 
-abbrev pub TextHas : (frames starts : List ℕ) (count : ℕ) (forms carry owners : List ℕ) (n : ℕ) → Type 0
-TextHas frames starts count forms carry owners n =
-    (offsets : List ℕ) → Sound (slots frames starts count forms carry owners offsets)
-    → n ≡ length (listingOf (slots frames starts count forms carry owners offsets))
+abbrev pub TextHas : ListingForm → (frames starts : List ℕ) (count : ℕ) (forms carry owners : List ℕ) (n : ℕ) → Type 0
+TextHas w frames starts count forms carry owners n =
+    (lines offsets : List ℕ) → Sound (slots frames starts count forms carry owners offsets)
+    → n ≡ length (listingOf (record { form = w; lines = lines }) (slots frames starts count forms carry owners offsets))

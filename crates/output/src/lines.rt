@@ -1,12 +1,16 @@
 // How long each slot's line is, and the whole text: what the output needs is known before anything is written.
 use instruction::tables::is_transfer;
 use instruction::tables::operand_count;
+use listing::line_bytes;
 use rules::Place;
 use slots::argument_in;
 use slots::frame_at;
 use slots::kind_at;
 ghost use mathlib.Core.Path.{_≡_};
 ghost use Prim.Native.Nat.{_<_, _≤_};
+ghost use lib.ListN.{length};
+ghost use Rattle.rules.specs.Output.{markOf};
+ghost use Rattle.listing.specs.Form.{formOf};
 ghost use Rattle.listing.specs.Tables.{Held};
 ghost use Rattle.slots.specs.Slots.{InstrIn};
 ghost use Rattle.output.specs.Lines.{ownEnd, InstrAt, Drawn, SoundWithout, TargetHas, InstrHas, LineHas, TextHas};
@@ -42,7 +46,7 @@ fn target_length(
     from: Place,
 ) -> usize
     requires { ⌜ Held (now frames) (now starts) count × InstrAt (now frames) (now starts) count (from .0) ⌝ }
-    ensures { λ r. ⌜ (r ≤ 24576) × TargetHas (now (frames .entry)) (now (starts .entry)) (now (owners .entry)) (from .0) r ⌝ }
+    ensures { λ r. ⌜ (r ≤ 28672) × TargetHas (now (frames .entry)) (now (starts .entry)) (now (owners .entry)) (from .0) r ⌝ }
 {
     let c = from.0;
     if owners[c] < NO_OWNER {
@@ -63,7 +67,7 @@ fn instruction_length(
     at: Place,
 ) -> usize
     requires { ⌜ Drawn (now frames) (now starts) count (now forms) (now carry) (at .0) ⌝ }
-    ensures { λ r. ⌜ (r ≤ 49152) × InstrHas (now (frames .entry)) (now (starts .entry)) count (now (forms .entry)) (now (carry .entry)) (now (owners .entry)) (at .0) r ⌝ }
+    ensures { λ r. ⌜ (r ≤ 57344) × InstrHas (now (frames .entry)) (now (starts .entry)) count (now (forms .entry)) (now (carry .entry)) (now (owners .entry)) (at .0) r ⌝ }
 {
     let i = at.0;
     let frame = frame_at(frames, starts, count, at);
@@ -78,6 +82,7 @@ fn instruction_length(
 
 // How many characters the line of a slot has, with its line feed; 0 where the slot is gone.
 pub fn line_length_at(
+    marked: bool,
     frames: &[u8],
     starts: &[u16; 1025],
     count: usize,
@@ -87,21 +92,33 @@ pub fn line_length_at(
     at: Place,
 ) -> usize
     requires { ⌜ SoundWithout (now frames) (now starts) count (now forms) (now carry) (now owners) × (at .0 < count) ⌝ }
-    ensures { λ r. ⌜ (r ≤ 98305) × LineHas (now (frames .entry)) (now (starts .entry)) count (now (forms .entry)) (now (carry .entry)) (now (owners .entry)) (at .0) r ⌝ }
+    ensures { λ r. ⌜ (r ≤ 114697) × LineHas (formOf marked) (now (frames .entry)) (now (starts .entry)) count (now (forms .entry)) (now (carry .entry)) (now (owners .entry)) (at .0) r ⌝ }
 {
     let kind = kind_at(frames, starts, count, forms, at);
     if kind == 0 {
         return 0;
     }
+    let b = line_bytes(marked);
     if kind == 1 {
-        return 2 * instruction_length(frames, starts, count, forms, carry, owners, at) + 1;
+        return 2 * (instruction_length(frames, starts, count, forms, carry, owners, at) + b) + 1;
     }
     let frame = frame_at(frames, starts, count, at);
-    2 * frame.len() + 1
+    2 * (frame.len() + b) + 1
+}
+
+// How many characters the line has that marks the new form.
+pub fn mark_length(marked: bool) -> usize
+    ensures { λ r. ⌜ (r ≡ length (markOf (formOf marked))) × (r ≤ 5) ⌝ }
+{
+    if !marked {
+        return 0;
+    }
+    5
 }
 
 // How many characters the text has.
 pub fn text_length(
+    marked: bool,
     frames: &[u8],
     starts: &[u16; 1025],
     count: usize,
@@ -110,12 +127,21 @@ pub fn text_length(
     owners: &[u16; 1024],
 ) -> usize
     requires { ⌜ SoundWithout (now frames) (now starts) count (now forms) (now carry) (now owners) ⌝ }
-    ensures { λ r. ⌜ TextHas (now (frames .entry)) (now (starts .entry)) count (now (forms .entry)) (now (carry .entry)) (now (owners .entry)) r ⌝ }
+    ensures { λ r. ⌜ TextHas (formOf marked) (now (frames .entry)) (now (starts .entry)) count (now (forms .entry)) (now (carry .entry)) (now (owners .entry)) r ⌝ }
 {
-    let mut n = 0;
+    let mut n = mark_length(marked);
     let mut i = 0;
     while i < count {
-        n += line_length_at(frames, starts, count, forms, carry, owners, Place(i));
+        n += line_length_at(
+            marked,
+            frames,
+            starts,
+            count,
+            forms,
+            carry,
+            owners,
+            Place(i),
+        );
         i += 1;
     }
     n

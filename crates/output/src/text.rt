@@ -6,6 +6,7 @@ use crate::lines::NO_OWNER;
 use crate::lines::own_end;
 use crate::lines::wide;
 use instruction::tables::is_transfer;
+use listing::line_bytes;
 use rules::Place;
 use slots::GONE;
 use slots::frame_at;
@@ -17,25 +18,47 @@ ghost use Prim.Native.Nat.{_+_, _*_, _<_, _≤_};
 ghost use lib.ListN.{length, getD};
 ghost use Rattle.rules.specs.Expressions.{four};
 ghost use Rattle.rules.specs.Forms.{isTransfer};
+ghost use Rattle.rules.specs.Listing.{lineBytes};
+ghost use Rattle.rules.specs.Output.{markOf};
 ghost use Rattle.rules.specs.Run.{front};
+ghost use Rattle.listing.specs.Form.{formOf};
 ghost use Rattle.listing.specs.Tables.{Held};
 ghost use Rattle.slots.specs.Slots.{slots, InstrIn, Sound};
 ghost use Rattle.output.specs.Digits.{hexOf, laid, Put};
-ghost use Rattle.output.specs.Lines.{lineAt, listingOf, ownEnd, ownBytes, targetBytes, instrBytes, bytesAt, InstrAt, Drawn, NumberLow, Positioned};
+ghost use Rattle.output.specs.Lines.{lineAt, listingOf, besideIn, sourced, ownEnd, ownBytes, targetBytes, instrBytes, bytesAt, InstrAt, Drawn, NumberLow, Positioned};
 
-// A plain number: 00 and its four bytes, high byte first.
-fn put_number(out: &mut [u8], at: usize, n: u32)
+// A byte, and the four bytes of a number behind it, high byte first.
+fn put_five(out: &mut [u8], at: usize, first: u8, n: u32)
     requires { ⌜ at + 10 ≤ length (now out) ⌝ }
-    ensures { λ _. ⌜ now (out .exit) ≡ laid (now (out .entry)) at (hexOf (0 ∷ four n)) ⌝ }
+    ensures { λ _. ⌜ now (out .exit) ≡ laid (now (out .entry)) at (hexOf (first ∷ four n)) ⌝ }
 {
     let bytes = [
-        0,
+        first,
         low_byte(n / 16777216),
         low_byte(n / 65536),
         low_byte(n / 256),
         low_byte(n),
     ];
     put_bytes(out, at, &bytes);
+}
+
+// A plain number: 00 and its four bytes.
+fn put_number(out: &mut [u8], at: usize, n: u32)
+    requires { ⌜ at + 10 ≤ length (now out) ⌝ }
+    ensures { λ _. ⌜ now (out .exit) ≡ laid (now (out .entry)) at (hexOf (0 ∷ four n)) ⌝ }
+{
+    put_five(out, at, 0, n);
+}
+
+// C-20: the source line n behind the kind, where the listing has the new form.
+fn put_source(marked: bool, kind: u8, n: u32, out: &mut [u8], at: usize)
+    requires { ⌜ at + (2 + 2 * lineBytes (formOf marked)) ≤ length (now out) ⌝ }
+    ensures { λ _. ⌜ now (out .exit) ≡ sourced (formOf marked) kind n (now (out .entry)) at ⌝ }
+{
+    if !marked {
+        return;
+    }
+    put_five(out, at, kind, n);
 }
 
 fn widen(x: u16) -> u32
@@ -171,8 +194,10 @@ fn end_line(out: &mut [u8], at: usize) -> usize
     at + 1
 }
 
-// The line of a slot; nothing where it is gone.
+// The line of a slot; nothing where it is gone. Its frame is stored behind room for the source line, whose kind byte then covers the frame's own.
 fn put_line(
+    marked: bool,
+    lines: &[u32; 1024],
     frames: &[u8],
     starts: &[u16; 1025],
     count: usize,
@@ -186,14 +211,18 @@ fn put_line(
     at: usize,
 ) -> usize
     requires { ⌜ Sound (slots (now frames) (now starts) count (now forms) (now carry) (now owners) (now offsets)) × Positioned (slots (now frames) (now starts) count (now forms) (now carry) (now owners) (now offsets)) (now positions) × (place .0 < count)
-        × (at + length (lineAt (slots (now frames) (now starts) count (now forms) (now carry) (now owners) (now offsets)) (place .0)) ≤ length (now out)) ⌝ }
-    ensures { λ r. ⌜ (now (out .exit) ≡ laid (now (out .entry)) at (lineAt (slots (now (frames .entry)) (now (starts .entry)) count (now (forms .entry)) (now (carry .entry)) (now (owners .entry)) (now (offsets .entry))) (place .0)))
-        × (r ≡ at + length (lineAt (slots (now (frames .entry)) (now (starts .entry)) count (now (forms .entry)) (now (carry .entry)) (now (owners .entry)) (now (offsets .entry))) (place .0))) ⌝ }
+        × (at + length (lineAt (formOf marked) (now lines)
+        (slots (now frames) (now starts) count (now forms) (now carry) (now owners) (now offsets)) (place .0)) ≤ length (now out)) ⌝ }
+    ensures { λ r. ⌜ (now (out .exit) ≡ laid (now (out .entry)) at (lineAt (formOf marked) (now (lines .entry))
+        (slots (now (frames .entry)) (now (starts .entry)) count (now (forms .entry)) (now (carry .entry)) (now (owners .entry)) (now (offsets .entry))) (place .0)))
+        × (r ≡ at + length (lineAt (formOf marked) (now (lines .entry))
+        (slots (now (frames .entry)) (now (starts .entry)) count (now (forms .entry)) (now (carry .entry)) (now (owners .entry)) (now (offsets .entry))) (place .0))) ⌝ }
 {
     let i = place.0;
     if forms[i] == GONE {
         return at;
     }
+    let b = line_bytes(marked);
     let end = put_statement(
         frames,
         starts,
@@ -205,13 +234,31 @@ fn put_line(
         positions,
         place,
         out,
-        at,
+        at + 2 * b,
     );
+    let kind = kind_at(frames, starts, count, forms, place);
+    put_source(marked, kind, lines[i], out, at);
     end_line(out, end)
+}
+
+// The line that marks the new form.
+fn put_mark(marked: bool, out: &mut [u8]) -> usize
+    requires { ⌜ length (markOf (formOf marked)) ≤ length (now out) ⌝ }
+    ensures { λ r. ⌜ (now (out .exit) ≡ laid (now (out .entry)) 0 (markOf (formOf marked)))
+        × (r ≡ length (markOf (formOf marked))) ⌝ }
+{
+    if !marked {
+        return 0;
+    }
+    let mark = [0x7D, 0x02];
+    put_bytes(out, 0, &mark);
+    end_line(out, 4)
 }
 
 // The text of the program that the tables hold, at the front of the room.
 pub fn write_text(
+    marked: bool,
+    lines: &[u32; 1024],
     frames: &[u8],
     starts: &[u16; 1025],
     count: usize,
@@ -223,13 +270,16 @@ pub fn write_text(
     out: &mut [u8],
 )
     requires { ⌜ Sound (slots (now frames) (now starts) count (now forms) (now carry) (now owners) (now offsets)) × Positioned (slots (now frames) (now starts) count (now forms) (now carry) (now owners) (now offsets)) (now positions)
-        × (length (listingOf (slots (now frames) (now starts) count (now forms) (now carry) (now owners) (now offsets))) ≤ length (now out)) ⌝ }
-    ensures { λ _. ⌜ now (out .exit) ≡ front (listingOf (slots (now (frames .entry)) (now (starts .entry)) count (now (forms .entry)) (now (carry .entry)) (now (owners .entry)) (now (offsets .entry)))) (now (out .entry)) ⌝ }
+        × (length (listingOf (besideIn marked (now lines) count) (slots (now frames) (now starts) count (now forms) (now carry) (now owners) (now offsets))) ≤ length (now out)) ⌝ }
+    ensures { λ _. ⌜ now (out .exit) ≡ front (listingOf (besideIn marked (now (lines .entry)) count) (slots (now (frames .entry)) (now (starts .entry)) count (now (forms .entry)) (now (carry .entry)) (now (owners .entry)) (now (offsets .entry)))) (now (out .entry)) ⌝ }
 {
-    let mut at = 0;
+    let first = put_mark(marked, out);
+    let mut at = first;
     let mut i = 0;
     while i < count {
         let end = put_line(
+            marked,
+            lines,
             frames,
             starts,
             count,

@@ -14,7 +14,7 @@ use Rattle.rules.specs.declared.Answer.the-variants.{Done, Refused}
 use Rattle.rules.specs.declared.Sizes.{Sizes}
 use Rattle.rules.specs.declared.Settings.{Settings}
 use Rattle.rules.specs.declared.Refusal.{Refusal}
-use Rattle.rules.specs.declared.Refusal.the-variants.{Broken, Limit, Again, NoName, Back, Beyond, NoValue, Range, Outside, Far, Page, Room}
+use Rattle.rules.specs.declared.Refusal.the-variants.{Broken, Limit, Again, NoName, Back, Beyond, NoValue, Range, Outside, Far, Page, Room, Pairing, Absent, Column, Start, Unknown, Full, Store}
 use Rattle.rules.specs.Refusals.{faultOf}
 use Rattle.rules.specs.Answers.{Judged, ok, no}
 use Rattle.rules.specs.Programs.{Program}
@@ -48,6 +48,13 @@ module _ (asked : Settings) (text page image page′ image′ : List ℕ) where
   not-twelve (Far i j v) e n = absurd (omega (arith, n))
   not-twelve (Page i j v) e n = absurd (omega (arith, n))
   not-twelve (Room m) e n = never-room asked text m e
+  not-twelve (Pairing k) e n = absurd (omega (arith, n))
+  not-twelve Absent e n = absurd (omega (arith, n))
+  not-twelve (Column i c) e n = absurd (omega (arith, n))
+  not-twelve Start e n = absurd (omega (arith, n))
+  not-twelve Unknown e n = absurd (omega (arith, n))
+  not-twelve Full e n = absurd (omega (arith, n))
+  not-twelve Store e n = absurd (omega (arith, n))
 
   refused-so : (s : Refusal) (j : Judged Output) → Refused s ≡ answerOf j → j ≡ no s
   refused-so s (ok o) e = clash (cc)

@@ -6,14 +6,14 @@ use mathlib.Core.Bool.{Bool, true, false, _&&_, cond}
 use Prim.Native.Nat.{ℕ, zero, suc, _+_, _≤_, _<_}
 use native.Mathlib.Omega.{arith}
 use lib.Dec.{leb, ltb, eqb}
-use lib.ListN.{length, length-map}
+use lib.ListN.{length, length-map, drop}
 use lib.IntN.{ℤ}
 use borrow.Author.Tests.{ltb-true}
 use Rattle.laws.specs.Lists.{isOneOf}
 use Rattle.laws.proofs.Tests.{and-true, clash}
 use Rattle.laws.proofs.Lists.{total-bound}
 use Rattle.rules.specs.declared.Refusal.{Refusal}
-use Rattle.rules.specs.declared.Refusal.the-variants.{Broken, Limit, Again, NoName, Back, Beyond, NoValue, Range, Outside, Far, Page, Room}
+use Rattle.rules.specs.declared.Refusal.the-variants.{Broken, Limit, Again, NoName, Back, Beyond, NoValue, Range, Outside, Far, Page, Room, Pairing, Absent, Column, Start, Unknown, Full, Store}
 use Rattle.rules.specs.declared.Settings.{Settings}
 use Rattle.rules.specs.declared.Kind.{Kind}
 use Rattle.rules.specs.declared.Kind.the-variants.{Reg, I8, D9, Bit, Rel8, A12, A16, Rel16}
@@ -22,7 +22,7 @@ use Rattle.rules.specs.Answers.{atPlace, Judged, ok, no, require}
 use Rattle.rules.specs.Expressions.{Parsed, got, long, broken, readExpr}
 use Rattle.rules.specs.Forms.{operandsAt}
 use Rattle.rules.specs.Programs.{Placeℕ, Operand, register, Stmt, gone, instr, label, variable, comment, org, bytes, words, pad, Program}
-use Rattle.rules.specs.Listing.{taken, Line, linesOf, takeByte, takePair, parsed, takeExpr, takeRegister, takeValue, takeOperand, takeOperands, takeExprs, takeItems, alone, readInstr, readLabel, readVariable, readOrg, readBytes, readWords, readPad, readFrame, unhex, withinLimits, wellFormed, readLines, readListing}
+use Rattle.rules.specs.Listing.{taken, Line, linesOf, takeByte, takePair, parsed, takeExpr, takeRegister, takeValue, takeOperand, takeOperands, takeExprs, takeItems, alone, readInstr, readLabel, readVariable, readOrg, readBytes, readWords, readPad, readFrame, unhex, withinLimits, wellFormed, readLines, readListing, ListingForm, oldForm, newForm, readFrameIn, widest, mostCharacters, formIn, statementLines, besideOf}
 use Rattle.rules.specs.Names.{Entry}
 use Rattle.rules.specs.Rewriting.{instrBytes}
 use Rattle.rules.specs.Run.{outputOf, run}
@@ -174,29 +174,38 @@ module _ (i : Placeℕ) where
 abbrev Early : Refusal → Type 0
 Early r = faultOf r .place ≤ 1024
 
-early : (i sum : ℕ) (l : List ℕ) → withinLimits i sum l ≡ true → i < 1024
+early : (w : ListingForm) (i sum : ℕ) (l : List ℕ) → withinLimits w i sum l ≡ true → i < 1024
 unfolding withinLimits
-early i sum l t = ltb-true i 1024 (and-true (ltb i 1024) (leb (length l) 240 && leb (sum + length l) 49152) t .0)
+early w i sum l t = ltb-true i 1024 (and-true (ltb i 1024) (leb (length l) (widest w) && leb (sum + length l) (mostCharacters w)) t .0)
 
-lines-early : (i sum : ℕ) (ls : List Line) → i ≤ 1024 → Says Any Early (readLines i sum ls)
+-- C-20: in either form
+frame-in-here : (w : ListingForm) (i : Placeℕ) (s : List ℕ) → Says Any (Here i) (readFrameIn w i s)
+frame-in-here oldForm i s = frame-here i s
+frame-in-here newForm i [] = refl
+frame-in-here newForm i (k ∷ s) = says-require Any (Here i) (leb 4 (length s)) (Broken (atPlace i)) _ refl (λ t. frame-here i (k ∷ drop 4 s))
+
+lines-early : (w : ListingForm) (i sum : ℕ) (ls : List Line) → i ≤ 1024 → Says Any Early (readLines w i sum ls)
 unfolding readLines
-lines-early i sum [] h = tt
-lines-early i sum (l ∷ ls) h =
+lines-early w i sum [] h = tt
+lines-early w i sum (l ∷ ls) h =
     let n : ℕ = length (l .chars) in
-    says-bind (λ s. i < 1024) Any Early _ _ first (λ s k. says-bind Any Any Early (readLines (suc i) (sum + n) ls) _ (lines-early (suc i) (sum + n) ls (omega arith)) (λ p u. tt))
+    says-bind (λ s. i < 1024) Any Early _ _ first (λ s k. says-bind Any Any Early (readLines w (suc i) (sum + n) ls) _ (lines-early w (suc i) (sum + n) ls (omega arith)) (λ p u. tt))
   where
     frame : i < 1024 → (x : Judged Stmt) → Says Any (Here i) x → Says (λ s. i < 1024) Early x
     frame k (ok s) u = k
     frame k (no r) u = omega arith
 
-    first : Says (λ s. i < 1024) Early (require (withinLimits i sum (l .chars)) (Limit (atPlace i)) (require (wellFormed l) (Broken (atPlace i)) (readFrame i (unhex (l .chars)))))
+    first : Says (λ s. i < 1024) Early (require (withinLimits w i sum (l .chars)) (Limit (atPlace i)) (require (wellFormed l) (Broken (atPlace i)) (readFrameIn w i (unhex (l .chars)))))
     first =
-        says-require (λ s. i < 1024) Early (withinLimits i sum (l .chars)) (Limit (atPlace i)) _ h (λ t.
-        says-require (λ s. i < 1024) Early (wellFormed l) (Broken (atPlace i)) _ h (λ u. frame (early i sum (l .chars) t) (readFrame i (unhex (l .chars))) (frame-here i (unhex (l .chars)))))
+        says-require (λ s. i < 1024) Early (withinLimits w i sum (l .chars)) (Limit (atPlace i)) _ h (λ t.
+        says-require (λ s. i < 1024) Early (wellFormed l) (Broken (atPlace i)) _ h (λ u. frame (early w i sum (l .chars) t) (readFrameIn w i (unhex (l .chars))) (frame-in-here w i (unhex (l .chars)))))
 
 read-early : (text : List ℕ) (r : Refusal) → readListing text ≡ no r → Early r
 unfolding readListing
-read-early text r e = says-no Any Early (readLines 0 0 (linesOf text)) r (lines-early 0 0 (linesOf text) (omega arith)) e
+read-early text r e =
+    let w : ListingForm = formIn (linesOf text) in
+    let ls : List Line = statementLines (linesOf text) in
+    says-no Any Early (readLines w 0 0 ls) r (lines-early w 0 0 ls (omega arith)) e
 
 -- every refusal of a run
 pub refused-early : (asked : Settings) (text : List ℕ) (listingRoom imageRoom : ℕ) (r : Refusal) → run asked text listingRoom imageRoom ≡ no r → faultOf r .place ≤ 1024
@@ -227,6 +236,13 @@ no-argument xs (Outside i j v) a b c d h = clash (cc)
 no-argument xs (Far i j v) a b c d h = clash (cc)
 no-argument xs (Page i j v) a b c d h = clash (cc)
 no-argument xs (Room n) a b c d h = refl
+no-argument xs (Pairing k) a b c d h = refl
+no-argument xs Absent a b c d h = refl
+no-argument xs (Column i v) a b c d h = refl
+no-argument xs Start a b c d h = refl
+no-argument xs Unknown a b c d h = refl
+no-argument xs Full a b c d h = refl
+no-argument xs Store a b c d h = refl
 
 amount-argument : {n i j : ℕ} {v : ℤ} {r : Refusal} → Amounts n i j v r → faultOf r .argument ≡ j
 amount-argument out-of-range = refl
@@ -274,7 +290,8 @@ instr-small (bytes es) = omega arith
 instr-small (words es) = omega arith
 instr-small (pad add m) = omega arith
 
-pub few-rewrites : (asked : Settings) (text : List ℕ) (p : Program) → readListing text ≡ ok p → outputOf asked p .count ≤ 3072
+pub few-rewrites : (asked : Settings) (text : List ℕ) (p : Program) → readListing text ≡ ok p → outputOf asked (besideOf text) p .count ≤ 3072
+unfolding outputOf
 few-rewrites asked text p e =
     let b = rewrites-bound asked p in
     omega (arith, b .counted, b .bounded, total-bound instrBytes 3 p instr-small, read-limits text p e .0)

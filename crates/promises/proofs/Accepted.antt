@@ -12,7 +12,7 @@ use Rattle.rules.specs.declared.Settings.{Settings}
 use Rattle.rules.specs.declared.Refusal.the-variants.{Room}
 use Rattle.rules.specs.Answers.{ok, _>>=_, _>>_, require}
 use Rattle.rules.specs.Programs.{Program}
-use Rattle.rules.specs.Listing.{readListing}
+use Rattle.rules.specs.Listing.{readListing, besideOf}
 use Rattle.rules.specs.Judging.{judge}
 use Rattle.rules.specs.Run.{Output, outputOf, fits, run}
 use Rattle.rules.proofs.Laws.{then-ok, next-ok, require-ok}
@@ -34,8 +34,8 @@ module _ (asked : Settings) (text : List ℕ) (listingRoom imageRoom : ℕ) (o :
       let read = then-ok (readListing text) _ o e in
       let p : Program = read .0 in
       let judged = next-ok (judge p) _ o (read .2) in
-      let room = require-ok (fits listingRoom imageRoom (outputOf asked p)) (Room (length p)) (ok (outputOf asked p)) o (judged .2) in
-      let same : o ≡ outputOf asked p = cc in
+      let room = require-ok (fits listingRoom imageRoom (outputOf asked (besideOf text) p)) (Room (length p)) (ok (outputOf asked (besideOf text) p)) o (judged .2) in
+      let same : o ≡ outputOf asked (besideOf text) p = cc in
       let both = fits-both .0 (ap (fits listingRoom imageRoom) same ∙ room .0) in
       record {
         program = p;

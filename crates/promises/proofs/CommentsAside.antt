@@ -1,16 +1,16 @@
 -- "Image, count and demands are as before in either mode, shown once for both."
 use mathlib.Core.Path.{_≡_, refl, sym, _∙_, ap}
-use mathlib.Core.List.{List, [], _∷_}
+use mathlib.Core.List.{[], _∷_}
 use mathlib.Core.Option.{Option, none, some}
-use mathlib.Core.Bool.{Bool, true, false, _&&_, not, cond}
+use mathlib.Core.Bool.{Bool, true, false, _&&_, cond}
 use Prim.Native.Nat.{ℕ, zero, suc}
 use Rattle.laws.specs.Lists.{total}
-use Rattle.rules.specs.Answers.{Judged, ok}
-use Rattle.rules.specs.Programs.{Stmt, gone, instr, label, variable, comment, org, bytes, words, Program, hasKind, isGone}
+use Rattle.rules.specs.Answers.{ok}
+use Rattle.rules.specs.Programs.{Stmt, gone, Program, hasKind, isGone}
 use Rattle.rules.specs.Judging.{judge}
 use Rattle.rules.specs.Rewriting.{Chain, more, anchor, instrBytes, shorter, shrinkAt, step, chain, optimized}
 use Rattle.rules.specs.Output.{writeBack, spoken, shown, compact}
-use Rattle.rules.specs.Run.{outputOf}
+use Rattle.rules.specs.Run.{rewritten}
 use Rattle.promises.specs.Demand2.{Input, outputProgram, askedFor, CommentsAside}
 use Rattle.promises.proofs.Chains.{chain-stop, chain-more}
 use Rattle.promises.proofs.ImageOfOutput.{image-of-output}
@@ -62,7 +62,7 @@ module _ (callf folds : Bool) where
 
   -- comments-aside: asked for or not, comments are all that differs
   pub comments-aside : (p : Program) → Input p → CommentsAside callf folds p
-  unfolding outputOf outputProgram
+  unfolding rewritten outputProgram
   comments-aside p h =
       let end = end-aside p in
       let without = image-of-output (askedFor false callf folds) p h in

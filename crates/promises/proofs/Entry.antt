@@ -10,19 +10,21 @@ use Rattle.rules.specs.declared.Answer.{Answer}
 use Rattle.rules.specs.declared.Answer.the-variants.{Done, Refused}
 use Rattle.rules.specs.declared.Sizes.{Sizes}
 use Rattle.rules.specs.declared.Refusal.{Refusal}
-use Rattle.rules.specs.declared.Refusal.the-variants.{Broken, Limit, Again, NoName, Back, Beyond, NoValue, Range, Outside, Far, Page, Room}
-use Rattle.rules.specs.Answers.{ok, no}
-use Rattle.rules.specs.Programs.{Placeℕ, Program}
-use Rattle.rules.specs.Listing.{readListing}
+use Rattle.rules.specs.Answers.{ok}
+use Rattle.rules.specs.Programs.{Placeℕ, Program, Stmt, gone, at}
+use Rattle.rules.specs.Listing.{readListing, ListingForm, lineBytes, besideOf}
 use Rattle.rules.specs.Judging.{judge}
-use Rattle.rules.specs.Run.{Output, outputOf, run, answerOf}
-use Rattle.promises.specs.Demand1.{hasNumber, Cause}
-use Rattle.promises.specs.Demand2.{Accepted, Answered, Input, own, ownFrom, outputProgram, Filled}
+use Rattle.rules.specs.Run.{Output, outputOf, run, answerOf, rewritten}
+use Rattle.promises.specs.Demand1.{Cause}
+use Rattle.promises.specs.Demand2.{Accepted, Answered, Input, own, ownFrom, outputProgram, Filled, WithinTotal}
 use Rattle.promises.specs.Demand3.{TargetKept}
-use Rattle.promises.specs.Entry.{TargetWritten, Promised, BeyondKept, OnAcceptance, twelve, OnRefusal}
+use Rattle.promises.specs.Entry.{TargetWritten, Promised, BeyondKept, OnAcceptance, OnRefusal}
+use Rattle.rules.specs.Output.{frameOf}
+use Rattle.rules.proofs.Laws.{by-change}
+use Rattle.promises.proofs.General.{total-alike}
 use Rattle.promises.proofs.Accepted.{accepted-iff}
 use Rattle.promises.proofs.OneResult.{refusal-changes-nothing, refused-by, acceptance-delivers}
-use Rattle.promises.proofs.RefusedOnce.{refused-once, one-refusal}
+use Rattle.promises.proofs.RefusedOnce.{refused-once, one-refusal, one-of-twelve}
 use Rattle.promises.proofs.FirstFault.{first-fault}
 use Rattle.promises.proofs.Positions.{origin-same}
 use Rattle.promises.proofs.Demand3.{demand-3-of}
@@ -39,9 +41,22 @@ target-written asked p i s o k =
       names-byte = origin-same (outputProgram asked p) (ownFrom 0 (outputProgram asked p)) (own-same (outputProgram asked p)) _ ∙ k .names-byte;
     }
 
+-- nor does it change a frame
+own-total : (w : ListingForm) (q : Program) → WithinTotal w (ownFrom 0 q) → WithinTotal w q
+own-total w q l =
+    omega (
+      arith,
+      l,
+      total-alike (λ s. length (frameOf s) + lineBytes w) (λ s. length (frameOf s) + lineBytes w) (ownFrom 0 q) q gone gone (length-own 0 q)
+          (λ i h. ap (λ (s : Stmt). length (frameOf s) + lineBytes w) (at-own 0 q i) ∙ ap (λ (n : ℕ). n + lineBytes w) (own-frame (0 + i) (at q i))),
+    )
+  where
+    own-frame : (i : Placeℕ) (s : Stmt) → length (frameOf (own i s)) ≡ length (frameOf s)
+    own-frame i = by-change (λ s t. length (frameOf t) ≡ length (frameOf s)) _ (λ f xs c. unfold frameOf in refl) (λ s n. refl)
+
 -- of a text that reads and assembles, and of its output
 of-output : (asked : Settings) (text : List ℕ) (p : Program) (image : List ℕ) → readListing text ≡ ok p → judge p ≡ ok image
-    → Promised asked text (outputOf asked p .listing) (outputOf asked p .image) (outputOf asked p .count)
+    → Promised asked text (outputOf asked (besideOf text) p .listing) (rewritten asked p .image) (rewritten asked p .count)
 of-output asked text p image r j =
     let h : Input p = record { text = text; reads = r; image = image; assembles = j } in
     let d = demand-3-of asked p h in
@@ -54,7 +69,7 @@ of-output asked text p image r j =
       as-defined = record { listing = refl; image = refl; count = d .bounded .counted };
       again = ownFrom 0 (outputProgram asked p);
       again-is = refl;
-      read-again = record { reads = λ l. b .reads (omega (arith, l, length-own 0 (outputProgram asked p))); assembles = b .assembles };
+      read-again = record { reads = λ l. b .reads (own-total (besideOf text .form) (outputProgram asked p) l); form = b .form; lines = b .lines; assembles = b .assembles };
       no-constants = λ e. b .reads (keeps-total asked p h e);
       demand-3 = d;
       targets-written = λ i s o t. target-written asked p i s o (d .targets-kept i s o t);
@@ -63,6 +78,7 @@ of-output asked text p image r j =
 
 -- promised: the three demands of an accepted text
 pub promised : (asked : Settings) (text : List ℕ) (listingRoom imageRoom : ℕ) (o : Output) → run asked text listingRoom imageRoom ≡ ok o → Promised asked text (o .listing) (o .image) (o .count)
+unfolding outputOf
 promised asked text listingRoom imageRoom o e =
     let a = accepted-iff asked text listingRoom imageRoom o .0 e in
     subst (λ (x : Output). Promised asked text (x .listing) (x .image) (x .count)) (sym (a .result)) (of-output asked text (a .program) (a .image) (a .keeps-rules) (a .assembles))
@@ -106,25 +122,11 @@ module _ (asked : Settings) (text listing image : List ℕ) where
       record {
         listing-kept = same .0;
         image-kept = same .1;
-        numbered = one-of-twelve r;
+        numbered = one-of-twelve asked text (length listing) (length image) r c;
         cause = c;
         first = first-fault asked text (length listing) (length image) r e;
         only = λ s d. one-refusal asked text (length listing) (length image) s r d c;
       }
-    where
-      one-of-twelve : (r : Refusal) → hasNumber twelve r ≡ true
-      one-of-twelve (Broken i) = refl
-      one-of-twelve (Limit i) = refl
-      one-of-twelve (Again i) = refl
-      one-of-twelve (NoName i) = refl
-      one-of-twelve (Back i) = refl
-      one-of-twelve (Beyond i) = refl
-      one-of-twelve (NoValue i) = refl
-      one-of-twelve (Range i j v) = refl
-      one-of-twelve (Outside i j v) = refl
-      one-of-twelve (Far i j v) = refl
-      one-of-twelve (Page i j v) = refl
-      one-of-twelve (Room n) = refl
 
   -- refuses: what has a cause is answered so
   pub refuses : (r : Refusal) (answer : Answer) (listing′ image′ : List ℕ) → Answered asked text listing image answer listing′ image′

@@ -13,7 +13,7 @@ use Rattle.rules.specs.declared.Refusal.the-variants.{Broken, Limit, Again}
 use Rattle.rules.specs.Refusals.{faultOf}
 use Rattle.rules.specs.Answers.{atPlace, Judged, ok, no, Check, _>>=_, _>>_, checkEach, require, orD}
 use Rattle.rules.specs.Programs.{Placeℕ, Stmt, gone, Program, at, asName}
-use Rattle.rules.specs.Listing.{Line, linesOf, unhex, readFrame, withinLimits, wellFormed, readLines, readListing}
+use Rattle.rules.specs.Listing.{Line, linesOf, unhex, withinLimits, wellFormed, readLines, readListing, ListingForm, formIn, statementLines, readFrameIn}
 use Rattle.rules.specs.Names.{Key, Entry, Placed, placed, contextAt}
 use Rattle.rules.specs.Layout.{position}
 use Rattle.rules.specs.Judging.{keysIn, areNew, noNameTwice, settles, positionsFit, define, defineAll, encode, encodeAll}
@@ -156,39 +156,41 @@ module _ (p : Program) (r : Refusal) where
       (λ j l. ap (encodeBy names p) (placed-at p j nowhere l)) (encode-first names p (placed p) r e)
 
 -- ---- lines
-readLine : (i sum : ℕ) → Line → Judged Stmt
-readLine i sum l = require (withinLimits i sum (l .chars)) (Limit (atPlace i)) (require (wellFormed l) (Broken (atPlace i)) (readFrame i (unhex (l .chars))))
+readLine : (w : ListingForm) (i sum : ℕ) → Line → Judged Stmt
+readLine w i sum l = require (withinLimits w i sum (l .chars)) (Limit (atPlace i)) (require (wellFormed l) (Broken (atPlace i)) (readFrameIn w i (unhex (l .chars))))
 
-lines-first : (i sum : ℕ) (ls : List Line) (r : Refusal) → readLines i sum ls ≡ no r
-    → FirstRefused (length ls) (λ j. readLine (i + j) (sum + charactersIn (take j ls)) (lineIn ls j)) r
+lines-first : (w : ListingForm) (i sum : ℕ) (ls : List Line) (r : Refusal) → readLines w i sum ls ≡ no r
+    → FirstRefused (length ls) (λ j. readLine w (i + j) (sum + charactersIn (take j ls)) (lineIn ls j)) r
 unfolding readLines readLine total
-lines-first i sum [] r e = clash (cc)
-lines-first i sum (l ∷ ls) r e =
-    bind-no (readLine i sum l) _ r (λ h. first-here (length ls) check r (here ∙ h))
+lines-first w i sum [] r e = clash (cc)
+lines-first w i sum (l ∷ ls) r e =
+    bind-no (readLine w i sum l) _ r (λ h. first-here (length ls) check r (here ∙ h))
     (λ s h k. first-later (length ls) check r s (here ∙ h)
-    (bind-no (readLines (suc i) (sum + length (l .chars)) ls) _ r
-    (λ m. first-same (length ls) (length ls) (λ j. readLine (suc i + j) (sum + length (l .chars) + charactersIn (take j ls)) (lineIn ls j)) (λ j. check (suc j)) r refl shifted
-    (lines-first (suc i) (sum + length (l .chars)) ls r m))
+    (bind-no (readLines w (suc i) (sum + length (l .chars)) ls) _ r
+    (λ m. first-same (length ls) (length ls) (λ j. readLine w (suc i + j) (sum + length (l .chars) + charactersIn (take j ls)) (lineIn ls j)) (λ j. check (suc j)) r refl shifted
+    (lines-first w (suc i) (sum + length (l .chars)) ls r m))
     (λ p m n. clash (cc)) k)) e
   where
     check : Placeℕ → Judged Stmt
-    check j = readLine (i + j) (sum + charactersIn (take j (l ∷ ls))) (lineIn (l ∷ ls) j)
+    check j = readLine w (i + j) (sum + charactersIn (take j (l ∷ ls))) (lineIn (l ∷ ls) j)
 
-    here : check 0 ≡ readLine i sum l
+    here : check 0 ≡ readLine w i sum l
     here = let y : i + 0 ≡ i = omega arith in let z : sum + 0 ≡ sum = omega arith in rw (y, z)
 
-    shifted : (j : Placeℕ) → j < length ls → readLine (suc i + j) (sum + length (l .chars) + charactersIn (take j ls)) (lineIn ls j) ≡ check (suc j)
+    shifted : (j : Placeℕ) → j < length ls → readLine w (suc i + j) (sum + length (l .chars) + charactersIn (take j ls)) (lineIn ls j) ≡ check (suc j)
     shifted j m =
         let y : suc i + j ≡ i + suc j = omega arith in
         let z : sum + length (l .chars) + charactersIn (take j ls) ≡ sum + (length (l .chars) + charactersIn (take j ls)) = omega arith in
         rw (y, z)
 
-line-first : (text : List ℕ) (r : Refusal) → readListing text ≡ no r → FirstRefused (length (linesOf text)) (lineAt (linesOf text)) r
+line-first : (text : List ℕ) (r : Refusal) → readListing text ≡ no r
+    → FirstRefused (length (statementLines (linesOf text))) (lineAt (formIn (linesOf text)) (statementLines (linesOf text))) r
 unfolding readListing readLine
 line-first text r e =
-    let ls : List Line = linesOf text in
-    first-same (length ls) (length ls) (λ j. readLine (0 + j) (0 + charactersIn (take j ls)) (lineIn ls j)) (lineAt ls) r refl
-    (λ j l. let y : 0 + j ≡ j = omega arith in let z : 0 + charactersIn (take j ls) ≡ charactersIn (take j ls) = omega arith in rw (y, z)) (lines-first 0 0 ls r e)
+    let w : ListingForm = formIn (linesOf text) in
+    let ls : List Line = statementLines (linesOf text) in
+    first-same (length ls) (length ls) (λ j. readLine w (0 + j) (0 + charactersIn (take j ls)) (lineIn ls j)) (lineAt w ls) r refl
+    (λ j l. let y : 0 + j ≡ j = omega arith in let z : 0 + charactersIn (take j ls) ≡ charactersIn (take j ls) = omega arith in rw (y, z)) (lines-first w 0 0 ls r e)
 
 -- ---- each check refuses with the place that it is asked of
 
@@ -221,7 +223,7 @@ pub first-fault : (asked : Settings) (text : List ℕ) (listingRoom imageRoom : 
 first-fault asked text listingRoom imageRoom r e = on (refused-once asked text listingRoom imageRoom r .0 e)
   where
     on : Cause asked text listingRoom imageRoom r → FirstFault text r
-    on (reading d x) = line (at-fault _ _ r (λ i. line-names i (charactersIn (take i (linesOf text))) (lineIn (linesOf text) i) r) (line-first text r d))
+    on (reading d x) = line (at-fault _ _ r (λ i. line-names (formIn (linesOf text)) i (charactersIn (take i (statementLines (linesOf text)))) (lineIn (statementLines (linesOf text)) i) r) (line-first text r d))
     on (naming p d a x) = named p d (at-fault _ _ r (λ i. name-names r i p) (named-first p r a))
     on (laying p d a b x) = laid p d (at-fault _ _ r (λ i. settle-names r i p) (laid-first p r b))
     on (defining p d a b c x) = defined p d (at-fault _ _ r (λ i. define-names r i p) (defined-first p r c))

@@ -6,7 +6,7 @@ use mathlib.Core.Bool.{Bool, true, false, _&&_, cond}
 use Prim.Native.Nat.{ℕ, zero, suc, _+_, _≤_, _<_}
 use native.Mathlib.Omega.{arith}
 use lib.Dec.{leb, ltb, eqb}
-use lib.ListN.{length, length-drop, length-append}
+use lib.ListN.{length, length-drop, length-append, drop}
 use borrow.Author.Tests.{eq-eqb, leb-true, ltb-true}
 use Rattle.laws.specs.Lists.{every, each}
 use Rattle.laws.proofs.Tests.{and-both, and-true}
@@ -19,7 +19,7 @@ use Rattle.rules.specs.Answers.{atPlace, Judged, ok, no, _>>=_}
 use Rattle.rules.specs.Expressions.{Expr, Parsed, got, long, broken, readExpr, bytesOf}
 use Rattle.rules.specs.Forms.{operandsAt}
 use Rattle.rules.specs.Programs.{Placeℕ, Operand, register, Stmt, instr, label, variable, comment, org, bytes, words, onInstr, pad}
-use Rattle.rules.specs.Listing.{Taken, taken, takeByte, takePair, parsed, takeExpr, takeRegister, takeValue, takeOperand, takeOperands, takeExprs, takeItems, alone, readInstr, readLabel, readVariable, readOrg, readBytes, readWords, readFrame, readPad}
+use Rattle.rules.specs.Listing.{Taken, taken, takeByte, takePair, parsed, takeExpr, takeRegister, takeValue, takeOperand, takeOperands, takeExprs, takeItems, alone, readInstr, readLabel, readVariable, readOrg, readBytes, readWords, readFrame, readPad, ListingForm, oldForm, newForm, lineBytes, readFrameIn}
 use Rattle.rules.specs.Rewriting.{ofInner}
 use Rattle.rules.specs.Output.{operandBytes, frameOf}
 use Rattle.promises.specs.Demand1.{hasNumber}
@@ -265,3 +265,28 @@ frame-read i (k ∷ s) = whole (readFrame i (k ∷ s)) (kind-framed i s k)
     whole : (x : Judged Stmt) → Says (Framed i (suc (length s)) (Bytes s)) (OfReading i) x → Says (Framed i (suc (length s)) (Bytes (k ∷ s))) (OfReading i) x
     whole (ok y) h = record { made = h .made; as-long = h .as-long; sound = λ b. h .sound (λ j. b (suc j)) }
     whole (no r) h = h
+
+-- ---- C-20: of either form: the source line takes its bytes, and the rest is a frame of the old form
+pub record FramedIn (w : ListingForm) (i : Placeℕ) (s : List ℕ) (x : Stmt) : Type 0 where
+  pub made : madeAt i x ≡ true
+  pub as-long : length (frameOf x) + lineBytes w ≡ length s
+  pub sound : Bytes s → SoundStmt x
+
+pub frame-read-in : (w : ListingForm) (i : Placeℕ) (s : List ℕ) → Says (FramedIn w i s) (OfReading i) (readFrameIn w i s)
+frame-read-in oldForm i s = on (readFrame i s) (frame-read i s)
+  where
+    on : (x : Judged Stmt) → Says (Framed i (length s) (Bytes s)) (OfReading i) x → Says (FramedIn oldForm i s) (OfReading i) x
+    on (ok y) h = record { made = h .made; as-long = omega (arith, h .as-long); sound = h .sound }
+    on (no r) h = h
+frame-read-in newForm i [] = (refl, refl)
+frame-read-in newForm i (k ∷ s) =
+    says-require (FramedIn newForm i (k ∷ s)) (OfReading i) (leb 4 (length s)) (Broken (atPlace i)) (readFrame i (k ∷ drop 4 s)) (refl, refl)
+    (λ t. on (leb-true 4 (length s) t) (readFrame i (k ∷ drop 4 s)) (frame-read i (k ∷ drop 4 s)))
+  where
+    kept : Bytes (k ∷ s) → Bytes (k ∷ drop 4 s)
+    kept b zero = b 0
+    kept b (suc j) = bytes-drop 4 s (λ n. b (suc n)) j
+
+    on : 4 ≤ length s → (x : Judged Stmt) → Says (Framed i (suc (length (drop 4 s))) (Bytes (k ∷ drop 4 s))) (OfReading i) x → Says (FramedIn newForm i (k ∷ s)) (OfReading i) x
+    on l (ok y) h = record { made = h .made; as-long = omega (arith, h .as-long, length-drop 4 s); sound = λ b. h .sound (kept b) }
+    on l (no r) h = h

@@ -1,12 +1,14 @@
 -- General laws of lists that crate laws lacks.
-use mathlib.Core.Path.{_≡_, refl, ap}
-use mathlib.Core.Bool.{Bool, true, false}
+use mathlib.Core.Path.{_≡_, refl, sym, ap}
+use mathlib.Core.Bool.{Bool, true, false, _&&_, _||_}
 use mathlib.Core.List.{List, [], _∷_}
 use Prim.Native.Nat.{ℕ, zero, suc, _≤_, _<_}
 use native.Mathlib.Omega.{arith}
+use lib.Dec.{eqb}
 use lib.ListN.{length, getD, set}
-use Rattle.laws.specs.Lists.{total}
-use Rattle.laws.proofs.Tests.{false-true}
+use borrow.Author.Tests.{eqb-true}
+use Rattle.laws.specs.Lists.{total, isOneOf}
+use Rattle.laws.proofs.Tests.{clash, false-true, and-true}
 
 -- two sums over lists of one length, compared place by place
 module _ {X Y : Type 0} (v : X → ℕ) (w : Y → ℕ) where
@@ -53,3 +55,16 @@ sameTests-true (true ∷ l) (true ∷ m) e = ap (λ (t : List Bool). true ∷ t)
 sameTests-true (true ∷ l) (false ∷ m) e = false-true e
 sameTests-true (false ∷ l) (true ∷ m) e = false-true e
 sameTests-true (false ∷ l) (false ∷ m) e = ap (λ (t : List Bool). false ∷ t) (sameTests-true l m e)
+
+-- what is one of these, is one of those that hold them all
+abbrev pub allAmong : List ℕ → List ℕ → Bool
+allAmong ys [] = true
+allAmong ys (x ∷ xs) = isOneOf ys x && allAmong ys xs
+
+pub among : (n : ℕ) (xs ys : List ℕ) → allAmong ys xs ≡ true → isOneOf xs n ≡ true → isOneOf ys n ≡ true
+among n [] ys a h = clash (cc h)
+among n (x ∷ xs) ys a h = let b = and-true (isOneOf ys x) (allAmong ys xs) a in on (eqb x n) refl (b .0) (among n xs ys (b .1)) h
+  where
+    on : (t : Bool) → eqb x n ≡ t → isOneOf ys x ≡ true → (isOneOf xs n ≡ true → isOneOf ys n ≡ true) → t || isOneOf xs n ≡ true → isOneOf ys n ≡ true
+    on true e b more h = rw (sym (eqb-true x n e)) b
+    on false e b more h = more h

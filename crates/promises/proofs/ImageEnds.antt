@@ -17,7 +17,6 @@ use Rattle.rules.specs.Layout.{after, behind, layIn, lay}
 use Rattle.rules.specs.Names.{enter, Entry, placedFrom, placed}
 use Rattle.rules.specs.Judging.{positionsFit, settlesIn, encode, encodeAll, judge}
 use Rattle.rules.specs.Rewriting.{anchor, instrBytes, optimized}
-use Rattle.rules.specs.Run.{outputOf}
 use Rattle.rules.proofs.Laws.{then-ok, require-ok}
 use Rattle.promises.specs.Demand2.{Input}
 use Rattle.promises.specs.Pads.{NeverGrows}

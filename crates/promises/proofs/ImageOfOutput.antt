@@ -9,7 +9,7 @@ use Rattle.rules.specs.Programs.{Program}
 use Rattle.rules.specs.Judging.{judge}
 use Rattle.rules.specs.Rewriting.{optimized}
 use Rattle.rules.specs.Output.{writeBack, shown}
-use Rattle.rules.specs.Run.{outputOf}
+use Rattle.rules.specs.Run.{rewritten}
 use Rattle.promises.specs.Demand2.{Input, outputProgram, ImageOfOutput}
 use Rattle.promises.proofs.Shows.{judge-shown, shown-plain}
 use Rattle.promises.proofs.Acceptable.{acceptable-parts, end-acceptable}
@@ -26,7 +26,7 @@ end-assembles asked p h =
 
 -- image-of-output: the end form, the output's statements and what is handed out have one image
 pub image-of-output : (asked : Settings) (p : Program) → Input p → ImageOfOutput asked p
-unfolding outputOf outputProgram orD
+unfolding rewritten outputProgram orD
 image-of-output asked p h =
     let w = read-made (h .text) p (h .reads) in
     let end : Program = optimized asked p .program in

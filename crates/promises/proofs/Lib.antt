@@ -54,5 +54,6 @@ pub mod SoundEnd
 pub mod FramesBack
 pub mod TextBack
 pub mod ReadsBack
+pub mod LinesAside
 -- ---- all of it, down to the entry
 pub mod Entry

@@ -9,13 +9,16 @@ use Rattle.laws.proofs.Tests.{clash}
 use Rattle.rules.specs.declared.Settings.{Settings}
 use Rattle.rules.specs.declared.Refusal.{Refusal}
 use Rattle.rules.specs.declared.Refusal.the-variants.{Room}
+use Rattle.rules.specs.Refusals.{faultOf}
 use Rattle.rules.specs.Answers.{Judged, ok, no, Check, _>>=_, _>>_, require}
 use Rattle.rules.specs.Programs.{Program}
-use Rattle.rules.specs.Listing.{readListing}
+use Rattle.rules.specs.Listing.{readListing, besideOf}
 use Rattle.rules.specs.Names.{Entry, placed}
 use Rattle.rules.specs.Judging.{noNameTwice, positionsFit, defineAll, encodeAll, judge}
 use Rattle.rules.specs.Run.{outputOf, fits, run}
-use Rattle.promises.specs.Demand1.{Blames, Cause, reading, naming, laying, defining, encoding, room}
+use Rattle.promises.specs.Demand1.{Blames, hasNumber, Cause, reading, naming, laying, defining, encoding, room}
+use Rattle.promises.specs.Entry.{twelve}
+use Rattle.promises.proofs.General.{among}
 use Rattle.promises.proofs.Says.{says-no, Nothing-more}
 use Rattle.promises.proofs.Listings.{read-refuses}
 use Rattle.promises.proofs.Numbers.{naming-says, laying-says, defining-says, encoding-says}
@@ -55,21 +58,21 @@ module _ (asked : Settings) (text : List ℕ) (listingRoom imageRoom : ℕ) (r :
   unfolding judge
   of-judging e = of-naming (noNameTwice [] (placed p)) refl e
 
-  of-room : (image : List ℕ) → judge p ≡ ok image → (b : Bool) → fits listingRoom imageRoom (outputOf asked p) ≡ b
-      → require b (Room (length p)) (ok (outputOf asked p)) ≡ no r → Cause asked text listingRoom imageRoom r
+  of-room : (image : List ℕ) → judge p ≡ ok image → (b : Bool) → fits listingRoom imageRoom (outputOf asked (besideOf text) p) ≡ b
+      → require b (Room (length p)) (ok (outputOf asked (besideOf text) p)) ≡ no r → Cause asked text listingRoom imageRoom r
   unfolding require
   of-room image j true f e = clash (cc)
   of-room image j false f e = room p image read j f (cc)
 
-  of-program : (x : Judged (List ℕ)) → judge p ≡ x → x >> require (fits listingRoom imageRoom (outputOf asked p)) (Room (length p)) (ok (outputOf asked p)) ≡ no r
+  of-program : (x : Judged (List ℕ)) → judge p ≡ x → x >> require (fits listingRoom imageRoom (outputOf asked (besideOf text) p)) (Room (length p)) (ok (outputOf asked (besideOf text) p)) ≡ no r
       → Cause asked text listingRoom imageRoom r
   unfolding _>>_
-  of-program (ok image) j e = of-room image j (fits listingRoom imageRoom (outputOf asked p)) refl e
+  of-program (ok image) j e = of-room image j (fits listingRoom imageRoom (outputOf asked (besideOf text) p)) refl e
   of-program (no s) j e = of-judging (j ∙ ap no (cc))
 
 module _ (asked : Settings) (text : List ℕ) (listingRoom imageRoom : ℕ) (r : Refusal) where
   of-text : (x : Judged Program) → readListing text ≡ x
-      → x >>= (λ p. judge p >> require (fits listingRoom imageRoom (outputOf asked p)) (Room (length p)) (ok (outputOf asked p))) ≡ no r → Cause asked text listingRoom imageRoom r
+      → x >>= (λ p. judge p >> require (fits listingRoom imageRoom (outputOf asked (besideOf text) p)) (Room (length p)) (ok (outputOf asked (besideOf text) p))) ≡ no r → Cause asked text listingRoom imageRoom r
   unfolding _>>=_
   of-text (ok p) d e = of-program asked text listingRoom imageRoom r p d (judge p) refl e
   of-text (no s) d e =
@@ -80,7 +83,7 @@ module _ (asked : Settings) (text : List ℕ) (listingRoom imageRoom : ℕ) (r :
   unfolding run
   refused-by-cause e = of-text (readListing text) refl e
 
-  room-refuses : (p : Program) (image : List ℕ) → readListing text ≡ ok p → judge p ≡ ok image → fits listingRoom imageRoom (outputOf asked p) ≡ false → r ≡ Room (length p)
+  room-refuses : (p : Program) (image : List ℕ) → readListing text ≡ ok p → judge p ≡ ok image → fits listingRoom imageRoom (outputOf asked (besideOf text) p) ≡ false → r ≡ Room (length p)
       → run asked text listingRoom imageRoom ≡ no r
   unfolding run _>>=_ _>>_ require
   room-refuses p image d j f e = rw (d, _>>=_, j, _>>_, f, e)
@@ -97,6 +100,15 @@ module _ (asked : Settings) (text : List ℕ) (listingRoom imageRoom : ℕ) (r :
   -- refused-once: a run is refused with r exactly when r has its cause, the causes before it having passed
   pub refused-once : run asked text listingRoom imageRoom ≡ no r ↔ Cause asked text listingRoom imageRoom r
   refused-once = (refused-by-cause, cause-refuses)
+
+-- one-of-twelve: what has a cause has one of document 01's numbers, none of document 02's
+pub one-of-twelve : (asked : Settings) (text : List ℕ) (listingRoom imageRoom : ℕ) (r : Refusal) → Cause asked text listingRoom imageRoom r → hasNumber twelve r ≡ true
+one-of-twelve asked text listingRoom imageRoom r (reading e h) = among (faultOf r .number) (1 ∷ 2 ∷ []) twelve refl h
+one-of-twelve asked text listingRoom imageRoom r (naming p e a h) = among (faultOf r .number) (3 ∷ []) twelve refl (h .number)
+one-of-twelve asked text listingRoom imageRoom r (laying p e a b h) = among (faultOf r .number) (5 ∷ 6 ∷ []) twelve refl (h .number)
+one-of-twelve asked text listingRoom imageRoom r (defining p e a b c h) = among (faultOf r .number) (4 ∷ 7 ∷ []) twelve refl (h .number)
+one-of-twelve asked text listingRoom imageRoom r (encoding p names e a b c f h) = among (faultOf r .number) (4 ∷ 7 ∷ 8 ∷ 9 ∷ 10 ∷ 11 ∷ []) twelve refl (h .number)
+one-of-twelve asked text listingRoom imageRoom r (room p image e j f h) = ap (hasNumber twelve) h
 
 -- two causes are the cause of one refusal
 pub one-refusal : (asked : Settings) (text : List ℕ) (listingRoom imageRoom : ℕ) (r s : Refusal) → Cause asked text listingRoom imageRoom r → Cause asked text listingRoom imageRoom s → r ≡ s

@@ -39,7 +39,7 @@ tag2 Xor = refl
 tag2 And = refl
 tag2 Or = refl
 
-four-back : (n : ℕ) → n < 2 ^ 32 → n / 16777216 * 16777216 + n / 65536 % 256 * 65536 + n / 256 % 256 * 256 + n % 256 ≡ n
+pub four-back : (n : ℕ) → n < 2 ^ 32 → n / 16777216 * 16777216 + n / 65536 % 256 * 65536 + n / 256 % 256 * 256 + n % 256 ≡ n
 four-back n h = omega arith
 
 -- two bytes written are the number

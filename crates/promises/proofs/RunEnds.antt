@@ -14,7 +14,7 @@ use Rattle.rules.specs.declared.Settings.{Settings}
 use Rattle.rules.specs.Programs.{Placeℕ, gone, Program, at, asInstr}
 use Rattle.rules.specs.Judging.{namesOf}
 use Rattle.rules.specs.Rewriting.{branch, invertedAt, trampolineAt, Pattern, inverted, trampoline, patternsFor, patternAt, shrinkAt, anywhere, step, chain, instrBytes, optimized, anchor}
-use Rattle.rules.specs.Run.{outputOf}
+use Rattle.rules.specs.Run.{rewritten}
 use Rattle.promises.specs.Demand3.{NoneRemains, RewritesBounded}
 use Rattle.promises.proofs.Chains.{chain-ends}
 use Rattle.promises.proofs.Anchors.{instrBytes-anchor}
@@ -54,6 +54,6 @@ run-ends asked p = none-remains asked (chain asked (total instrBytes p) (anchor 
 
 -- rewrites-bound: the count that is handed out is at most the input's instruction bytes
 pub rewrites-bound : (asked : Settings) (p : Program) → RewritesBounded asked p
-unfolding optimized outputOf
+unfolding optimized rewritten
 rewrites-bound asked p =
     record { counted = refl; bounded = omega (arith, chain-ends asked (total instrBytes p) (anchor p) (omega (arith, instrBytes-anchor p)) .1, instrBytes-anchor p) }

@@ -23,7 +23,7 @@ use Rattle.rules.specs.Names.{placed, contextAt}
 use Rattle.rules.specs.Judging.{positionsFit, judge, worth, namesOf}
 use Rattle.rules.specs.Rewriting.{isAnchored, innerAt, anchor, ofInner, everyInnerLabel, instrBytes, optimized}
 use Rattle.rules.specs.Output.{plainTarget, writeBack, compact, spoken, shown}
-use Rattle.rules.specs.Run.{outputOf}
+use Rattle.rules.specs.Run.{rewritten}
 use Rattle.promises.specs.Demand2.{Input, outputProgram}
 use Rattle.promises.specs.Demand3.{Aims, carries, TargetKept}
 use Rattle.promises.proofs.Shows.{by-spoken, at-shown, length-shown, shown-room, shown-position}
@@ -168,7 +168,7 @@ module _ (asked : Settings) (p : Program) (w : WellMade p) (i s o : ℕ) (a : Ai
 
 -- target-kept: each such target of the input is, in the output, the number of the same byte of the same statement
 pub target-kept : (asked : Settings) (p : Program) → Input p → (i s : Placeℕ) (o : ℕ) → Aims p i s o → TargetKept asked p i s o
-unfolding outputProgram outputOf
+unfolding outputProgram rewritten
 target-kept asked p h i s o a =
     let w = read-made (h .text) p (h .reads) in
     let e : Program = optimized asked p .program in

@@ -11,7 +11,7 @@ use Rattle.rules.specs.declared.Refusal.the-variants.{Room}
 use Rattle.rules.specs.Refusals.{faultOf}
 use Rattle.rules.specs.Answers.{ok, no}
 use Rattle.rules.specs.Programs.{Program}
-use Rattle.rules.specs.Listing.{readListing}
+use Rattle.rules.specs.Listing.{readListing, besideOf}
 use Rattle.rules.specs.Names.{Entry, placed}
 use Rattle.rules.specs.Judging.{noNameTwice, positionsFit, defineAll, encodeAll, judge}
 use Rattle.rules.specs.Run.{outputOf, fits}
@@ -37,5 +37,5 @@ pub data Cause (asked : Settings) (text : List ℕ) (listingRoom imageRoom : ℕ
   encoding : (p : Program) (names : List Entry) → readListing text ≡ ok p → noNameTwice [] (placed p) ≡ ok tt → positionsFit (placed p) ≡ ok tt
       → defineAll [] (placed p) ≡ ok names → encodeAll names p (placed p) ≡ no r → Blames (4 ∷ 7 ∷ 8 ∷ 9 ∷ 10 ∷ 11 ∷ []) (length p) r
       → Cause asked text listingRoom imageRoom r
-  room : (p : Program) (image : List ℕ) → readListing text ≡ ok p → judge p ≡ ok image → fits listingRoom imageRoom (outputOf asked p) ≡ false
+  room : (p : Program) (image : List ℕ) → readListing text ≡ ok p → judge p ≡ ok image → fits listingRoom imageRoom (outputOf asked (besideOf text) p) ≡ false
       → r ≡ Room (length p) → Cause asked text listingRoom imageRoom r

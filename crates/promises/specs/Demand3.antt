@@ -17,7 +17,7 @@ use Rattle.rules.specs.Layout.{origin}
 use Rattle.rules.specs.Names.{contextAt}
 use Rattle.rules.specs.Judging.{worth, namesOf}
 use Rattle.rules.specs.Rewriting.{isChangeJump, holdsLabel, movingOf, trampoline, patternsFor, patternAt, shrinkAt, step, instrBytes, optimized}
-use Rattle.rules.specs.Run.{outputOf}
+use Rattle.rules.specs.Run.{rewritten}
 use Rattle.promises.specs.Demand2.{outputProgram}
 
 -- ---- "take any transfer whose target holds no name, falls on a byte of a statement and is not a change jump's". C-15: a target "that holds no label,
@@ -60,8 +60,8 @@ pub record TargetKept (asked : Settings) (p : Program) (i : Placeℕ) (s : Place
   pub target-is : lastOf args ≡ value (num (pos address))
   pub owner : Placeℕ
   pub names-byte : origin (outputProgram asked p) (Is (pos address)) ≡ some (record { place = owner; offset = o })
-  pub listed : owner < length (outputOf asked p .stems)
-  pub stems-from : getD (outputOf asked p .stems) owner 0 ≡ s
+  pub listed : owner < length (rewritten asked p .stems)
+  pub stems-from : getD (rewritten asked p .stems) owner 0 ≡ s
 
 -- ---- the end
 
@@ -74,7 +74,7 @@ pub record NoneRemains (asked : Settings) (end : Program) : Type 0 where
 
 -- "Rewrites never exceed the input's instruction bytes": the count that is handed out is the number of steps in the chain
 pub record RewritesBounded (asked : Settings) (p : Program) : Type 0 where
-  pub counted : outputOf asked p .count ≡ optimized asked p .count
+  pub counted : rewritten asked p .count ≡ optimized asked p .count
   pub bounded : optimized asked p .count ≤ total instrBytes p
 
 -- ---- the whole demand, of a program

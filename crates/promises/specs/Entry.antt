@@ -15,28 +15,31 @@ use Rattle.rules.specs.declared.Refusal.{Refusal}
 use Rattle.rules.specs.Answers.{ok}
 use Rattle.rules.specs.Programs.{Placeℕ, instr, Program, at}
 use Rattle.rules.specs.Layout.{origin}
-use Rattle.rules.specs.Listing.{readListing}
+use Rattle.rules.specs.Listing.{readListing, Beside, besideOf}
 use Rattle.rules.specs.Judging.{judge}
 use Rattle.rules.specs.Rewriting.{instrBytes, optimized}
-use Rattle.rules.specs.Run.{outputOf}
+use Rattle.rules.specs.Run.{outputOf, rewritten}
 use Rattle.promises.specs.Demand1.{hasNumber, Cause}
 use Rattle.promises.specs.Faults.{FirstFault}
-use Rattle.promises.specs.Demand2.{outputProgram, ownFrom}
+use Rattle.promises.specs.Demand2.{outputProgram, ownFrom, WithinTotal}
 use Rattle.promises.specs.Room.{constants}
 use Rattle.promises.specs.Demand3.{Aims, TargetKept, Demand3}
+use Rattle.rules.specs.Output.{linesFrom}
 
 -- ---- an acceptance: `written` and `bytes` are the listing and the image that were handed out, and `rewrites` the count
 
 -- "They and the rewrite count, which the port adds, are proved equal to definitions written from document 01."
-pub record AsDefined (asked : Settings) (p : Program) (written bytes : List ℕ) (rewrites : ℕ) : Type 0 where
-  pub listing : written ≡ outputOf asked p .listing
-  pub image : bytes ≡ outputOf asked p .image
+pub record AsDefined (asked : Settings) (b : Beside) (p : Program) (written bytes : List ℕ) (rewrites : ℕ) : Type 0 where
+  pub listing : written ≡ outputOf asked b p .listing
+  pub image : bytes ≡ rewritten asked p .image
   pub count : rewrites ≡ optimized asked p .count
 
 -- "Who has read the shrunk code back?": what was written keeps the listing rules, if it keeps the total limit, and reads as `again`, which assembles as
--- given to the image
-pub record ReadAgain (written bytes : List ℕ) (again : Program) : Type 0 where
-  pub reads : length written ≤ 49152 + length again → readListing written ≡ ok again
+-- given to the image; its form and its source lines are the input's
+pub record ReadAgain (b : Beside) (stems : List Placeℕ) (written bytes : List ℕ) (again : Program) : Type 0 where
+  pub reads : WithinTotal (b .form) again → readListing written ≡ ok again
+  pub form : besideOf written .form ≡ b .form
+  pub lines : besideOf written .lines ≡ linesFrom (b .lines) stems
   pub assembles : judge again ≡ ok bytes
 
 -- "In the output that target .. names the same offset of the statement that stems from the one it first named": read from what was written, the
@@ -54,10 +57,10 @@ pub record Promised (asked : Settings) (text written bytes : List ℕ) (rewrites
   pub image : List ℕ
   pub assembles : judge program ≡ ok image
   -- demand 2
-  pub as-defined : AsDefined asked program written bytes rewrites
+  pub as-defined : AsDefined asked (besideOf text) program written bytes rewrites
   pub again : Program
   pub again-is : again ≡ ownFrom 0 (outputProgram asked program)
-  pub read-again : ReadAgain written bytes again
+  pub read-again : ReadAgain (besideOf text) (rewritten asked program .stems) written bytes again
   -- C-15: the total limit is kept wherever no constant was a target
   pub no-constants : constants program ≡ 0 → readListing written ≡ ok again
   -- demand 3

@@ -11,7 +11,7 @@ use Rattle.rules.specs.Refusals.{faultOf}
 use Rattle.rules.specs.Answers.{atPlace, Judged, ok, no, Check, require, orD}
 use Rattle.rules.specs.Programs.{Placeℕ, Stmt, Program, at, asName, Addressℕ, Operand, register, instr, bytes, words}
 use Rattle.rules.specs.Layout.{position, after}
-use Rattle.rules.specs.Listing.{Line, linesOf, unhex, readFrame, withinLimits, wellFormed, readListing}
+use Rattle.rules.specs.Listing.{Line, linesOf, unhex, withinLimits, wellFormed, readListing, ListingForm, readFrameIn, formIn, statementLines}
 use Rattle.rules.specs.Names.{Key, Entry, Placed, placed, contextAt}
 use Rattle.rules.specs.Judging.{keysIn, areNew, settles, define, defineAll, encode, worth, worthOf}
 use Rattle.rules.specs.Expressions.{Expr, num}
@@ -34,17 +34,17 @@ pub record AtFault {A : Type 0} (n : ℕ) (check : Placeℕ → Judged A) (r : R
 
 -- ---- the checks
 
--- "1 and 2 line by line": line i, the characters of the lines before it counted
+-- "1 and 2 line by line": line i of a listing of form w, C-20's mark apart, the characters of the lines before it counted
 abbrev pub lineIn : List Line → (i : Placeℕ) → Line
 lineIn ls i = getD ls i (record { chars = []; ended = false })
 
 abbrev pub charactersIn : List Line → ℕ
 charactersIn ls = total (λ l. length (l .chars)) ls
 
-abbrev pub lineAt : List Line → (i : Placeℕ) → Judged Stmt
-lineAt ls i =
-    require (withinLimits i (charactersIn (take i ls)) (lineIn ls i .chars)) (Limit (atPlace i))
-    (require (wellFormed (lineIn ls i)) (Broken (atPlace i)) (readFrame i (unhex (lineIn ls i .chars))))
+abbrev pub lineAt : ListingForm → List Line → (i : Placeℕ) → Judged Stmt
+lineAt w ls i =
+    require (withinLimits w i (charactersIn (take i ls)) (lineIn ls i .chars)) (Limit (atPlace i))
+    (require (wellFormed (lineIn ls i)) (Broken (atPlace i)) (readFrameIn w i (unhex (lineIn ls i .chars))))
 
 -- "then 3": the name that statement i defines is none of those defined above it
 unfoldable pub keysOf : (seen : List Key) → List Placed → List Key
@@ -68,7 +68,7 @@ encodeAt names p i = encode names p i (contextAt p i) (position p i) (at p i)
 
 -- ---- the statement at fault, by the check that refuses it; 12 is about no statement, and returns the statement count
 pub data FirstFault (text : List ℕ) (r : Refusal) : Type 0 where
-  line : AtFault (length (linesOf text)) (lineAt (linesOf text)) r → FirstFault text r
+  line : AtFault (length (statementLines (linesOf text))) (lineAt (formIn (linesOf text)) (statementLines (linesOf text))) r → FirstFault text r
   named : (p : Program) → readListing text ≡ ok p → AtFault (length p) (nameAt p) r → FirstFault text r
   laid : (p : Program) → readListing text ≡ ok p → AtFault (length p) (settleAt p) r → FirstFault text r
   defined : (p : Program) → readListing text ≡ ok p → AtFault (length p) (defineAt p) r → FirstFault text r

@@ -8,7 +8,7 @@ use Rattle.rules.specs.declared.Settings.{Settings}
 use Rattle.rules.specs.Programs.{Placeℕ, Addressℕ, pad, Program, upTo}
 use Rattle.rules.specs.Layout.{after, position}
 use Rattle.rules.specs.Rewriting.{step, optimized}
-use Rattle.rules.specs.Run.{outputOf}
+use Rattle.rules.specs.Run.{rewritten}
 
 -- "The position p becomes the least multiple of m at or above p, plus add": for a multiple m that a frame can say
 pub record LeastMultiple (q : Addressℕ) (add m : ℕ) : Type 0 where
@@ -23,4 +23,4 @@ pub record NeverRises (asked : Settings) (p : Program) : Type 0 where
 
 -- so the image that is handed out is no longer than `image`, the input's
 abbrev pub NeverGrows : (asked : Settings) → Program → (image : List ℕ) → Type 0
-NeverGrows asked p image = length (outputOf asked p .image) ≤ length image
+NeverGrows asked p image = length (rewritten asked p .image) ≤ length image

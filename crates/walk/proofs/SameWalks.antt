@@ -17,7 +17,7 @@ use Rattle.rules.specs.Layout.{origin}
 use Rattle.rules.specs.Rewriting.{anchor, optimized, instrBytes}
 use Rattle.rules.specs.Judging.{judge}
 use Rattle.rules.specs.Output.{writeBack, shown, compact, stems}
-use Rattle.rules.specs.Run.{outputOf}
+use Rattle.rules.specs.Run.{rewritten}
 use Rattle.promises.specs.Demand2.{Input, outputProgram, ownFrom}
 use Rattle.promises.proofs.Chains.{chain-keeps}
 use Rattle.promises.proofs.ImageOfOutput.{image-of-output}
@@ -60,8 +60,8 @@ ends-at-once m e = split (head m 0)
     split (nothing h) = h
 
 -- one-stem-each: the list of stems has an entry for each statement of the output
-pub one-stem-each : (asked : Settings) (p : Program) → length (outputOf asked p .stems) ≡ length (outputProgram asked p)
-unfolding outputProgram outputOf
+pub one-stem-each : (asked : Settings) (p : Program) → length (rewritten asked p .stems) ≡ length (outputProgram asked p)
+unfolding outputProgram rewritten
 one-stem-each asked p =
     rw (← writeBack-shown asked (optimized asked p .program)) (ap length (stems-written (shown asked (optimized asked p .program))) ∙ stems-length (shown asked (optimized asked p .program)))
 
@@ -135,8 +135,8 @@ module _ (asked : Settings) (p : Program) (in-p : Input p) (only : onlyWalked p 
   unfolding outputProgram
   written-is = ap compact (writeBack-shown asked (optimized asked p .program))
 
-  stems-are : stems end ≡ outputOf asked p .stems
-  unfolding outputOf
+  stems-are : stems end ≡ rewritten asked p .stems
+  unfolding rewritten
   stems-are = sym (stems-written end) ∙ ap stems (writeBack-shown asked (optimized asked p .program))
 
   as-output : (o : Program) → SameWalk p o (λ i. getD (stems end) i 0) → SameWalk p o (stemOf asked p)

@@ -12,6 +12,27 @@ use Rattle.entries.proofs.faults.fault_of.Tie as tie
 is-same : (f : Fault) (g h : Given) → g ≡ h → IsFault f g → IsFault f h
 is-same f g h e x = subst (λ (y : Given). IsFault f y) e x
 
+returns : tie.Need-returns
+returns c = is-same _ _ _ (sym (ap faultOf (c .before .before .r .given .1))) (c .about .ensures)
+
+returns-2 : tie.Need-returns-2
+returns-2 c = is-same _ _ _ (sym (ap faultOf (c .before .before .r2 .given .1))) (c .about2 .ensures)
+
+returns-3 : tie.Need-returns-3
+returns-3 c = is-same _ _ _ (sym (ap faultOf (c .before .before .r3 .given .1))) (c .about3 .ensures)
+
+returns-4 : tie.Need-returns-4
+returns-4 c = is-same _ _ _ (sym (ap faultOf (c .before .before .r4 .given .1))) (c .about4 .ensures)
+
+returns-5 : tie.Need-returns-5
+returns-5 c = is-same _ _ _ (sym (ap faultOf (c .before .before .r5 .given .1))) (c .about5 .ensures)
+
+returns-6 : tie.Need-returns-6
+returns-6 c = is-same _ _ _ (sym (ap faultOf (c .before .before .r6 .given .1))) (c .about6 .ensures)
+
+returns-7 : tie.Need-returns-7
+returns-7 c = is-same _ _ _ (sym (ap faultOf (c .before .before .r7 .given .1))) (c .about7 .ensures)
+
 returns-8 : tie.Need-returns-8
 returns-8 c =
     let e = c .before .before .r8 .given in
@@ -36,6 +57,33 @@ returns-11 c =
     let v : toZ w32 (ofZ w32 (e .0 .1 .1 .0)) ≡ e .0 .1 .1 .0 = search needs in
     is-same _ _ _ (ap (ofArgument 11 (e .0 .0) (e .0 .1 .0)) v ∙ sym (ap faultOf (e .1))) (c .about-argument4 .ensures)
 
+returns-12 : tie.Need-returns-12
+returns-12 c = is-same _ _ _ (sym (ap faultOf (c .before .before .r12 .given .1))) (c .about8 .ensures)
+
+returns-13 : tie.Need-returns-13
+returns-13 c = is-same _ _ _ (sym (ap faultOf (c .before .before .r13 .given .1))) (c .about9 .ensures)
+
+returns-14 : tie.Need-returns-14
+returns-14 c = is-same _ _ _ (sym (ap faultOf (c .before .enum-told .given .1))) (c .about10 .ensures)
+
+returns-15 : tie.Need-returns-15
+returns-15 c =
+    let e = c .before .before .r14 .given in
+    let v : toZ w32 (ofZ w32 (e .0 .1 .0)) ≡ e .0 .1 .0 = search needs in
+    is-same _ _ _ (ap (ofArgument 15 (e .0 .0) 0) v ∙ sym (ap faultOf (e .1))) (c .about-argument5 .ensures)
+
+returns-16 : tie.Need-returns-16
+returns-16 c = is-same _ _ _ (sym (ap faultOf (c .before .enum-told2 .given .1))) (c .about11 .ensures)
+
+returns-17 : tie.Need-returns-17
+returns-17 c = is-same _ _ _ (sym (ap faultOf (c .before .enum-told3 .given .1))) (c .about12 .ensures)
+
+returns-18 : tie.Need-returns-18
+returns-18 c = is-same _ _ _ (sym (ap faultOf (c .before .enum-told4 .given .1))) (c .about13 .ensures)
+
+returns-19 : tie.Need-returns-19
+returns-19 c = is-same _ _ _ (sym (ap faultOf (c .before .enum-told5 .given .1))) (c .about14 .ensures)
+
 pub fault-of-spec : {M : Type 1} → statement M
 fault-of-spec =
     tie.close
@@ -52,15 +100,29 @@ fault-of-spec =
     (λ c. search needs) (λ c κs. search needs)
     (λ c. search needs) (λ c κs. search needs)
     (λ c. search needs) (λ c κs. search needs)
-    (λ c. search needs)
-    (λ c. search needs)
-    (λ c. search needs)
-    (λ c. search needs)
-    (λ c. search needs)
-    (λ c. search needs)
-    (λ c. search needs)
+    (λ c. search needs) (λ c κs. search needs)
+    (λ c. search needs) (λ c κs. search needs)
+    (λ c. search needs) (λ c κs. search needs)
+    (λ c. search needs) (λ c κs. search needs)
+    (λ c. search needs) (λ c κs. search needs)
+    (λ c. search needs) (λ c κs. search needs)
+    (λ c. search needs) (λ c κs. search needs)
+    returns
+    returns-2
+    returns-3
+    returns-4
+    returns-5
+    returns-6
+    returns-7
     returns-8
     returns-9
     returns-10
     returns-11
-    (λ c. search needs))
+    returns-12
+    returns-13
+    returns-14
+    returns-15
+    returns-16
+    returns-17
+    returns-18
+    returns-19)

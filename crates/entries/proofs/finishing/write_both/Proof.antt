@@ -4,6 +4,8 @@ use Prim.Native.Nat.{ℕ, _≤_}
 use native.Mathlib.Omega.{arith}
 use lib.ListN.{length}
 use borrow.Author.Needs.{needs}
+use Rattle.rules.specs.Listing.{Beside}
+use Rattle.output.specs.Lines.{besideIn}
 use Rattle.rules.specs.Run.{Output, front}
 use Rattle.slots.specs.Slots.{Slots}
 use Rattle.image.specs.Tables.{Tables, tables, program}
@@ -18,21 +20,25 @@ here c =
     tables (c .args .frames .now) (c .args .starts .now) (c .args .count) (c .args .forms .now) (c .args .carry .now) (c .args .owners .now) (c .args .offsets .now)
     (c .args .names .now) (c .args .contexts .now) (c .args .values .now) (c .args .positions .now)
 
+-- what the listing says beside its statements
+abbrev beside : (c : tie.Start) → Beside
+beside c = besideIn (c .args .marked) (c .args .lines .now) (c .args .count)
+
 abbrev result : (c : tie.Start) → Output
-result c = resultOf (program (here c)) (c .args .rewrites)
+result c = resultOf (beside c) (program (here c)) (c .args .rewrites)
 
 -- what was counted is the listing's length, and the image's
 text-counted : (c : tie.After-text-length) → c .text-length .result ≡ length (result (c .before .before .before .before) .listing)
 text-counted c =
     let s = c .before .before .before .before in
-    c .text-length .ensures (s .args .offsets .now) (s .pre .ready .sound) ∙ ap length (listing-result (here s .slots) (s .args .rewrites))
+    c .text-length .ensures (beside s .lines) (s .args .offsets .now) (s .pre .ready .sound) ∙ ap length (listing-result (beside s) (here s .slots) (s .args .rewrites))
 
 image-counted : (c : tie.After-image-length) → c .image-length .result ≡ length (result (c .before .before .before .before .before) .image)
 image-counted c =
     let s = c .before .before .before .before .before in
     c .image-length .ensures (s .args .carry .now) (s .args .owners .now) (s .args .offsets .now) (s .args .names .now) (s .args .contexts .now) (s .args .values .now)
     (s .pre .ready) (assembled-encodes (here s) (s .pre))
-    ∙ ap length (image-result (here s) (s .pre) (s .args .rewrites))
+    ∙ ap length (image-result (here s) (s .pre) (beside s) (s .args .rewrites))
 
 text-length-requires : tie.Need-text-length-requires
 text-length-requires c κs = search needs
@@ -58,7 +64,7 @@ write-text-requires c κs =
     let s = l .before .before .before .before in (
       s .pre .ready .sound,
       positioned (here s) (s .pre .ready),
-      omega (arith, c .before .before .if1 .left, text-counted l, ap length (listing-result (here s .slots) (s .args .rewrites))),
+      omega (arith, c .before .before .if1 .left, text-counted l, ap length (listing-result (beside s) (here s .slots) (s .args .rewrites))),
     )
 
 write-image-requires : tie.Need-write-image-requires
@@ -67,7 +73,7 @@ write-image-requires c κs =
     let s = l .before .before .before .before .before in (
       s .pre .ready,
       assembled-encodes (here s) (s .pre),
-      omega (arith, c .before .before .before .before .before .if2 .left, image-counted l, ap length (image-result (here s) (s .pre) (s .args .rewrites))),
+      omega (arith, c .before .before .before .before .before .if2 .left, image-counted l, ap length (image-result (here s) (s .pre) (beside s) (s .args .rewrites))),
     )
 
 same-length : tie.Need-same-length
@@ -84,9 +90,9 @@ returns-3 c =
     let l = m .before in
     let s = l .before .before .before .before in
     fitted-whole (s .args .count) (result s) (s .args .out .now) (s .args .image .now) (l .text-length .result) (s .args .rewrites) (m .image-length .result) _ _
-    (omega (arith, x .before .before .before .if1 .left, text-counted l)) (omega (arith, x .before .before .if2 .left, image-counted m)) (text-counted l) (count-result (program (here s)) (s .args .rewrites)) (image-counted m)
-    (x .write-text .ensures ∙ ap (λ y. front y (s .args .out .now)) (listing-result (here s .slots) (s .args .rewrites)))
-    (w .write-image .ensures ∙ ap (λ y. front y (s .args .image .now)) (image-result (here s) (s .pre) (s .args .rewrites)))
+    (omega (arith, x .before .before .before .if1 .left, text-counted l)) (omega (arith, x .before .before .if2 .left, image-counted m)) (text-counted l) (count-result (beside s) (program (here s)) (s .args .rewrites)) (image-counted m)
+    (x .write-text .ensures ∙ ap (λ y. front y (s .args .out .now)) (listing-result (beside s) (here s .slots) (s .args .rewrites)))
+    (w .write-image .ensures ∙ ap (λ y. front y (s .args .image .now)) (image-result (here s) (s .pre) (beside s) (s .args .rewrites)))
 
 pub write-both-spec : {M : Type 1} → statement M
 write-both-spec =

@@ -1,6 +1,7 @@
 -- `entries::optimizing::anchor_judged` meets its contract: what is anchored stands, and its contexts are those at hand.
 use borrow.Author.Needs.{needs}
 use Rattle.slots.specs.Slots.{Slots, slots}
+use Rattle.output.specs.Lines.{besideIn}
 use Rattle.entries.proofs.Results.{anchored-stands, fitted-program}
 use Rattle.entries.proofs.optimizing.anchor_judged.Statement.{statement}
 use Rattle.entries.proofs.optimizing.anchor_judged.Tie as tie
@@ -31,7 +32,7 @@ returns c =
     let w = c .before .before .before .before in
     let a = w .before .before .before .before .before .before .before in
     let s = a .before .before .before .before .before .before .before .before in
-    fitted-program (s .args .asked) _ _ (s .args .count) (a .anchor .ensures .0 .program) (w .rewrite-anchored .ensures)
+    fitted-program (s .args .asked) (besideIn (s .args .marked) (s .args .lines .now) (s .args .count)) _ _ (s .args .count) (a .anchor .ensures .0 .program) (w .rewrite-anchored .ensures)
 
 pub anchor-judged-spec : {M : Type 1} → statement M
 anchor-judged-spec =

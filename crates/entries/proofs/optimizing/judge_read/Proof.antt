@@ -8,6 +8,7 @@ use Rattle.slots.specs.Slots.{Slots, slots, programOf}
 use Rattle.env.proofs.Programs.{length-program}
 use Rattle.entries.proofs.Phases.{bad-no}
 use Rattle.entries.proofs.Deliveries.{delivers-no}
+use Rattle.output.specs.Lines.{besideIn}
 use Rattle.entries.proofs.Results.{assembled-by, judged-no, judged-delivers}
 use Rattle.entries.proofs.optimizing.judge_read.Statement.{statement}
 use Rattle.entries.proofs.optimizing.judge_read.Tie as tie
@@ -41,7 +42,7 @@ returns c =
     let out = s .args .out .now in
     let image = s .args .image .now in
     delivers-no _ _ out image
-    (judged-no (s .args .asked) (length out) (length image) p _ (bad-no (judge p) _ (sym (c .before .r .given .1) ∙ j .judge .ensures .answer)))
+    (judged-no (s .args .asked) (besideIn (s .args .marked) (s .args .lines .now) (s .args .count)) (length out) (length image) p _ (bad-no (judge p) _ (sym (c .before .r .given .1) ∙ j .judge .ensures .answer)))
 
 same-length : tie.Need-same-length
 same-length c = search needs
@@ -55,7 +56,7 @@ returns-2 c =
     let e = a .before .before .before .before .before .before .before .before in
     let j = e .before .before in
     let s = j .before .before .before .before .before .before .before .before .before in
-    judged-delivers (s .args .asked) (programOf (here s)) (s .args .count) (length-program (here s)) (assembled-by _ _ (e .enum-told .given .1) (j .judge .ensures) .good) (a .anchor-judged .ensures)
+    judged-delivers (s .args .asked) (besideIn (s .args .marked) (s .args .lines .now) (s .args .count)) (programOf (here s)) (s .args .count) (length-program (here s)) (assembled-by _ _ (e .enum-told .given .1) (j .judge .ensures) .good) (a .anchor-judged .ensures)
 
 pub judge-read-spec : {M : Type 1} → statement M
 judge-read-spec =

@@ -14,6 +14,7 @@ use Rattle.env.proofs.Filled.{get-filled}
 use Rattle.asm.specs.Starting.{formIn}
 use Rattle.asm.proofs.Started.{sound-start, program-as-read}
 use Rattle.anchors.proofs.Starts.{as-read-start}
+use Rattle.output.specs.Lines.{besideIn}
 use Rattle.entries.proofs.Results.{delivers-program}
 use Rattle.entries.proofs.optimizing.optimize_read.Statement.{statement}
 use Rattle.entries.proofs.optimizing.optimize_read.Tie as tie
@@ -65,7 +66,7 @@ returns c =
     let f = y .before .before in
     let s = f .before .before .before .before .before in
     let n = s .args .count in
-    delivers-program (s .args .asked) _ (inputOf (s .args .frames .now) (s .args .starts .now) n)
+    delivers-program (s .args .asked) (besideIn (s .args .marked) (s .args .lines .now) (s .args .count)) _ (inputOf (s .args .frames .now) (s .args .starts .now) n)
     (program-as-read (s .args .frames .now) (s .args .starts .now) n (s .pre) _ _ _ _ (λ i l. get-filled (own f) n _ _ i 0 (f .start-forms .ensures) l)
     (λ i l. get-filled (λ k. k) n _ _ i 0 (y .start-carry .ensures) l) (λ d l. none n d (s .pre .few) l))
     (p .place-read .ensures)

@@ -1,6 +1,7 @@
 -- `entries::optimizing::rewrite_anchored` meets its contract: comments go once all rewriting is done.
 use mathlib.Core.Path.{refl}
 use borrow.Author.Needs.{needs}
+use Rattle.output.specs.Lines.{besideIn}
 use Rattle.slots.specs.Slots.{Slots, slots}
 use Rattle.entries.proofs.Results.{shown-stands, optimized-fitted}
 use Rattle.entries.proofs.optimizing.rewrite_anchored.Statement.{statement}
@@ -34,7 +35,7 @@ returns c =
     let h = e .before .before .before .before .before in
     let o = h .before .before .optimize .ensures in
     let s = h .before .before .before .before .before .before .before .before in
-    optimized-fitted (s .args .asked) (s .args .contexts .now) (here s) _ _ _ o (h .show .ensures .1 _ _ _ (o .stands .sound)) (e .judge-end .ensures)
+    optimized-fitted (s .args .asked) (besideIn (s .args .marked) (s .args .lines .now) (s .args .count)) (s .args .contexts .now) (here s) _ _ _ o (h .show .ensures .1 _ _ _ (o .stands .sound)) (e .judge-end .ensures)
 
 pub rewrite-anchored-spec : {M : Type 1} → statement M
 rewrite-anchored-spec =

@@ -27,7 +27,7 @@ module _ (s : tie.Start) where
   abbrev over : List ℕ → Slots
   over offsets = slots (s .args .frames .now) (s .args .starts .now) (s .args .count) (s .args .forms .now) (s .args .carry .now) (s .args .owners .now) offsets
 
-  most : ownEnd frame ≤ 24576
+  most : ownEnd frame ≤ 28672
   most =
       omega (
         arith,

@@ -44,7 +44,7 @@ module _ (c : tie.After-own-end) where
   rest-is : length (c .before .frame-at .result .now) - c .own-end .result ≡ length frame - ownEnd frame
   rest-is = omega (arith, ends, ap length (c .before .frame-at .ensures))
 
-  most : length frame ≤ 24576
+  most : length frame ≤ 28672
   most = frame-most (start .args .frames .now) (start .args .starts .now) (start .args .count) (start .pre .0) (start .args .from .0) (start .pre .1 .inside)
 
 sub-result : tie.Need-sub-result
