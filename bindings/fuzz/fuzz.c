@@ -1,4 +1,5 @@
-/* Hands arbitrary bytes to each entry for a time, and looks for a crash, a byte changed on refusal or behind a result, and a hang.
+/* Hands arbitrary bytes to each entry for a time, and looks for a crash, a byte changed on refusal or behind a result, a hang, and source
+   lines that alter an answer.
    usage: fuzz [--seed N] [--seconds N]. What failed is written to fuzz.failed. Built by ../build.sh. */
 #include <fcntl.h>
 #include <signal.h>
@@ -14,7 +15,7 @@
 #define HANG 300 /* seconds for one call */
 
 static struct text one, two, *text = &one, *before = &two;
-static uint64_t calls, done, refusals[13];
+static uint64_t calls, done, refusals[13], marked, compared;
 static double longest;
 static unsigned asked; /* the settings, by number: 1 keeps comments, 2 lets Callf shrink, 4 lets folds run */
 
@@ -125,8 +126,10 @@ static struct mortarbee_reply call(int rewrite, size_t out_n, size_t image_n, ui
 
 static int same(struct mortarbee_reply a, struct mortarbee_reply b) { return memcmp(&a, &b, sizeof a) == 0; }
 
-static size_t lines(void) {
+/* How many statements the text has; its mark is none (C-20). */
+static size_t statements(void) {
     size_t n = text->n && text->at[text->n - 1] != '\n';
+    n -= is_marked(text->at, text->n);
     for (size_t i = 0; i < text->n; i++) {
         n += text->at[i] == '\n';
     }
@@ -147,9 +150,10 @@ static size_t about(size_t n) {
     }
 }
 
-/* One entry on the text at hand: rooms that are enough, then rooms about the size of the result. */
+static uint8_t out[MORTARBEE_LISTING_ROOM], image[MORTARBEE_IMAGE_ROOM];
+
+/* One entry on the text at hand: rooms that are enough, then rooms about the size of the result. The result stays in `out` and `image`. */
 static struct mortarbee_reply try_entry(int rewrite) {
-    static uint8_t out[MORTARBEE_LISTING_ROOM], image[MORTARBEE_IMAGE_ROOM];
     struct mortarbee_reply r = call(rewrite, MORTARBEE_LISTING_ROOM, MORTARBEE_IMAGE_ROOM, next());
     check(r.number < 12, "12 in rooms that are never too short");
     refusals[r.number]++;
@@ -161,7 +165,7 @@ static struct mortarbee_reply try_entry(int rewrite) {
     size_t out_n = about(r.listing), image_n = about(r.image);
     struct mortarbee_reply again = call(rewrite, out_n, image_n, next());
     if (r.number == 0 && ((rewrite && out_n < r.listing) || image_n < r.image)) {
-        check(again.number == 12 && again.place == lines(), "a room that is too short, and no 12 with the statement count");
+        check(again.number == 12 && again.place == statements(), "a room that is too short, and no 12 with the statement count");
         refusals[12]++;
     } else {
         check(same(r, again), "another answer to the same text");
@@ -171,15 +175,62 @@ static struct mortarbee_reply try_entry(int rewrite) {
     return r;
 }
 
-static void hand_over(uint64_t number) {
-    asked = number % 8;
+static void lend_text(void) {
     lend(&listing_room, text->n, 0);
     memcpy(listing_room.start, text->at, text->n);
+}
+
+/* Whether each line of the new listing begins as one of the text does, kind and source line, in the same order. */
+static int in_order(size_t n) {
+    size_t from = MARK_SIZE;
+    for (size_t i = MARK_SIZE; i < n; i++) {
+        if (out[i - 1] == '\n') {
+            while (from + 10 <= text->n && (text->at[from - 1] != '\n' || memcmp(out + i, text->at + from, 10) != 0)) {
+                from++;
+            }
+            if (from++ + 10 > text->n) {
+                return 0;
+            }
+        }
+    }
+    return 1;
+}
+
+/* C-20: in the old form the same text has the same answer, limits apart, and the same listing but for the source lines. */
+static void without_lines(struct mortarbee_reply r) {
+    static struct text old, bare;
+    struct text *given = text;
+    if (!take_lines(&old, text->at, text->n) || is_marked(old.at, old.n)) {
+        return; /* a line has no source line, or the first is 7D, a source line and 02 */
+    }
+    text = &old;
+    lend_text();
+    struct mortarbee_reply other = call(1, MORTARBEE_LISTING_ROOM, MORTARBEE_IMAGE_ROOM, next());
+    text = given;
+    if (r.number == 2 || other.number == 2) {
+        return;
+    }
+    compared++;
+    check(r.number != 0 || (is_marked(out, r.listing) && take_lines(&bare, out, r.listing)), "a new listing of another form");
+    check(r.number != 0 || in_order(r.listing), "a source line that was not there");
+    r.listing = r.number ? 0 : bare.n;
+    check(same(r, other), "source lines altered the answer");
+    check(memcmp(bare.at, out_room.start, r.listing) == 0, "source lines altered the new listing");
+    check(memcmp(image, image_room.start, r.image) == 0, "source lines altered the image");
+}
+
+static void hand_over(uint64_t number) {
+    asked = number % 8;
+    lend_text();
     struct mortarbee_reply plain = try_entry(0);
     struct mortarbee_reply rewritten = try_entry(1);
     check(plain.number == rewritten.number && plain.place == rewritten.place && plain.argument == rewritten.argument && plain.amount == rewritten.amount,
           "assembled and rewritten are not refused alike");
     check(plain.number != 0 || rewritten.image <= plain.image, "a rewritten image that is longer");
+    if (is_marked(text->at, text->n)) {
+        marked++;
+        without_lines(rewritten);
+    }
 }
 
 int main(int argc, char **argv) {
@@ -212,7 +263,8 @@ int main(int argc, char **argv) {
     printf("seed %lu, %lu s: %llu texts, %llu calls, %llu accepted, the longest call %.3f s; refused:", seed, seconds,
            (unsigned long long)texts, (unsigned long long)calls, (unsigned long long)done, longest);
     for (int i = 1; i <= 12; i++) {
-        printf(" %d: %llu%s", i, (unsigned long long)refusals[i], i < 12 ? "," : "\n");
+        printf(" %d: %llu%s", i, (unsigned long long)refusals[i], i < 12 ? "," : "");
     }
+    printf("; with source lines: %llu texts, %llu compared with the same in the old form\n", (unsigned long long)marked, (unsigned long long)compared);
     return 0;
 }

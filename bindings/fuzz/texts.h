@@ -1,4 +1,4 @@
-/* Texts for fuzz.c, from a xorshift generator: listings of sound frames, damage to them, and plain noise. */
+/* Texts for fuzz.c, from a xorshift generator: listings of sound frames in both forms, damage to them, and plain noise. */
 #ifndef TEXTS_H
 #define TEXTS_H
 
@@ -7,6 +7,8 @@
 #include <string.h>
 
 #define TEXT_ROOM (1 << 17)
+#define MARK "7D02\n" /* the first line of a listing with source lines (C-20) */
+#define MARK_SIZE 5
 
 static uint64_t state;
 
@@ -170,10 +172,62 @@ static void sound(struct text *t) {
     }
 }
 
+static int is_marked(const uint8_t *at, size_t n) { return n >= MARK_SIZE && memcmp(at, MARK, MARK_SIZE) == 0; }
+
+static void put_mark(struct text *t) {
+    for (const char *c = MARK; *c; c++) {
+        put(t, (uint8_t)*c);
+    }
+}
+
+/* A source line: 0, the highest, one more than the last, or any. */
+static uint32_t source_line(uint64_t kind, uint32_t last) { return kind == 0 ? 0 : kind == 1 ? UINT32_MAX : kind == 2 ? last + 1 : (uint32_t)next(); }
+
+/* C-20: behind the kind of each frame the line of the source that it comes from. */
+static void put_lines(struct text *t) {
+    static struct text old;
+    uint64_t kind = below(5), column = 0;
+    uint32_t line = below(2) ? 0 : (uint32_t)next();
+    old.n = t->n;
+    memcpy(old.at, t->at, t->n);
+    t->n = 0;
+    put_mark(t);
+    for (size_t i = 0; i < old.n; i++) {
+        put(t, old.at[i]);
+        column = old.at[i] == '\n' ? 0 : column + 1;
+        if (column == 2) {
+            line = source_line(kind < 4 ? kind : below(4), line);
+            put_two(t, line >> 16);
+            put_two(t, line);
+        }
+    }
+}
+
+/* The same listing in the old form: the mark and the source lines go. 0 if a line has none. */
+static int take_lines(struct text *t, const uint8_t *at, size_t n) {
+    size_t column = 0;
+    t->n = 0;
+    for (size_t i = MARK_SIZE; i < n; i++) {
+        if (at[i] == '\n' && column < 10) {
+            return 0;
+        }
+        column = at[i] == '\n' ? 0 : column + 1;
+        if (column < 3 || column > 10) {
+            put(t, at[i]);
+        } else if (!strchr("0123456789ABCDEF", at[i] ? at[i] : 'x')) {
+            return 0;
+        }
+    }
+    return column == 0 || column >= 10;
+}
+
 static void noise(struct text *t) {
     static const char digits[] = "0123456789ABCDEF\n\n000102\r=";
     uint64_t n = below(50) == 0 ? below(TEXT_ROOM) : below(400), kind = below(3);
     t->n = 0;
+    if (below(4) == 0) {
+        put_mark(t);
+    }
     while (n-- > 0) {
         put(t, kind == 0 ? (uint8_t)next() : (uint8_t)digits[below(kind == 1 ? 18 : sizeof digits - 1)]);
     }
@@ -196,7 +250,7 @@ static void close_up(struct text *t, size_t at, size_t n) {
 static void damage(struct text *t, const struct text *other) {
     size_t at = t->n ? below(t->n) : 0;
     size_t n = 1 + below(8);
-    switch (t->n ? below(7) : 6) {
+    switch (t->n ? below(8) : 7) {
     case 0:
         t->at[at] = (uint8_t)next();
         break;
@@ -221,18 +275,27 @@ static void damage(struct text *t, const struct text *other) {
             }
         }
         break;
+    case 6:
+        if (t->n + MARK_SIZE <= TEXT_ROOM) {
+            open_up(t, at, MARK_SIZE);
+            memcpy(t->at + at, MARK, MARK_SIZE);
+        }
+        break;
     default:
         put(t, '\n');
     }
 }
 
-/* The next text: sound, damaged, or noise. `other` is the text before. */
+/* The next text: sound in one of both forms, damaged, or noise. `other` is the text before. */
 static void make(struct text *t, const struct text *other) {
     if (below(12) == 0) {
         noise(t);
         return;
     }
     sound(t);
+    if (below(3) == 0) {
+        put_lines(t);
+    }
     for (uint64_t times = below(3) ? 0 : 1 + below(4); times > 0; times--) {
         damage(t, other);
     }

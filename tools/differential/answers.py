@@ -8,7 +8,10 @@ NUMBERS = {
 
 class Answer:
     """kind: done (lines, rewrites, image and its length), refused (number, place), panic, late (no answer in time) or strange.
-    The image is None where only its length is known. fault is the argument's place and the number at fault, None of the Rust's refusals."""
+    The image is None where only its length is known. fault is the argument's place and the number at fault, None of the Rust's refusals.
+    stems, of the Rust's alone: for each line the place that its statement stems from."""
+
+    stems = None
 
     def __init__(self, kind, lines=b"", rewrites=0, image=b"", length=0, number=0, place=0, text="", fault=(0, 0)):
         self.kind, self.lines, self.rewrites, self.image = kind, lines, rewrites, image
@@ -47,6 +50,10 @@ def done(lines, rewrites, image):
 def parse(block):
     """An answer as the batch driver or the oracle prints it, the line `==` apart."""
     lines = block.split(b"\n")[:-1]
+    if lines and lines[-1].startswith(b"ORIGINS"):
+        answer = parse(b"".join(line + b"\n" for line in lines[:-1]))
+        answer.stems = [int(place) for place in lines[-1].split()[1:]]
+        return answer
     if len(lines) >= 2 and lines[-1].startswith(b"IMAGE ") and lines[-2].startswith(b"7F"):
         head = b"".join(line + b"\n" for line in lines[:-2])
         image = bytes.fromhex(lines[-1][6:].decode())

@@ -1,7 +1,7 @@
 """Says which listed differences stand between our answer and the Rust's: the smallest set of rules that turns the one into the other."""
 from answers import Answer, done, refused
 from model.judging import Judge
-from model.reading import Panic, Refused, read_listing
+from model.reading import Panic, Refused, is_marked, read_listing, text_of
 from model.rewriting import Rewriter
 from model.ways import TooLong, Ways
 from rules import ANCHORS, CANDIDATES, PATTERNS, RULES, SWITCHES
@@ -19,7 +19,7 @@ def modelled(text, rules, build, assemble, asked=None):
         if assemble:
             return done(text, 0, Judge(slots, ways, "first").run().image())
         end = Rewriter(slots, ways).run()
-        return done(end.text(), end.count, end.judged.image())
+        return done(text_of(end.written(), is_marked(text)), end.count, end.judged.image())
     except Refused as r:
         return refused(r.number, r.place, (r.argument, r.amount))
     except Panic:

@@ -10,6 +10,7 @@ from unittest import mock
 
 sys.path.insert(0, os.path.dirname(os.path.abspath(__file__)))
 
+import explain
 import families
 from explain import modelled
 from model import judging, reading, rewriting, values
@@ -105,7 +106,41 @@ def offsets_unasked(self, at, changes):
     return taken
 
 
-right_size = reading.Statement.size_at
+def lines_in_order(self):
+    """C-20: the lines of the input one by one, whatever has gone."""
+    given = [s.line for s in self.slots]
+    right_run(self)
+    kept = [place for place, s in enumerate(self.slots) if s is not None]
+    for place, line in zip(kept, given):
+        self.slots[place] = self.slots[place].with_line(line)
+    return self
+
+
+def line_of_the_jump(self, at, changes):
+    """C-20: the folded branch has the line of the jump whose target it takes."""
+    gone = [place for place, s in changes.items() if s is None]
+    line = self.slots[gone[-1]].line if gone else changes[at].line
+    return Rewriter.right_attempt(self, at, {**changes, at: changes[at].with_line(line)})
+
+
+def line_forgotten(self, form, target):
+    return right_form(self, form, target).with_line(0)
+
+
+def mark_has_a_place(text):
+    try:
+        return right_reading(text)
+    except reading.Refused as r:
+        raise reading.Refused(r.number, r.place + reading.is_marked(text))
+
+
+def marks_skipped(text):
+    """The mark passed over wherever it stands."""
+    return right_reading(text.replace(b"\n" + reading.MARK, b"\n"))
+
+
+right_size, right_form = reading.Statement.size_at, reading.Statement.with_form
+right_run, right_reading = Rewriter.run, reading.read_listing
 
 MUTANTS = {
     "rel8 from the instruction's start": lambda: wrong_field(lambda j, p, kind, n: n - j.slots[p].size if kind == "rel8" else n),
@@ -128,6 +163,14 @@ MUTANTS = {
     "comments significant": lambda: patch(Rewriter, "following", comments_count),
     "a pad is as long as on the input": lambda: patch(reading.Statement, "size_at", size_remembered),
     "a pad may become too short for a number": lambda: patch(Rewriter, "attempt", offsets_unasked),
+    "source lines by the place in the output": lambda: patch(Rewriter, "run", lines_in_order),
+    "the jump's source line after a fold": lambda: patch(Rewriter, "attempt", line_of_the_jump),
+    "source line 0 for a replaced instruction": lambda: patch(reading.Statement, "with_form", line_forgotten),
+    "7D02 counted as a place": lambda: patch(explain, "read_listing", mark_has_a_place),
+    "7D02 passed over anywhere": lambda: patch(explain, "read_listing", marks_skipped),
+    "7D02 kept out of the output": lambda: patch(explain, "is_marked", lambda text: False),
+    "the old limits with source lines": lambda: patch(reading, "LIMITS_WITH_LINES", reading.LIMITS),
+    "source lines in no limit of all frames": lambda: patch(reading, "LIMITS_WITH_LINES", (248, 57344 + 8 * 1024)),
 }
 
 

@@ -5,6 +5,7 @@ import subprocess
 import tempfile
 
 from answers import Answer, parse
+from lines import has_lines, with_lines, without_lines
 
 HERE = os.path.dirname(os.path.abspath(__file__))
 ROOT = os.path.dirname(os.path.dirname(HERE))
@@ -106,7 +107,7 @@ def build_oracle(sources):
 
 def rusts(folder, assemble):
     """The Rust four times: its own pattern list or document 01's, overflow checked or not. (program, own patterns, build)"""
-    common = ["--batch", "--count", "--places", "--raw-image"] + (["--assemble"] if assemble else [])
+    common = ["--batch", "--count", "--places", "--origins", "--raw-image"] + (["--assemble"] if assemble else [])
     result = []
     for own in ([True] if assemble else [True, False]):
         for build, binary in (("checked", "oracle"), ("release", "oracle-release")):
@@ -115,6 +116,12 @@ def rusts(folder, assemble):
     return result
 
 
+def ask_rust(program, texts, seconds):
+    """The Rust's answers in the form of the texts: it is given them without source lines, which come back by its own stems."""
+    answers = program.ask([without_lines(text) for text in texts], seconds)
+    return [with_lines(text, answer) for text, answer in zip(texts, answers)]
+
+
 def comparable(text):
-    """Whether the oracle can be handed a text: it reads lines, and knows no limits."""
-    return text.isascii() and b"\r" not in text and b"==" not in text and (not text or text.endswith(b"\n"))
+    """Whether the oracle can be handed a text: it reads lines, and knows no limits and no source lines."""
+    return has_lines(text) and text.isascii() and b"\r" not in text and b"==" not in text and (not text or text.endswith(b"\n"))

@@ -1,5 +1,7 @@
-"""Makes a listing smaller while a test stays true: whole lines first, then the operands of each line."""
-from model.reading import Frame, Refused, line_of
+"""Makes a listing smaller while a test stays true: whole lines first, then the operands of each line. Its form stays (C-20)."""
+from copy import copy
+
+from model.reading import MARK, Frame, Refused, is_marked, line_of
 
 
 def drop_lines(lines, test):
@@ -30,43 +32,43 @@ def simpler(tree):
     return result
 
 
-def shorter(line):
+def shorter(line, marked):
     """Shorter or plainer lines in the place of one."""
     result = [line[:len(line) // 2], line[:-2], line[2:], line[:-1]] if len(line) > 2 else []
     try:
-        s = Frame(bytes.fromhex(line.decode()), 0).statement()
+        s = Frame(bytes.fromhex(line.decode()), 0).statement(marked)
     except (ValueError, Refused):
         return result
-    result = []
+    return [line_of(other, marked)[:-1] for other in plainer(s)]
+
+
+def plainer(s):
+    """Plainer statements in the place of one."""
+    result = [s.with_line(line) for line in (0, 1, s.line // 2) if line < s.line]
     if s.kind == "comment" and s.comment:
-        result.append(b"04")
+        result.append(changed_to(s, comment=b""))
     if s.kind == "org" and s.location:
-        for location in (0, s.location // 2, s.location - 1):
-            s.location, kept = location, s.location
-            result.append(line_of(s)[:-1])
-            s.location = kept
+        result += [changed_to(s, location=location) for location in (0, s.location // 2, s.location - 1)]
     if s.kind in ("bytes", "words") and len(s.args) > 1:
-        for i in range(len(s.args)):
-            result.append(with_args(s, s.args[:i] + s.args[i + 1:]))
+        result += [changed_to(s, args=s.args[:i] + s.args[i + 1:]) for i in range(len(s.args))]
     for i, arg in enumerate(s.args):
         for other in ([0] if arg else []) if isinstance(arg, int) else simpler(arg):
-            result.append(with_args(s, s.args[:i] + [other] + s.args[i + 1:]))
+            result.append(changed_to(s, args=s.args[:i] + [other] + s.args[i + 1:]))
     return result
 
 
-def with_args(s, args):
-    kept, s.args = s.args, args
-    line = line_of(s)[:-1]
-    s.args = kept
-    return line
+def changed_to(s, **parts):
+    other = copy(s)
+    vars(other).update(parts)
+    return other
 
 
-def shorten(lines, test):
+def shorten(lines, test, marked):
     changed = True
     while changed:
         changed = False
         for at in range(len(lines)):
-            for other in shorter(lines[at]):
+            for other in shorter(lines[at], marked):
                 if other != lines[at] and test(lines[:at] + [other] + lines[at + 1:]):
                     lines = lines[:at] + [other] + lines[at + 1:]
                     changed = True
@@ -77,14 +79,17 @@ def shorten(lines, test):
 def reduced(text, test, tries=3000):
     """The smallest text that was found; `test` takes a text."""
     left = [tries]
+    marked = is_marked(text)
+    head = MARK if marked else b""
+    text = text[len(head):]
     ended = text.endswith(b"\n")
 
     def joined(lines):
-        return b"".join(line + b"\n" for line in lines) if ended else b"\n".join(lines)
+        return head + (b"".join(line + b"\n" for line in lines) if ended else b"\n".join(lines))
 
     def holds(lines):
         left[0] -= 1
         return left[0] >= 0 and test(joined(lines))
 
     lines = text.split(b"\n")[:-1] if ended else text.split(b"\n")
-    return joined(drop_lines(shorten(drop_lines(lines, holds), holds), holds))
+    return joined(drop_lines(shorten(drop_lines(lines, holds), holds, marked), holds))

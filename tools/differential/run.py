@@ -14,9 +14,9 @@ sys.path.insert(0, os.path.dirname(os.path.abspath(__file__)))
 import families
 import listed
 from explain import explain, modelled
-from model.reading import Refused, read_listing
+from model.reading import Refused, is_marked, read_listing
 from model.ways import TooLong
-from programs import Model, OneByOne, build_oracle, comparable, ours, rusts
+from programs import Model, OneByOne, ask_rust, build_oracle, comparable, ours, rusts
 from reduce import reduced
 from rules import RULES
 
@@ -27,7 +27,7 @@ class Comparison:
         self.ours = our_side(options)
         self.rusts = rusts(build_oracle(options.sources), self.assemble)
         self.families, self.kinds, self.rules, self.odd = Counter(), Counter(), Counter(), []
-        self.equal, self.form_only, self.rust_runs = 0, 0, 0
+        self.equal, self.form_only, self.rust_runs, self.lines = 0, 0, 0, Counter()
 
     def answers(self, texts):
         """For each text ours, and each of the Rust's or None where the Rust cannot be asked."""
@@ -35,7 +35,7 @@ class Comparison:
         asked = [i for i, text in enumerate(texts) if comparable(text) and not beyond_limits(text)]
         theirs = [[None] * len(texts) for _ in self.rusts]
         for column, (program, _, _) in zip(theirs, self.rusts):
-            for i, answer in zip(asked, program.ask([texts[i] for i in asked], self.limit)):
+            for i, answer in zip(asked, ask_rust(program, [texts[i] for i in asked], self.limit)):
                 column[i] = answer
         return [(mine[i], [column[i] for column in theirs]) for i in range(len(texts))]
 
@@ -70,6 +70,8 @@ class Comparison:
         self.families[family] += 1
         self.kinds[mine.kind if mine.kind != "refused" else "refused %d" % mine.number] += 1
         self.rust_runs += sum(answer is not None for answer in theirs)
+        if is_marked(text):
+            self.take_lines(text, mine, theirs)
         found, odd = self.judge(text, mine, theirs)
         self.rules.update(found)
         if theirs[0] is None:
@@ -78,6 +80,13 @@ class Comparison:
             self.equal += 1
         if odd:
             self.odd.append((family, index, text, odd))
+
+    def take_lines(self, text, mine, theirs):
+        self.lines["all"] += 1
+        self.lines["asked"] += theirs[0] is not None
+        self.lines["done"] += mine.kind == "done"
+        self.lines["rewritten"] += mine.rewrites > 0
+        self.lines["fewer"] += mine.kind == "done" and mine.lines.count(b"\n") < text.count(b"\n")
 
     def differs(self, text):
         mine, theirs = self.answers([text])[0]
@@ -129,6 +138,8 @@ def summary(c, seconds, options):
     listed_ones = total - c.equal - c.form_only - len(c.odd)
     print("the Rust was run %d times; %d listings alike in every build, %d about the text alone (the Rust is not asked), "
           "%d with listed differences, %d not explained" % (c.rust_runs, c.equal, c.form_only, listed_ones, len(c.odd)))
+    print("in the form of C-20: %d listings, %d of them put to the Rust; %d accepted, %d rewritten, %d with fewer statements than before"
+          % tuple(c.lines[key] for key in ("all", "asked", "done", "rewritten", "fewer")))
     print("our answers: " + ", ".join("%s %d" % (kind, n) for kind, n in sorted(c.kinds.items(), key=lambda x: (len(x[0]), x[0]))))
     print("families: " + ", ".join("%s %d" % item for item in sorted(c.families.items())))
     print("\n| Rule | Listings | |\n|---|---|---|")

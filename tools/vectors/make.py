@@ -17,7 +17,7 @@ import families
 import listed
 from explain import modelled
 from model.ways import TooLong
-from programs import ROOT, Program, build_oracle, comparable
+from programs import ROOT, Program, ask_rust, build_oracle, comparable
 
 SEED = "vectors"
 WANTED = 480
@@ -62,7 +62,7 @@ def expected(text, oracle):
         return document, "document 01"
     if not comparable(text):
         return None, ""
-    answer = oracle.ask([text], 120)[0]
+    answer = ask_rust(oracle, [text], 120)[0]
     if answer.kind == "done" and (document is None or answer == document):
         return answer, "the Rust"
     return None, ""
@@ -72,7 +72,7 @@ def main():
     options = argparse.ArgumentParser(description=__doc__, formatter_class=argparse.RawDescriptionHelpFormatter)
     options.add_argument("--sources")
     folder = build_oracle(options.parse_args().sources)
-    oracle = Program("the Rust", [os.path.join(folder, "oracle"), "--batch", "--count", "--places", "--doc-patterns"])
+    oracle = Program("the Rust", [os.path.join(folder, "oracle"), "--batch", "--count", "--places", "--origins", "--doc-patterns"])
     inputs, outputs, whose = [], [], {}
     for text in candidates():
         answer, who = expected(text, oracle)

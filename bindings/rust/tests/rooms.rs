@@ -1,10 +1,12 @@
 //! Images and listings byte for byte, and both rooms one byte short, exact and longer: on listings of document 01 and on any bytes.
 use mortarbee::{assemble, Refusal, IMAGE_ROOM};
 
+/// The first line of a listing with source lines (C-20).
+const MARK: &str = "7D02\n";
 const WHOLE_RUN: &str = "012E018001\n012B010001\n028001\n0143\n020001\n012B0000000005\n";
 
 /// Listings, and what the image is or the refusal: number, place, argument, number at fault.
-const CASES: [(&str, Result<&[u8], (u8, usize, usize, i32)>); 17] = [
+const CASES: [(&str, Result<&[u8], (u8, usize, usize, i32)>); 23] = [
     ("", Ok(&[])),
     (WHOLE_RUN, Ok(&[0x80, 0x03, 0x21, 0x00, 0x06, 0x00, 0x21, 0x00, 0x05])),
     ("050004\n0143\n", Ok(&[0, 0, 0, 0, 0])),
@@ -22,6 +24,12 @@ const CASES: [(&str, Result<&[u8], (u8, usize, usize, i32)>); 17] = [
     ("01340100000000C8\n", Err((10, 0, 1, 198))),
     ("012D0000010000\n", Err((9, 0, 0, 65_536))),
     ("05FFFE\n012A000000F345\n", Err((11, 1, 0, 62_277))),
+    ("7D02\n", Ok(&[])),
+    ("7D02\n0143\n", Err((1, 0, 0, 0))),
+    ("7D02\n04FFFFFFFF\n7D02\n", Err((1, 1, 0, 0))),
+    ("7D02\n04FFFFFFFF\n01000000072C0000000082\n", Err((10, 1, 0, 128))),
+    ("0143\n7D02\n", Err((1, 1, 0, 0))),
+    ("7D02", Err((1, 0, 0, 0))),
 ];
 
 /// 256 zeros, then Brf at 100 to 100.
@@ -52,12 +60,19 @@ const LINES: [&str; 12] = [
     "013C0000000004", "050020",
 ];
 
-/// A text of any bytes, of digits and line feeds, or of sound lines.
+/// A sound line, with a source line if it is asked for.
+fn any_line(state: &mut u64, marked: bool) -> String {
+    let (kind, rest) = LINES[(xorshift(state) % 12) as usize].split_at(2);
+    if marked { format!("{kind}{:08X}{rest}\n", xorshift(state) as u32) } else { format!("{kind}{rest}\n") }
+}
+
+/// A text of any bytes, of digits and line feeds, or of sound lines in one of both forms.
 fn any_text(state: &mut u64) -> Vec<u8> {
-    let kind = xorshift(state) % 3;
-    if kind == 2 {
-        let lines = xorshift(state) % 14;
-        return (0..lines).flat_map(|_| format!("{}\n", LINES[(xorshift(state) % 12) as usize]).into_bytes()).collect();
+    let kind = xorshift(state) % 4;
+    if kind >= 2 {
+        let (marked, lines) = (kind == 3, xorshift(state) % 14);
+        let head = if marked { MARK } else { "" };
+        return (0..lines).fold(head.to_owned(), |text, _| text + &any_line(state, marked)).into_bytes();
     }
     let length = (xorshift(state) % 300) as usize;
     (0..length)
@@ -66,6 +81,11 @@ fn any_text(state: &mut u64) -> Vec<u8> {
             if kind == 1 { b"0123456789ABCDEF\n\n0001"[byte as usize % 22] } else { byte }
         })
         .collect()
+}
+
+/// How many statements a listing has; the mark is none.
+fn statements(listing: &[u8]) -> usize {
+    listing.iter().filter(|b| **b == b'\n').count() - listing.starts_with(MARK.as_bytes()) as usize
 }
 
 fn assembled(listing: &[u8], room: usize) -> (Result<usize, Refusal>, Vec<u8>) {
@@ -96,9 +116,8 @@ fn image_rooms(listing: &[u8]) -> Result<Vec<u8>, Refusal> {
         assert!(room[n..].iter().all(|b| *b == FILL));
     }
     if n > 0 {
-        let statements = listing.iter().filter(|b| **b == b'\n').count();
         let (short, room) = assembled(listing, n - 1);
-        assert_eq!(short, Err(plain(12, statements)));
+        assert_eq!(short, Err(plain(12, statements(listing))));
         assert!(room.iter().all(|b| *b == FILL), "a room that is too short was written to");
     }
     Ok(image[..n].to_vec())
@@ -152,8 +171,7 @@ mod rewriting {
                     assert_eq!(again, Ok(done));
                     assert!(a[..n] == out[..n] && b[..m] == image[..m] && full(&a[n..]) && full(&b[m..]));
                 } else {
-                    let place = listing.iter().filter(|b| **b == b'\n').count();
-                    assert_eq!(again, Err(plain(12, place)));
+                    assert_eq!(again, Err(plain(12, statements(listing))));
                     assert!(full(&a) && full(&b), "a room was written to on refusal 12");
                 }
             }
@@ -167,6 +185,16 @@ mod rewriting {
         let (rewrites, out, image) = both_rooms(WHOLE_RUN.as_bytes()).unwrap();
         assert_eq!(rewrites, 2);
         assert_eq!(out, b"012F010001\n028001\n0143\n020001\n012C0000000002\n");
+        assert_eq!(image, [0x90, 0x01, 0x00, 0x01, 0xFD]);
+    }
+
+    /// C-20: a replaced instruction keeps its own source line, and the jump that goes takes its own with it.
+    #[test]
+    fn the_whole_run_with_source_lines() {
+        let listing = b"7D02\n010000000A2E018001\n010000000B2B010001\n020000000C8001\n010000000D43\n020000000E0001\n01FFFFFFFF2B0000000005\n";
+        let (rewrites, out, image) = both_rooms(listing).unwrap();
+        assert_eq!(rewrites, 2);
+        assert_eq!(out, b"7D02\n010000000A2F010001\n020000000C8001\n010000000D43\n020000000E0001\n01FFFFFFFF2C0000000002\n");
         assert_eq!(image, [0x90, 0x01, 0x00, 0x01, 0xFD]);
     }
 

@@ -1,10 +1,10 @@
 """The families of listings: each is a function from a random generator to a text, and gives the same text for the same seed."""
 import random
 
-from . import code, names, places, texts, values
+from . import code, lines, names, places, texts, values
 
-EVERYDAY = code.FAMILIES + names.FAMILIES + places.FAMILIES + values.FAMILIES + texts.FAMILIES
-LARGE = texts.LARGE
+EVERYDAY = code.FAMILIES + names.FAMILIES + places.FAMILIES + values.FAMILIES + texts.FAMILIES + lines.FAMILIES
+LARGE = texts.LARGE + lines.LARGE
 BY_NAME = {family.__name__: family for family in EVERYDAY + LARGE}
 
 
@@ -20,10 +20,13 @@ def padded(rng, text):
 
 
 def listing(seed, family, index):
-    """A listing of a family; every fourth one of each has pads."""
+    """A listing of a family; every fourth one of each has pads, and about every fourth, some of those among them, source lines (C-20)."""
     rng = random.Random("%s/%s/%s" % (seed, family, index))
     text = BY_NAME[family](rng)
-    return padded(rng, text) if index % 4 == 3 else text
+    if BY_NAME[family] in lines.FAMILIES + lines.LARGE:
+        return text
+    text = padded(rng, text) if index % 4 == 3 else text
+    return lines.lined(rng, text) if rng.random() < 0.25 else text
 
 
 def sequence(seed, only=None, start=0):

@@ -1,9 +1,14 @@
-"""Text to statements: "The listing" of document 01, with refusals 1 and 2. An expression is a tuple."""
+"""Text to statements: "The listing" of document 01 and the form of C-20, with refusals 1 and 2. An expression is a tuple."""
+from copy import copy
+
 from .forms import FORMS
 
 TWO = {0x10: "plus", 0x11: "minus", 0x12: "times", 0x13: "divide", 0x14: "xor", 0x15: "and", 0x16: "or"}
 ONE = {0x20: "negate", 0x21: "upper", 0x22: "lower"}
 TAGS = {name: tag for tag, name in list(TWO.items()) + list(ONE.items())}
+MARK = b"7D02\n"  # C-20: the first line of a listing whose frames have source lines
+LIMITS = (240, 49152)  # characters of a frame, and of all
+LIMITS_WITH_LINES = (248, 57344)
 
 
 class Refused(Exception):
@@ -19,7 +24,10 @@ class Panic(Exception):
 
 
 class Statement:
-    """kind: instr, label, variable, comment, org, bytes, words or pad. args: a number for a register, else an expression."""
+    """kind: instr, label, variable, comment, org, bytes, words or pad. args: a number for a register, else an expression.
+    line: its source line (C-20), 0 in the old form."""
+
+    line = 0
 
     def __init__(self, kind, form=None, name=None, args=(), location=0, comment=b"", add=0, multiple=1):
         self.kind, self.form, self.name = kind, form, name
@@ -32,7 +40,13 @@ class Statement:
         return -position % self.multiple + self.add if self.kind == "pad" else self.size
 
     def with_form(self, form, target):
-        return Statement("instr", form=form, args=self.args[:-1] + [target])
+        """C-20: "a replaced instruction keeps its own line"."""
+        return Statement("instr", form=form, args=self.args[:-1] + [target]).with_line(self.line)
+
+    def with_line(self, line):
+        other = copy(self)
+        other.line = line
+        return other
 
 
 class Frame:
@@ -110,10 +124,10 @@ class Frame:
         return Statement("pad", add=add, multiple=multiple)
 
     def comment(self):
-        self.at = len(self.data)
-        return Statement("comment", comment=self.data[1:])
+        start, self.at = self.at, len(self.data)
+        return Statement("comment", comment=self.data[start:])
 
-    def statement(self):
+    def statement(self, has_line=False):
         kinds = {
             1: self.instruction,
             2: lambda: Statement("label", name=self.number(2)),
@@ -125,9 +139,10 @@ class Frame:
             8: self.pad,
         }
         kind = self.byte()
+        line = self.number(4) if has_line else 0
         if kind not in kinds:
             raise self.broken()
-        statement = kinds[kind]()
+        statement = kinds[kind]().with_line(line)
         if self.at != len(self.data):
             raise self.broken()
         return statement
@@ -145,13 +160,20 @@ def lines_of(text):
     return [(line, True) for line in parts[:-1]] + ([(parts[-1], False)] if parts[-1] else [])
 
 
+def is_marked(text):
+    return text.startswith(MARK)
+
+
 def read_listing(text):
+    """The mark is no statement and counts in no limit; anywhere else it is a line like any other, and no frame."""
+    marked = is_marked(text)
+    longest, most = LIMITS_WITH_LINES if marked else LIMITS
     total, statements = 0, []
-    for place, (line, ended) in enumerate(lines_of(text)):
+    for place, (line, ended) in enumerate(lines_of(text[len(MARK):] if marked else text)):
         total += len(line)
-        if place >= 1024 or len(line) > 240 or total > 49152:
+        if place >= 1024 or len(line) > longest or total > most:
             raise Refused(2, place)
-        statements.append(frame_of(line, ended, place).statement())
+        statements.append(frame_of(line, ended, place).statement(marked))
     return statements
 
 
@@ -179,5 +201,12 @@ def frame_bytes(s):
     return bytes([6 if s.kind == "bytes" else 7, len(s.args)]) + b"".join(put(a) for a in s.args)
 
 
-def line_of(statement):
-    return frame_bytes(statement).hex().upper().encode() + b"\n"
+def line_of(statement, has_line=False):
+    frame = frame_bytes(statement)
+    line = statement.line.to_bytes(4, "big") if has_line else b""
+    return (frame[:1] + line + frame[1:]).hex().upper().encode() + b"\n"
+
+
+def text_of(statements, marked=False):
+    """C-20: the output has the input's form."""
+    return (MARK if marked else b"") + b"".join(line_of(s, marked) for s in statements)

@@ -1,7 +1,7 @@
 """Rules 1 to 6 of document 01 over slots: an anchored target is ("inner", place, offset), and a slot that a fold drops is None."""
 from .forms import BRANCHES, BY_NAME, PAIRS, UNCONDITIONAL
 from .judging import Judge
-from .reading import Refused, line_of
+from .reading import Refused
 from .values import count_name, holds_name, names_in
 
 PATTERNS = [("inverted", a, b) for pair in PAIRS for a, b in (pair, pair[::-1])] + [("trampoline", k, k) for k in BRANCHES]
@@ -184,6 +184,3 @@ class Rewriter:
             if s is not None:
                 result.append(s)
         return result
-
-    def text(self):
-        return b"".join(line_of(s) for s in self.written())
