@@ -1,5 +1,4 @@
 // `check`: whether a text keeps the form of a listing (1 and 2), and how many statements it has.
-use crate::refusals;
 use io::print_decimal;
 use io::read_full;
 use io::write_all;
@@ -7,6 +6,7 @@ use libc::STDIN_FILENO;
 use libc::STDOUT_FILENO;
 use listing::Listed;
 use listing::read_listing;
+use telling::say;
 
 // A text that is longer than the buffer is refused within it: 57,344 characters, 1,024 line feeds and the first line are the most that is accepted.
 pub fn check_listing() {
@@ -17,7 +17,7 @@ pub fn check_listing() {
     let mut lines = [0u32; 1024];
     match read_listing(&text[..n], &mut frames, &mut starts, &mut lines) {
         Listed::Read(count) => good(count),
-        Listed::Refused(r) => refusals::say(r, &text[..n]),
+        Listed::Refused(r) => say(r, &text[..n]),
     }
 }
 

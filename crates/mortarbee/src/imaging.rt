@@ -1,5 +1,4 @@
 // `image`: the image of a listing as it stands, nothing rewritten; `image hex` writes it in digit pairs, sixteen to a line.
-use crate::refusals;
 use check::same;
 use desk::part;
 use desk::put_pair;
@@ -10,6 +9,7 @@ use libc::STDERR_FILENO;
 use libc::STDIN_FILENO;
 use libc::STDOUT_FILENO;
 use rules::Answer;
+use telling::say;
 
 pub fn image() {
     let mut word = io::buffer();
@@ -34,7 +34,7 @@ fn write_image(as_digits: bool) {
     let mut room = io::large_buffer();
     match assemble(&text[..n], &mut room) {
         Answer::Done(sizes) => put(&room, sizes.image, as_digits),
-        Answer::Refused(r) => refusals::say(r, &text[..n]),
+        Answer::Refused(r) => say(r, &text[..n]),
     }
 }
 

@@ -1,18 +1,16 @@
 // The program: a listing on standard input, the answer on standard output; the word after its name says the job.
-mod amounts; // how far an operand is off, in words
 mod checking; // reads a listing and says how many statements it has
-mod help; // the words, and each refusal explained
 mod imaging; // the image of a listing as it stands
-mod lines; // the text of a line
+mod numbers; // the numbers that people type
 mod optimizing; // the job of document 01
 mod options; // the switches of a run
-mod refusals; // each refusal in a number and a sentence
+mod placing; // where a statement sits
 
 use check::same;
 use libc::STDERR_FILENO;
-use libc::STDOUT_FILENO;
 use options::Asked;
-use options::options;
+use options::options_from;
+ghost use Prim.Native.Nat.{_<_};
 
 fn main() {
     let mut word = io::buffer();
@@ -23,19 +21,17 @@ fn main() {
 // With no word, or with options alone, the job is document 01's.
 fn job(word: &[u8]) {
     if is_option(word) {
-        optimize(false);
+        optimize(1);
     } else if same(word, b"optimize") {
-        optimize(true);
+        optimize(2);
     } else if same(word, b"check") {
         checking::check_listing();
     } else if same(word, b"image") {
         imaging::image();
     } else if same(word, b"batch") {
         batch();
-    } else if same(word, b"explain") {
-        help::explain();
-    } else if same(word, b"help") {
-        help::words(STDOUT_FILENO);
+    } else if same(word, b"where") {
+        placing::place();
     } else {
         misuse(word);
     }
@@ -49,24 +45,25 @@ fn is_option(word: &[u8]) -> bool {
     word[0] == 45
 }
 
-fn optimize(named: bool) {
-    match options(named) {
+fn optimize(first: usize)
+    requires { ⌜ first < 8 ⌝ }
+{
+    match options_from(first) {
         Asked::Are(asked) => optimizing::optimize(asked),
         Asked::Nothing => {}
     }
 }
 
 fn batch() {
-    match options(true) {
+    match options_from(2) {
         Asked::Are(asked) => desk::answer_all(asked, false),
         Asked::Nothing => {}
     }
 }
 
-// An unknown word is named, and the words that there are follow.
+// The script at the top knows the words, and lets no other come here.
 fn misuse(word: &[u8]) {
     io::write_all(STDERR_FILENO, b"mortarbee: no such word: ");
     io::write_all(STDERR_FILENO, word);
     io::write_all(STDERR_FILENO, b"\n");
-    help::words(STDERR_FILENO);
 }

@@ -1,5 +1,4 @@
 // The job of document 01: a listing in, the new one and a last line out, or the 7E line of a refusal.
-use crate::refusals;
 use desk::put_page;
 use io::read_full;
 use libc::STDIN_FILENO;
@@ -7,6 +6,7 @@ use printing::page_length;
 use printing::print_run;
 use rules::Answer;
 use rules::Settings;
+use telling::tell_person;
 
 // A text that is longer than the buffer is refused within it: 57,344 characters, 1,024 line feeds and the first line are the most that is accepted.
 pub fn optimize(asked: Settings) {
@@ -18,6 +18,6 @@ pub fn optimize(asked: Settings) {
     put_page(&page, page_length(answer));
     match answer {
         Answer::Done(_) => {}
-        Answer::Refused(r) => refusals::tell_person(r, &text[..n]),
+        Answer::Refused(r) => tell_person(r, &text[..n]),
     }
 }

@@ -2,6 +2,7 @@
 use check::same;
 use libc::STDERR_FILENO;
 use rules::Settings;
+ghost use Prim.Native.Nat.{_<_};
 
 // What the options ask for; nothing where one is not known, which was said.
 pub enum Asked {
@@ -66,13 +67,14 @@ fn then_word(before: Asked, place: usize) -> Asked {
     }
 }
 
-// The settings that the words from the first or from the second on ask for: up to the fourth, one more is misuse.
-pub fn options(from_second: bool) -> Asked {
-    if os::arg_count() > 5 {
+// The settings that the word at a place and the two behind it ask for; one more is misuse.
+pub fn options_from(place: usize) -> Asked
+    requires { ⌜ place < 8 ⌝ }
+{
+    if os::arg_count() > place + 3 {
         io::write_all(STDERR_FILENO, b"mortarbee: too many words\n");
         return Asked::Nothing;
     }
-    let all = Asked::Are(by_default());
-    let first = if from_second { all } else { then_word(all, 1) };
-    then_word(then_word(then_word(first, 2), 3), 4)
+    let first = with_word(by_default(), place);
+    then_word(then_word(first, place + 1), place + 2)
 }

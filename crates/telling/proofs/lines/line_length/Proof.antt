@@ -1,12 +1,12 @@
--- `mortarbee::lines::line_length` reads within the text, ends, and gives a place of it.
+-- `telling::lines::line_length` reads within the text, ends, and gives a place of it.
 use mathlib.Core.Path.{sym}
 use Prim.Native.Nat.{_-_, _≤_}
 use native.Mathlib.Omega.{arith}
 use lib.ListN.{length}
 use lib.Seq.{length-take-le}
 use borrow.Author.Needs.{needs}
-use Rattle.mortarbee.proofs.lines.line_length.Statement.{statement}
-use Rattle.mortarbee.proofs.lines.line_length.Tie as tie
+use Rattle.telling.proofs.lines.line_length.Statement.{statement}
+use Rattle.telling.proofs.lines.line_length.Tie as tie
 
 abbrev Inv-loop : tie.InvT-loop
 Inv-loop rest i₀ i = i ≤ length rest

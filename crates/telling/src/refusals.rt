@@ -2,6 +2,7 @@
 use crate::amounts::tell_amount;
 use crate::lines::line_at;
 use crate::lines::quote;
+use entries::Fault;
 use entries::fault_of;
 use io::print_decimal;
 use io::write_all;
@@ -25,6 +26,11 @@ fn sentence(number: u8) {
         9 => tell(b"a relative target is outside 0 to 65,535"),
         10 => tell(b"a relative target is too far away"),
         11 => tell(b"the target is in another page of 4,096 bytes"),
+        14 => tell(b"there is no such statement: the listing has fewer"),
+        16 => tell(b"the start is beyond the end of the image"),
+        17 => tell(b"the store does not have that family or edition"),
+        18 => tell(b"the store is full, or the family has its last edition, 65,535"),
+        19 => tell(b"the store holds a setting twice, or one out of its range"),
         _ => tell(b"a lent room is too short"),
     }
 }
@@ -52,11 +58,22 @@ fn line_of(place: usize, marked: bool) -> usize {
     place
 }
 
-// For a person, on standard error: the number, the place, the sentence, how far it is off, and the line's text.
+// For a person, on standard error: the number and what it means; for one that names a statement, its place and the line.
 pub fn tell_person(r: Refusal, text: &[u8]) {
     let f = fault_of(r);
     tell(b"refused ");
     print_decimal(STDERR_FILENO, f.number as u64);
+    if f.number < 12 {
+        tell_statement(f, text);
+    } else {
+        tell(b": ");
+        sentence(f.number);
+        tell(b"\n");
+    }
+}
+
+// The place, the sentence, how far it is off, and the line's text.
+fn tell_statement(f: Fault, text: &[u8]) {
     tell(b", statement ");
     print_decimal(STDERR_FILENO, f.place as u64);
     let marked = new_form(text);

@@ -1,12 +1,12 @@
--- `mortarbee::lines::line_start` reads within the text, ends, and gives a place of it.
+-- `telling::lines::line_start` reads within the text, ends, and gives a place of it.
 use mathlib.Core.Path.{sym}
 use Prim.Native.Nat.{_-_, _≤_}
 use native.Mathlib.Omega.{arith}
 use lib.ListN.{length}
 use lib.Seq.{length-take-le}
 use borrow.Author.Needs.{needs}
-use Rattle.mortarbee.proofs.lines.line_start.Statement.{statement}
-use Rattle.mortarbee.proofs.lines.line_start.Tie as tie
+use Rattle.telling.proofs.lines.line_start.Statement.{statement}
+use Rattle.telling.proofs.lines.line_start.Tie as tie
 
 abbrev Inv-loop : tie.InvT-loop
 Inv-loop text place left₀ i₀ left i = i ≤ length text

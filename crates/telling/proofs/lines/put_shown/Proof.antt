@@ -1,10 +1,10 @@
--- `mortarbee::lines::put_shown` reads within the text and ends.
+-- `telling::lines::put_shown` reads within the text and ends.
 use Prim.Native.Nat.{_-_, _≤_}
 use native.Mathlib.Omega.{arith}
 use lib.ListN.{length}
 use borrow.Author.Needs.{needs}
-use Rattle.mortarbee.proofs.lines.put_shown.Statement.{statement}
-use Rattle.mortarbee.proofs.lines.put_shown.Tie as tie
+use Rattle.telling.proofs.lines.put_shown.Statement.{statement}
+use Rattle.telling.proofs.lines.put_shown.Tie as tie
 
 abbrev Inv-loop : tie.InvT-loop
 Inv-loop text i₀ i = i ≤ length text

@@ -1,0 +1,10 @@
+-- ---- what is promised
+pub mod FullLayout
+pub mod Causes
+pub mod Coincide
+-- ---- what the proofs share
+pub mod LinesBefore
+pub mod Reading
+pub mod Laying
+-- ---- runs
+pub mod Runs

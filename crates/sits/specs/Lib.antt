@@ -1,0 +1,6 @@
+-- C-17: where statement n sits.
+pub mod Sits
+-- ---- what is shown
+pub mod Promise
+-- ---- words of the code's contracts
+pub mod Before
