@@ -5,6 +5,7 @@ mod numbers; // the numbers that people type
 mod optimizing; // the job of document 01
 mod options; // the switches of a run
 mod placing; // where a statement sits
+mod reading; // the listing of an image
 
 use check::same;
 use libc::STDERR_FILENO;
@@ -32,6 +33,8 @@ fn job(word: &[u8]) {
         batch();
     } else if same(word, b"where") {
         placing::place();
+    } else if same(word, b"read-back") {
+        reading::from_word();
     } else {
         misuse(word);
     }

@@ -1,0 +1,93 @@
+// The form and the size of the instruction that a byte begins.
+ghost use mathlib.Core.Path.{_≡_};
+ghost use Rattle.rules.specs.Forms.{sizeAt};
+ghost use Rattle.decoding.specs.Opcodes.{formOfByte};
+
+// A form, and its size in bytes.
+pub struct Opcode(pub u8, pub usize);
+
+// "Decide by ranges of the first byte".
+pub fn decode(b: u8) -> Opcode
+    ensures { λ r. ⌜ (r .0 ≡ formOfByte b) × (r .1 ≡ sizeAt (formOfByte b)) ⌝ }
+{
+    match b {
+        0x00 => Opcode(0x43, 1), // Nop
+        0x01 => Opcode(0x2C, 2), // Br
+        0x02..=0x03 => Opcode(0x1F, 2), // Ld_d9
+        0x04..=0x07 => Opcode(0x20, 1), // Ld_Ri
+        0x08..=0x0F => Opcode(0x3B, 2), // Call
+        0x10 => Opcode(0x3D, 3), // Callr
+        0x11 => Opcode(0x2D, 3), // Brf
+        0x12..=0x13 => Opcode(0x21, 2), // St_d9
+        0x14..=0x17 => Opcode(0x22, 1), // St_Ri
+        0x18..=0x1F => Opcode(0x3B, 2), // Call
+        0x20 => Opcode(0x3C, 3), // Callf
+        0x21 => Opcode(0x2B, 3), // Jmpf
+        0x22..=0x23 => Opcode(0x23, 3), // Mov_d9
+        0x24..=0x27 => Opcode(0x24, 2), // Mov_Rj
+        0x28..=0x2F => Opcode(0x2A, 2), // Jmp
+        0x30 => Opcode(0x10, 1), // Mul
+        0x31 => Opcode(0x35, 3), // Be_i8
+        0x32..=0x33 => Opcode(0x36, 3), // Be_d9
+        0x34..=0x37 => Opcode(0x37, 3), // Be_Rj
+        0x38..=0x3F => Opcode(0x2A, 2), // Jmp
+        0x40 => Opcode(0x11, 1), // Div
+        0x41 => Opcode(0x38, 3), // Bne_i8
+        0x42..=0x43 => Opcode(0x39, 3), // Bne_d9
+        0x44..=0x47 => Opcode(0x3A, 3), // Bne_Rj
+        0x48..=0x4F => Opcode(0x31, 3), // Bpc
+        0x50 => Opcode(0x44, 1), // Ldf
+        0x51 => Opcode(0x45, 1), // Stf
+        0x52..=0x53 => Opcode(0x33, 3), // Dbnz_d9
+        0x54..=0x57 => Opcode(0x34, 2), // Dbnz_Ri
+        0x58..=0x5F => Opcode(0x31, 3), // Bpc
+        0x60..=0x61 => Opcode(0x26, 2), // Push
+        0x62..=0x63 => Opcode(0x0C, 2), // Inc_d9
+        0x64..=0x67 => Opcode(0x0D, 1), // Inc_Ri
+        0x68..=0x6F => Opcode(0x30, 3), // Bp
+        0x70..=0x71 => Opcode(0x27, 2), // Pop
+        0x72..=0x73 => Opcode(0x0E, 2), // Dec_d9
+        0x74..=0x77 => Opcode(0x0F, 1), // Dec_Ri
+        0x78..=0x7F => Opcode(0x30, 3), // Bp
+        0x80 => Opcode(0x2E, 2), // Bz
+        0x81 => Opcode(0x00, 2), // Add_i8
+        0x82..=0x83 => Opcode(0x01, 2), // Add_d9
+        0x84..=0x87 => Opcode(0x02, 1), // Add_Ri
+        0x88..=0x8F => Opcode(0x32, 3), // Bn
+        0x90 => Opcode(0x2F, 2), // Bnz
+        0x91 => Opcode(0x03, 2), // Addc_i8
+        0x92..=0x93 => Opcode(0x04, 2), // Addc_d9
+        0x94..=0x97 => Opcode(0x05, 1), // Addc_Ri
+        0x98..=0x9F => Opcode(0x32, 3), // Bn
+        0xA0 => Opcode(0x3E, 1), // Ret
+        0xA1 => Opcode(0x06, 2), // Sub_i8
+        0xA2..=0xA3 => Opcode(0x07, 2), // Sub_d9
+        0xA4..=0xA7 => Opcode(0x08, 1), // Sub_Ri
+        0xA8..=0xAF => Opcode(0x42, 2), // Not1
+        0xB0 => Opcode(0x3F, 1), // Reti
+        0xB1 => Opcode(0x09, 2), // Subc_i8
+        0xB2..=0xB3 => Opcode(0x0A, 2), // Subc_d9
+        0xB4..=0xB7 => Opcode(0x0B, 1), // Subc_Ri
+        0xB8..=0xBF => Opcode(0x42, 2), // Not1
+        0xC0 => Opcode(0x1D, 1), // Ror
+        0xC1 => Opcode(0x25, 1), // Ldc
+        0xC2..=0xC3 => Opcode(0x28, 2), // Xch_d9
+        0xC4..=0xC7 => Opcode(0x29, 1), // Xch_Ri
+        0xC8..=0xCF => Opcode(0x40, 2), // Clr1
+        0xD0 => Opcode(0x1E, 1), // Rorc
+        0xD1 => Opcode(0x15, 2), // Or_i8
+        0xD2..=0xD3 => Opcode(0x16, 2), // Or_d9
+        0xD4..=0xD7 => Opcode(0x17, 1), // Or_Ri
+        0xD8..=0xDF => Opcode(0x40, 2), // Clr1
+        0xE0 => Opcode(0x1B, 1), // Rol
+        0xE1 => Opcode(0x12, 2), // And_i8
+        0xE2..=0xE3 => Opcode(0x13, 2), // And_d9
+        0xE4..=0xE7 => Opcode(0x14, 1), // And_Ri
+        0xE8..=0xEF => Opcode(0x41, 2), // Set1
+        0xF0 => Opcode(0x1C, 1), // Rolc
+        0xF1 => Opcode(0x18, 2), // Xor_i8
+        0xF2..=0xF3 => Opcode(0x19, 2), // Xor_d9
+        0xF4..=0xF7 => Opcode(0x1A, 1), // Xor_Ri
+        _ => Opcode(0x41, 2), // Set1
+    }
+}

@@ -1,0 +1,2 @@
+-- A piece stored in a room.
+pub mod Rooms
