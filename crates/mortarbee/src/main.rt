@@ -6,6 +6,7 @@ mod optimizing; // the job of document 01
 mod options; // the switches of a run
 mod placing; // where a statement sits
 mod reading; // the listing of an image
+mod storing; // settings kept by edition
 
 use check::same;
 use libc::STDERR_FILENO;
@@ -35,6 +36,10 @@ fn job(word: &[u8]) {
         placing::place();
     } else if same(word, b"read-back") {
         reading::from_word();
+    } else if same(word, b"settings") {
+        storing::settings();
+    } else if same(word, b"under") {
+        storing::under();
     } else {
         misuse(word);
     }
