@@ -1,4 +1,4 @@
-/* The entries of Mortarbee for C, as the archive of `rt staticlib entries` has them (x86-64 Linux, the C calling convention).
+/* The entries of Mortarbee for C, as the archive of `rt staticlib border` has them (x86-64 Linux, the C calling convention).
    The toolchain writes no header: this one says its rules, and fuzz/fuzz.c and the tests of rust/ hold it to the archive. */
 #ifndef MORTARBEE_H
 #define MORTARBEE_H
@@ -9,7 +9,8 @@
 /* How the border is crossed:
    - A slice is two arguments, its first byte and its length. The pointer is never null, not even with length 0.
    - A room that is lent to be written overlaps neither the listing nor another room.
-   - An enum does not cross it, so an answer is this struct, which is returned by value (in memory, as seven numbers are).
+   - An enum does not cross it, so an answer is a struct, which is returned by value (in memory, as five numbers and more are). Each begins with
+     the same four numbers; what follows them is 0 on a refusal.
    Nothing else is asked: any bytes may be handed over, and each call ends. */
 struct mortarbee_reply {
     uint64_t number;   /* 0: done; 1 to 12: the refusal of document 01, and no lent byte has changed */
@@ -32,5 +33,52 @@ struct mortarbee_reply mortarbee_optimize_jumps(uint8_t comments, uint8_t callf,
 /* Rooms that are never too short: 57,344 characters, four more for each of 1,024 transfers, 1,024 line feeds and the first line of five, and 65,536 bytes. */
 #define MORTARBEE_LISTING_ROOM 62469
 #define MORTARBEE_IMAGE_ROOM 65536
+
+/* ---- C-17: where does statement n sit? */
+
+struct mortarbee_sits {
+    uint64_t number;   /* 0: it is there; 1, 2, 5 and 6 for the statements before n; 14: n is above the statement count */
+    uint64_t place;    /* for 1, 2, 5 and 6 that of the statement refused */
+    uint64_t argument; /* 0 */
+    int64_t amount;    /* 0 */
+    uint64_t address;  /* the position before the statement's own org or pad; where n is the statement count, the end position */
+};
+
+/* Answers from the statements before n alone; what stands at n or behind is not looked at. */
+struct mortarbee_sits mortarbee_where_sits(const uint8_t *listing, size_t listing_len, size_t n);
+
+/* ---- C-24: settings kept by edition. A store is the first 160 bytes of the room: 32 places of five, the family and the edition in two bytes each, high
+   byte first, and the switches (1 comments, 2 Callf, 4 folds). Zeros are an empty store. What lies behind the 160 bytes never changes. */
+
+#define MORTARBEE_STORE_ROOM 160
+
+struct mortarbee_numbered {
+    uint64_t number;   /* 0: done; 12: the room is short; 17: unknown family; 18: full; 19: a setting held twice or out of range; then no byte has changed */
+    uint64_t place;    /* 0 */
+    uint64_t argument; /* 0 */
+    int64_t amount;    /* 0 */
+    uint64_t edition;  /* the number of the edition, from 1 */
+};
+
+struct mortarbee_found {
+    uint64_t number;   /* 0: found; 12: the room is short; 17: unknown family or edition; 19: a setting held twice or out of range */
+    uint64_t place;    /* 0 */
+    uint64_t argument; /* 0 */
+    int64_t amount;    /* 0 */
+    uint64_t edition;  /* the number of the edition */
+    uint64_t comments; /* its settings: 1 yes, 0 no */
+    uint64_t callf;
+    uint64_t folds;
+};
+
+/* Adds an edition of a family, numbered one above its newest from 1 on. The settings are given as to mortarbee_optimize_jumps. */
+struct mortarbee_numbered mortarbee_add_edition(uint8_t *room, size_t room_len, uint16_t family, uint8_t comments, uint8_t callf, uint8_t folds);
+
+/* The settings of an edition, and of the newest one of a family. */
+struct mortarbee_found mortarbee_get_edition(const uint8_t *room, size_t room_len, uint16_t family, uint16_t edition);
+struct mortarbee_found mortarbee_get_newest(const uint8_t *room, size_t room_len, uint16_t family);
+
+/* Drops the old editions of a family. The newest stays, and its number is given. */
+struct mortarbee_numbered mortarbee_drop_old(uint8_t *room, size_t room_len, uint16_t family);
 
 #endif

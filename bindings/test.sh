@@ -1,7 +1,7 @@
 #!/bin/sh
 # usage: test.sh [SECONDS]
 # Links the C programs, runs the tests of the Rust crate, and the fuzz program for so many seconds (10), all over
-# target/staticlib/libentries.a. Where x86-64 programs cannot be had, it says so, and the program is compared instead.
+# target/staticlib/libborder.a. Where x86-64 programs cannot be had, it says so, and the program is compared instead.
 set -eu
 here=$(cd "$(dirname "$0")" && pwd)
 target=$(cd "$here/.." && pwd)/target

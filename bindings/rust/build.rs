@@ -6,9 +6,9 @@ fn main() {
     let folder = std::env::var_os("MORTARBEE_ARCHIVE").map(PathBuf::from).unwrap_or_else(|| {
         PathBuf::from(std::env::var_os("CARGO_MANIFEST_DIR").expect("set by cargo")).join("../../target/staticlib")
     });
-    let archive = folder.join("libentries.a");
+    let archive = folder.join("libborder.a");
     println!("cargo:rerun-if-changed={}", archive.display());
-    assert!(archive.is_file(), "no {}: run 'rt staticlib entries' first", archive.display());
+    assert!(archive.is_file(), "no {}: run 'rt staticlib border' first", archive.display());
     println!("cargo:rustc-link-search=native={}", folder.display());
-    println!("cargo:rustc-link-lib=static=entries");
+    println!("cargo:rustc-link-lib=static=border");
 }

@@ -89,7 +89,7 @@ class Model:
 def ours(assemble):
     batch = os.path.join(TARGET, "bindings", "batch")
     if not os.path.exists(batch):
-        raise SystemExit("no %s: run 'rt staticlib entries' and bindings/build.sh first" % batch)
+        raise SystemExit("no %s: run 'rt staticlib border' and bindings/build.sh first" % batch)
     return Program("ours", [RUNNER, batch, "--sized"] + (["--assemble"] if assemble else []), sized=True)
 
 

@@ -4,8 +4,6 @@ pub mod Phases
 -- ---- the main entry
 pub mod Deliveries
 pub mod Results
--- ---- the entries for C
-pub mod Replies
 -- ---- what the contracts say: two results coincide, and the demands
 pub mod Coincide
 pub mod Demands

@@ -2,4 +2,3 @@
 pub mod Faults
 pub mod Assembling
 pub mod Optimizing
-pub mod Exported

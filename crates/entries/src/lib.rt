@@ -1,14 +1,10 @@
 // The public entries: nothing is asked of the caller, and every lent byte is accounted for.
 mod assembling; // a listing to its image
-mod exported; // the entries for C
 mod faults; // each refusal by its number, place, argument and number at fault
 mod finishing; // an end form to its listing and its image
 mod optimizing; // a listing to its end form
 
 pub use assembling::assemble;
-pub use exported::Reply;
-pub use exported::mortarbee_assemble;
-pub use exported::mortarbee_optimize_jumps;
 pub use faults::Fault;
 pub use faults::fault_of;
 pub use optimizing::optimize_jumps;

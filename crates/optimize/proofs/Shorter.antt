@@ -1,12 +1,16 @@
 -- Rule 4 over the slots: which shorter forms are tried at a place, and that each may stand there.
 use mathlib.Core.Path.{_≡_, refl, sym, ap, _∙_, subst}
-use mathlib.Core.List.{List}
+use mathlib.Core.List.{List, [], _∷_}
+use mathlib.Core.Logic.{⊎-elim}
 use mathlib.Core.Option.{Option, none, some}
 use mathlib.Core.Bool.{true, false}
 use Prim.Native.Nat.{ℕ, _<_}
 use native.Mathlib.Omega.{arith}
+use lib.Dec.{eqb}
 use lib.ListN.{getD, set}
-use borrow.Author.Tests.{ne-eqb}
+use borrow.Author.Tests.{ne-eqb, eqb-true}
+use Rattle.laws.specs.Lists.{isOneOf}
+use Rattle.laws.proofs.Tests.{or-true, false-true}
 use Rattle.laws.specs.Options.{orElse, given, firstOf, bind}
 use Rattle.rules.specs.Forms.{formAt, isTransfer, jmp, jmpf, br, call, callf}
 use Rattle.rules.specs.Programs.{Placeℕ, Stmt, gone, instr, label, variable, comment, org, bytes, words, pad, onInstr, asInstr, argsOf, Program, at, kindOf}
@@ -32,11 +36,15 @@ call-fits : Agree call callf
 unfolding isTransfer formAt
 call-fits = record { known = omega arith; registers = refl; transfer = refl }
 
-pub br-for : (f : ℕ) → f ≡ jmpf → Agree br f
-br-for f e = subst (λ (g : ℕ). Agree br g) (sym e) br-fits
+-- "tries Br, then Jmp": either may stand there, so that their order is told by the answer alone
+pub jump-for : (g f : ℕ) → isOneOf (br ∷ jmp ∷ []) g ≡ true → f ≡ jmpf → Agree g f
+jump-for g f t e = subst (λ (h : ℕ). Agree g h) (sym e) (⊎-elim first second (or-true (eqb br g) (isOneOf (jmp ∷ []) g) t))
+  where
+    first : eqb br g ≡ true → Agree g jmpf
+    first h = subst (λ (x : ℕ). Agree x jmpf) (eqb-true br g h) br-fits
 
-pub jmp-for : (f : ℕ) → f ≡ jmpf → Agree jmp f
-jmp-for f e = subst (λ (g : ℕ). Agree jmp g) (sym e) jmp-fits
+    second : isOneOf (jmp ∷ []) g ≡ true → Agree g jmpf
+    second h = ⊎-elim (λ k. subst (λ (x : ℕ). Agree x jmpf) (eqb-true jmp g k) jmp-fits) (λ k. false-true k) (or-true (eqb jmp g) false h)
 
 pub call-for : (f : ℕ) → f ≡ callf → Agree call f
 call-for f e = subst (λ (g : ℕ). Agree call g) (sym e) call-fits

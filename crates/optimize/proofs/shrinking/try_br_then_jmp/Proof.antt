@@ -1,12 +1,12 @@
 -- `optimize::shrinking::try_br_then_jmp` meets its contract.
-use mathlib.Core.Path.{ap, _∙_}
+use mathlib.Core.Path.{refl, ap, _∙_}
 use lib.ListN.{getD}
 use Rattle.rules.specs.Forms.{br, jmp}
 use Rattle.rules.specs.Programs.{kindOf}
 use Rattle.slots.specs.Slots.{Slots, slots, slotAt}
 use Rattle.attempts.specs.Shrinks.{shrunk}
 use Rattle.optimize.proofs.Tries.{same-slots, tried-first, tried-second, tried-missed, still-deep}
-use Rattle.optimize.proofs.Shorter.{br-for, jmp-for}
+use Rattle.optimize.proofs.Shorter.{jump-for}
 use Rattle.optimize.proofs.shrinking.try_br_then_jmp.Statement.{statement}
 use Rattle.optimize.proofs.shrinking.try_br_then_jmp.Tie as tie
 
@@ -17,7 +17,7 @@ here c =
 try-form-requires : tie.Need-try-form-requires
 try-form-requires c κs =
     let s = c .before .before in
-    (s .pre .0, s .pre .1, s .pre .2, s .pre .3, br-for _ (s .pre .4))
+    (s .pre .0, s .pre .1, s .pre .2, s .pre .3, jump-for _ _ refl (s .pre .4))
 
 returns : tie.Need-returns
 returns c =
@@ -35,7 +35,7 @@ try-form-requires-2 c κs =
       still-deep same (s .pre .1),
       s .pre .2,
       ap (λ (t : Slots). kindOf (slotAt t (s .args .at .0))) same ∙ s .pre .3,
-      jmp-for _ (ap (λ f. getD f (s .args .at .0) 0) kept ∙ s .pre .4),
+      jump-for _ _ refl (ap (λ f. getD f (s .args .at .0) 0) kept ∙ s .pre .4),
     )
 
 returns-2 : tie.Need-returns-2

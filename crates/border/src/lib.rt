@@ -1,0 +1,15 @@
+// The entries for C and Rust. Nothing is asked of the caller, and every lent byte is accounted for.
+mod exported; // the functions
+mod replies; // their answers, as structs of numbers
+
+pub use exported::mortarbee_add_edition;
+pub use exported::mortarbee_assemble;
+pub use exported::mortarbee_drop_old;
+pub use exported::mortarbee_get_edition;
+pub use exported::mortarbee_get_newest;
+pub use exported::mortarbee_optimize_jumps;
+pub use exported::mortarbee_where_sits;
+pub use replies::FoundReply;
+pub use replies::NumberedReply;
+pub use replies::Reply;
+pub use replies::SitsReply;
