@@ -23,7 +23,7 @@ with_kit() {
 }
 
 mkdir -p "$target/bindings"
-for program in c/batch fuzz/fuzz; do
+for program in c/batch c/where fuzz/fuzz; do
     out=$target/bindings/${program#*/}
     if command -v "$cc" >/dev/null; then
         "$cc" $flags -o "$out" "$here/$program.c" "$archive"

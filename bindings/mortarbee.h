@@ -13,7 +13,7 @@
      the same four numbers; what follows them is 0 on a refusal.
    Nothing else is asked: any bytes may be handed over, and each call ends. */
 struct mortarbee_reply {
-    uint64_t number;   /* 0: done; 1 to 12: the refusal of document 01, and no lent byte has changed */
+    uint64_t number;   /* 0: done; 1 to 12: the refusal of document 01, and no lent byte has changed; of a run under an edition also 17 and 19 */
     uint64_t place;    /* of the statement refused, from 0; for 12 the statement count; 0 when done */
     uint64_t argument; /* for 8 to 11 the place of the argument or data item, from 0; else 0 */
     int64_t amount;    /* for 8, 9 and 11 its value, for 10 the difference; else 0 */
@@ -46,6 +46,10 @@ struct mortarbee_sits {
 
 /* Answers from the statements before n alone; what stands at n or behind is not looked at. */
 struct mortarbee_sits mortarbee_where_sits(const uint8_t *listing, size_t listing_len, size_t n);
+
+/* ---- C-21: the listing of an image, from the address `start` on, in the old form; it assembles to the same bytes. `rewrites` and `image` are 0. Refusals: 16
+   for a start beyond the end of the image, 2, then 12 with the count of statements that would come out. A room of 50,176 bytes is never too short. */
+struct mortarbee_reply mortarbee_read_back(const uint8_t *image, size_t image_len, size_t start, uint8_t *listing, size_t listing_len);
 
 /* ---- C-24: settings kept by edition. A store is the first 160 bytes of the room: 32 places of five, the family and the edition in two bytes each, high
    byte first, and the switches (1 comments, 2 Callf, 4 folds). Zeros are an empty store. What lies behind the 160 bytes never changes. */
@@ -80,5 +84,9 @@ struct mortarbee_found mortarbee_get_newest(const uint8_t *room, size_t room_len
 
 /* Drops the old editions of a family. The newest stays, and its number is given. */
 struct mortarbee_numbered mortarbee_drop_old(uint8_t *room, size_t room_len, uint16_t family);
+
+/* mortarbee_optimize_jumps under the settings of an edition, 0 for the newest one of the family. 12 (with place 0), 19 and 17 of the store come first. */
+struct mortarbee_reply mortarbee_optimize_jumps_under(const uint8_t *store, size_t store_len, uint16_t family, uint16_t edition, const uint8_t *listing,
+                                                      size_t listing_len, uint8_t *out, size_t out_len, uint8_t *image, size_t image_len);
 
 #endif

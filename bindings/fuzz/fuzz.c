@@ -1,114 +1,24 @@
-/* Hands arbitrary bytes to each entry for a time, and looks for a crash, a byte changed on refusal or behind a result, a hang, and source
-   lines that alter an answer.
+/* Hands arbitrary bytes to each entry for a time, and looks for a crash, a byte changed on refusal or behind a result, a hang, source lines that alter an
+   answer, and addresses, editions, runs under an edition and images read back that are not what C-17, C-24 and C-21 say.
    usage: fuzz [--seed N] [--seconds N]. What failed is written to fuzz.failed. Built by ../build.sh. */
-#include <fcntl.h>
-#include <signal.h>
-#include <stdio.h>
-#include <stdlib.h>
-#include <sys/mman.h>
-#include <time.h>
-#include <unistd.h>
-
 #include "../mortarbee.h"
+#include "rooms.h"
 #include "texts.h"
+#include "places.h"
+#include "stores.h"
+#include "images.h"
 
-#define HANG 300 /* seconds for one call */
-
-static struct text one, two, *text = &one, *before = &two;
-static uint64_t calls, done, refusals[13], marked, compared;
-static double longest;
+static uint64_t done, refusals[13], marked, compared, under_runs;
 static unsigned asked; /* the settings, by number: 1 keeps comments, 2 lets Callf shrink, 4 lets folds run */
-
-/* A room that ends where a page begins that nobody may touch: a step beyond it is a crash. */
-struct room {
-    uint8_t *start, *end, *copy;
-    size_t n;
-};
-
-static struct room listing_room, out_room, image_room;
-
-static void make_room(struct room *r, size_t most) {
-    size_t page = (size_t)sysconf(_SC_PAGESIZE), whole = (most + page - 1) / page * page;
-    uint8_t *p = mmap(NULL, whole + page, PROT_READ | PROT_WRITE, MAP_PRIVATE | MAP_ANONYMOUS, -1, 0);
-    if (p == MAP_FAILED || mprotect(p + whole, page, PROT_NONE) != 0) {
-        perror("fuzz");
-        exit(2);
-    }
-    r->end = p + whole;
-    r->copy = malloc(most + 1);
-}
-
-static void lend(struct room *r, size_t n, uint64_t fill) {
-    r->n = n;
-    r->start = r->end - n;
-    for (size_t i = 0; i < n; i++) {
-        r->copy[i] = (uint8_t)(fill + i * 7);
-    }
-    memcpy(r->start, r->copy, n);
-}
-
-static int kept_from(const struct room *r, size_t at) { return memcmp(r->start + at, r->copy + at, r->n - at) == 0; }
-
-static void say(const char *words) {
-    if (write(2, words, strlen(words)) < 0) {
-        _exit(1);
-    }
-}
-
-static void say_number(uint64_t n) {
-    char digits[21], *at = digits + 20;
-    *at = 0;
-    do {
-        *--at = (char)('0' + n % 10);
-        n /= 10;
-    } while (n);
-    say(at);
-}
-
-/* Ends the run. It may be called in a signal, so it only opens and writes. */
-static void save(const char *what) {
-    int file = open("fuzz.failed", O_WRONLY | O_CREAT | O_TRUNC, 0644);
-    if (file < 0 || write(file, text->at, text->n) != (ssize_t)text->n) {
-        say("fuzz.failed cannot be written\n");
-    }
-    say("FAILED after ");
-    say_number(calls);
-    say(" calls: ");
-    say(what);
-    say("; listing room ");
-    say_number(out_room.n);
-    say(", image room ");
-    say_number(image_room.n);
-    say("; the text is in fuzz.failed\n");
-    _exit(1);
-}
-
-static void on_signal(int number) { save(number == SIGALRM ? "a call did not end" : "a crash"); }
-
-static void check(int good, const char *what) {
-    if (!good) {
-        save(what);
-    }
-}
-
-static double now(void) {
-    struct timespec t;
-    clock_gettime(CLOCK_MONOTONIC, &t);
-    return (double)t.tv_sec + (double)t.tv_nsec / 1e9;
-}
 
 static struct mortarbee_reply call(int rewrite, size_t out_n, size_t image_n, uint64_t fill) {
     struct mortarbee_reply r;
     lend(&out_room, rewrite ? out_n : 0, fill);
     lend(&image_room, image_n, fill + 1);
-    alarm(HANG);
-    double began = now();
+    begin_call();
     r = rewrite ? mortarbee_optimize_jumps(asked & 1, asked >> 1 & 1, asked >> 2 & 1, listing_room.start, listing_room.n, out_room.start, out_n, image_room.start, image_n)
                 : mortarbee_assemble(listing_room.start, listing_room.n, image_room.start, image_n);
-    double took = now() - began;
-    alarm(0);
-    longest = took > longest ? took : longest;
-    calls++;
+    end_call();
     check(memcmp(listing_room.start, text->at, text->n) == 0, "the listing was changed");
     check(r.number <= 12, "a refusal above 12");
     if (r.number != 0) {
@@ -125,30 +35,6 @@ static struct mortarbee_reply call(int rewrite, size_t out_n, size_t image_n, ui
 }
 
 static int same(struct mortarbee_reply a, struct mortarbee_reply b) { return memcmp(&a, &b, sizeof a) == 0; }
-
-/* How many statements the text has; its mark is none (C-20). */
-static size_t statements(void) {
-    size_t n = text->n && text->at[text->n - 1] != '\n';
-    n -= is_marked(text->at, text->n);
-    for (size_t i = 0; i < text->n; i++) {
-        n += text->at[i] == '\n';
-    }
-    return n;
-}
-
-/* A size: short of n, n, or more. */
-static size_t about(size_t n) {
-    switch (below(4)) {
-    case 0:
-        return n;
-    case 1:
-        return n + below(9);
-    case 2:
-        return n ? n - 1 : 0;
-    default:
-        return below(n + 1);
-    }
-}
 
 static uint8_t out[MORTARBEE_LISTING_ROOM], image[MORTARBEE_IMAGE_ROOM];
 
@@ -219,10 +105,39 @@ static void without_lines(struct mortarbee_reply r) {
     check(memcmp(image, image_room.start, r.image) == 0, "source lines altered the image");
 }
 
+/* A run under an edition of the store at hand, or under a newest: as it is under the settings that are found there. `out` and `image` hold that run. */
+static void try_under(void) {
+    size_t k = below(PLACES), out_n = about(MORTARBEE_LISTING_ROOM), image_n = about(MORTARBEE_IMAGE_ROOM);
+    int held = below(4) != 0;
+    unsigned family = held ? family_at(k) : any_family(), edition = held && below(3) ? edition_at(k) : any_edition();
+    unsigned expected = expected_of(family, edition, 1, &k);
+    struct mortarbee_reply plain = {0}, r;
+    if (expected == 0) {
+        asked = switches_at(k);
+        plain = call(1, out_n, image_n, next());
+        memcpy(out, out_room.start, plain.listing);
+        memcpy(image, image_room.start, plain.image);
+    }
+    lend(&out_room, out_n, next());
+    lend(&image_room, image_n, next());
+    lend_store();
+    r = mortarbee_optimize_jumps_under(store_room.start, store.n, (uint16_t)family, (uint16_t)edition, listing_room.start, listing_room.n, out_room.start, out_n,
+                                       image_room.start, image_n);
+    end_store(expected ? r.number : 0, expected);
+    under_runs += r.number == 0;
+    plain.number = expected ? expected : plain.number;
+    check(same(plain, r), "another answer under an edition");
+    check(memcmp(listing_room.start, text->at, text->n) == 0, "the listing was changed");
+    check(memcmp(out, out_room.start, r.listing) == 0 && kept_from(&out_room, r.listing), "another listing under an edition");
+    check(memcmp(image, image_room.start, r.image) == 0 && kept_from(&image_room, r.image), "another image under an edition");
+}
+
 static void hand_over(uint64_t number) {
     asked = number % 8;
     lend_text();
     struct mortarbee_reply plain = try_entry(0);
+    try_places(plain);
+    lend_text();
     struct mortarbee_reply rewritten = try_entry(1);
     check(plain.number == rewritten.number && plain.place == rewritten.place && plain.argument == rewritten.argument && plain.amount == rewritten.amount,
           "assembled and rewritten are not refused alike");
@@ -231,6 +146,12 @@ static void hand_over(uint64_t number) {
         marked++;
         without_lines(rewritten);
     }
+    for (int i = 0; i < 8; i++) {
+        try_store();
+    }
+    lend_text();
+    try_under();
+    try_images();
 }
 
 int main(int argc, char **argv) {
@@ -250,6 +171,8 @@ int main(int argc, char **argv) {
     make_room(&listing_room, TEXT_ROOM);
     make_room(&out_room, MORTARBEE_LISTING_ROOM + 16);
     make_room(&image_room, MORTARBEE_IMAGE_ROOM + 16);
+    make_room(&store_room, STORE_MOST);
+    zeros();
     double end = now() + (double)seconds;
     uint64_t texts = 0;
     while (now() < end) {
@@ -265,6 +188,14 @@ int main(int argc, char **argv) {
     for (int i = 1; i <= 12; i++) {
         printf(" %d: %llu%s", i, (unsigned long long)refusals[i], i < 12 ? "," : "");
     }
-    printf("; with source lines: %llu texts, %llu compared with the same in the old form\n", (unsigned long long)marked, (unsigned long long)compared);
+    printf("; with source lines: %llu texts, %llu compared with the same in the old form", (unsigned long long)marked, (unsigned long long)compared);
+    printf("; places: %llu with an address, %llu refused", (unsigned long long)addresses, (unsigned long long)without_address);
+    printf("; images: %llu read back, %llu refused", (unsigned long long)read_back_done, (unsigned long long)read_back_refused);
+    printf("; stores: %llu calls, %llu accepted runs under an edition; refused:", (unsigned long long)store_calls, (unsigned long long)under_runs);
+    for (int i = 12; i <= 19; i++) {
+        if (i == 12 || i >= 17) {
+            printf(" %d: %llu%s", i, (unsigned long long)store_refusals[i], i < 19 ? "," : "\n");
+        }
+    }
     return 0;
 }

@@ -118,6 +118,13 @@ static void put_label(struct text *t, unsigned name) {
     put_two(t, name);
 }
 
+/* C-11: what is added, and the multiple. */
+static void put_pad(struct text *t) {
+    put_byte(t, 8);
+    put_byte(t, below(3) ? (unsigned)below(4) : (unsigned)below(256));
+    put_two(t, below(3) ? 1 + (unsigned)below(8) : (unsigned)below(258));
+}
+
 /* One sound line; `fresh` counts the labels up, so that most are defined once. */
 static void put_line(struct text *t, unsigned *fresh) {
     switch (below(14)) {
@@ -126,7 +133,11 @@ static void put_line(struct text *t, unsigned *fresh) {
         put_label(t, *fresh < 6 ? 0x8000 + (*fresh)++ : below(8) ? 0x9000 + (unsigned)below(999) : (unsigned)below(30));
         break;
     case 2:
-        put_byte(t, 4);
+        if (below(3) == 0) {
+            put_pad(t);
+        } else {
+            put_byte(t, 4);
+        }
         break;
     case 3:
         put_data(t);

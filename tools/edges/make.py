@@ -45,8 +45,8 @@ def extras():
     """Limits that are too long for a table: 1,024 statements, 120 bytes a frame, 24,576 frame bytes in all, and those of the new form."""
     long = "04" + 119 * "AB" + "\n"
     full = 204 * long + "04" + 95 * "AB" + "\n"
-    yield "1,024 statements", 1024 * "0143\n", "7F0000000400"
-    yield "1,025 statements", 1025 * "0143\n", "7E0204000000000000"
+    yield "1,024 statements", 1024 * "04\n", "7F0000000000"
+    yield "7D02 as statement 1,025", 1024 * "04\n" + "7D02\n", "7E0204000000000000"
     yield "a frame of 120 bytes", long, "7F0000000000"
     yield "a frame of 121 bytes", long[:-1] + "AB\n", "7E0200000000000000"
     yield "24,576 frame bytes", full, "7F0000000000"
@@ -57,6 +57,8 @@ def extras():
     yield "a frame of 124 bytes", "7D02\n" + lined, "7F0000000000"
     yield "a frame of 125 bytes", "7D02\n" + lined[:-1] + "AB\n", "7E0200000000000000"
     yield "28,672 frame bytes", filled, "7F0000000000"
+    yield "1,024 statements, 7D02 before them", "7D02\n" + 1024 * "0400000000\n", "7F0000000000"
+    yield "7D02 as statement 1,025, 7D02 before all", "7D02\n" + 1024 * "0400000000\n" + "7D02\n", "7E0204000000000000"
     yield "28,678 frame bytes", filled + "010000000143\n", "7E0200E80000000000"
 
 

@@ -18,12 +18,12 @@ pub struct Done {
     pub image: usize,
 }
 
-/// One of the twelve refusals of document 01.
+/// One of the refusals of documents 01 and 02.
 #[derive(Clone, Copy, Debug, PartialEq, Eq)]
 pub struct Refusal {
-    /// 1 to 12.
+    /// 1 to 12; 14 of `where_sits`; 16 of `read_back`; 17 to 19 of a store.
     pub number: u8,
-    /// The statement's place from 0; for 12 the statement count.
+    /// The statement's place from 0; for 12 the statement count; 0 for 14, 16 and of a store.
     pub place: usize,
     /// For 8 to 11 the place of the argument or data item, from 0; else 0.
     pub argument: usize,
@@ -40,16 +40,52 @@ impl fmt::Display for Refusal {
 
 impl std::error::Error for Refusal {}
 
-/// As in mortarbee.h.
+/// The four numbers that each answer of mortarbee.h begins with: a struct in a struct lies as its fields do.
 #[repr(C)]
-struct Reply {
+struct Told {
     number: u64,
     place: u64,
     argument: u64,
     amount: i64,
+}
+
+impl Told {
+    /// What was asked for, unless it is refused.
+    fn unless<T>(self, it: T) -> Result<T, Refusal> {
+        if self.number == 0 {
+            return Ok(it);
+        }
+        Err(Refusal { number: self.number as u8, place: self.place as usize, argument: self.argument as usize, amount: self.amount as i32 })
+    }
+}
+
+#[repr(C)]
+struct Reply {
+    told: Told,
     listing: u64,
     rewrites: u64,
     image: u64,
+}
+
+#[repr(C)]
+struct SitsReply {
+    told: Told,
+    address: u64,
+}
+
+#[repr(C)]
+struct NumberedReply {
+    told: Told,
+    edition: u64,
+}
+
+#[repr(C)]
+struct FoundReply {
+    told: Told,
+    edition: u64,
+    comments: u64,
+    callf: u64,
+    folds: u64,
 }
 
 // A slice crosses as its pointer and its length. A reference to a slice is never null, and `&mut` never overlaps: that is all
@@ -67,18 +103,28 @@ extern "C" {
         image: *mut u8,
         image_len: usize,
     ) -> Reply;
+    fn mortarbee_read_back(image: *const u8, image_len: usize, start: usize, listing: *mut u8, listing_len: usize) -> Reply;
+    fn mortarbee_where_sits(listing: *const u8, listing_len: usize, n: usize) -> SitsReply;
+    fn mortarbee_add_edition(room: *mut u8, room_len: usize, family: u16, comments: u8, callf: u8, folds: u8) -> NumberedReply;
+    fn mortarbee_get_edition(room: *const u8, room_len: usize, family: u16, edition: u16) -> FoundReply;
+    fn mortarbee_get_newest(room: *const u8, room_len: usize, family: u16) -> FoundReply;
+    fn mortarbee_drop_old(room: *mut u8, room_len: usize, family: u16) -> NumberedReply;
+    fn mortarbee_optimize_jumps_under(
+        store: *const u8,
+        store_len: usize,
+        family: u16,
+        edition: u16,
+        listing: *const u8,
+        listing_len: usize,
+        out: *mut u8,
+        out_len: usize,
+        image: *mut u8,
+        image_len: usize,
+    ) -> Reply;
 }
 
-fn answer(reply: Reply) -> Result<Done, Refusal> {
-    if reply.number != 0 {
-        return Err(Refusal {
-            number: reply.number as u8,
-            place: reply.place as usize,
-            argument: reply.argument as usize,
-            amount: reply.amount as i32,
-        });
-    }
-    Ok(Done { listing: reply.listing as usize, rewrites: reply.rewrites as usize, image: reply.image as usize })
+fn answer(r: Reply) -> Result<Done, Refusal> {
+    r.told.unless(Done { listing: r.listing as usize, rewrites: r.rewrites as usize, image: r.image as usize })
 }
 
 /// Judges a listing as it stands, and writes its image.
@@ -107,6 +153,74 @@ pub fn optimize_jumps(asked: Settings, listing: &[u8], out: &mut [u8], image: &m
             asked.comments as u8,
             asked.callf as u8,
             asked.folds as u8,
+            listing.as_ptr(),
+            listing.len(),
+            out.as_mut_ptr(),
+            out.len(),
+            image.as_mut_ptr(),
+            image.len(),
+        )
+    })
+}
+
+/// C-21: writes the listing of an image from the address `start` on, in the old form, and gives its length. It assembles to the same bytes.
+pub fn read_back(image: &[u8], start: usize, listing: &mut [u8]) -> Result<usize, Refusal> {
+    answer(unsafe { mortarbee_read_back(image.as_ptr(), image.len(), start, listing.as_mut_ptr(), listing.len()) }).map(|done| done.listing)
+}
+
+/// C-17: the address of statement n, the position before its own org or pad; where n is the statement count, the end position. Answered from
+/// the statements before n alone.
+pub fn where_sits(listing: &[u8], n: usize) -> Result<usize, Refusal> {
+    let r = unsafe { mortarbee_where_sits(listing.as_ptr(), listing.len(), n) };
+    r.told.unless(r.address as usize)
+}
+
+/// A store room that is just long enough. Zeros are an empty store, and bytes beyond these never change.
+pub const STORE_ROOM: usize = 160;
+
+/// An edition of a family: its number from 1 on, and the settings of a run under it.
+#[derive(Clone, Copy, Debug, PartialEq, Eq)]
+pub struct Edition {
+    pub number: u16,
+    pub settings: Settings,
+}
+
+fn edition_in(r: FoundReply) -> Result<Edition, Refusal> {
+    let settings = Settings { comments: r.comments != 0, callf: r.callf != 0, folds: r.folds != 0 };
+    r.told.unless(Edition { number: r.edition as u16, settings })
+}
+
+/// C-24: adds an edition of a family, and gives its number.
+pub fn add_edition(store: &mut [u8], family: u16, settings: Settings) -> Result<u16, Refusal> {
+    let (comments, callf, folds) = (settings.comments as u8, settings.callf as u8, settings.folds as u8);
+    let r = unsafe { mortarbee_add_edition(store.as_mut_ptr(), store.len(), family, comments, callf, folds) };
+    r.told.unless(r.edition as u16)
+}
+
+/// An edition of a family.
+pub fn get_edition(store: &[u8], family: u16, edition: u16) -> Result<Edition, Refusal> {
+    edition_in(unsafe { mortarbee_get_edition(store.as_ptr(), store.len(), family, edition) })
+}
+
+/// The newest edition of a family.
+pub fn get_newest(store: &[u8], family: u16) -> Result<Edition, Refusal> {
+    edition_in(unsafe { mortarbee_get_newest(store.as_ptr(), store.len(), family) })
+}
+
+/// Drops the old editions of a family, and gives the number of the newest, which stays.
+pub fn drop_old(store: &mut [u8], family: u16) -> Result<u16, Refusal> {
+    let r = unsafe { mortarbee_drop_old(store.as_mut_ptr(), store.len(), family) };
+    r.told.unless(r.edition as u16)
+}
+
+/// `optimize_jumps` under an edition of a family, 0 for its newest.
+pub fn optimize_jumps_under(store: &[u8], family: u16, edition: u16, listing: &[u8], out: &mut [u8], image: &mut [u8]) -> Result<Done, Refusal> {
+    answer(unsafe {
+        mortarbee_optimize_jumps_under(
+            store.as_ptr(),
+            store.len(),
+            family,
+            edition,
             listing.as_ptr(),
             listing.len(),
             out.as_mut_ptr(),

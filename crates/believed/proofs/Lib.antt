@@ -18,5 +18,9 @@ pub mod Named
 -- ---- what is carried
 pub mod Recarried
 pub mod Uncarried
+-- ---- source lines
+pub mod LinesRead
+pub mod LinesWritten
+pub mod LinesAlone
 -- ---- down to the entry
 pub mod Entry

@@ -6,6 +6,7 @@ pub mod Offsets
 -- ---- promises
 pub mod Bytes
 pub mod Causes
+pub mod LinesAlone
 pub mod Named
 pub mod Uncarried
 -- ---- down to the entry

@@ -4,9 +4,11 @@ use mathlib.Core.List.{List}
 use Prim.Native.Nat.{ℕ}
 use lib.ListN.{length}
 use Rattle.rules.specs.declared.Answer.{Answer}
-use Rattle.rules.specs.declared.Settings.{Settings}
-use Rattle.rules.specs.Run.{assembled, run, answerOf, listingAfter, imageAfter}
+use Rattle.rules.specs.Answers.{Judged}
+use Rattle.rules.specs.Run.{Output, assembled, run, answerOf, listingAfter, imageAfter}
 use Rattle.entries.specs.Assembling.{answerAs, roomAs}
+use Rattle.readback.specs.ReadBack.{readBack}
+use Rattle.readback.specs.Entry.{answerAs as readAs, roomAs as readRoom}
 use Rattle.sits.specs.declared.Sits.{Sits}
 use Rattle.sits.specs.Sits.{sits, sitsAs}
 use Rattle.store.specs.declared.Found.{Found}
@@ -16,7 +18,7 @@ use Rattle.border.specs.declared.replies.Reply.{Reply}
 use Rattle.border.specs.declared.replies.SitsReply.{SitsReply}
 use Rattle.border.specs.declared.replies.NumberedReply.{NumberedReply}
 use Rattle.border.specs.declared.replies.FoundReply.{FoundReply}
-use Rattle.border.specs.Exported.{askedBy, Says, SaysSits, SaysNumbered, SaysFound}
+use Rattle.border.specs.Exported.{askedBy, runUnder, Says, SaysSits, SaysNumbered, SaysFound}
 
 -- ---- an answer is said by one struct
 
@@ -53,7 +55,15 @@ one-found a r s h k =
       h .folds ∙ sym (k .folds),
     )
 
--- ---- document 01
+-- ---- document 01, and C-24's run under an edition
+
+-- what a contract says of the answer and of both rooms, where a run ends so
+abbrev Ended : (end : Judged Output) (out image : List ℕ) (r : Reply) (out′ image′ : List ℕ) → Type 0
+Ended end out image r out′ image′ = Says r (answerOf end) × (out′ ≡ listingAfter end out) × (image′ ≡ imageAfter end image)
+
+one-end : (end : Judged Output) (out image : List ℕ) (r s : Reply) (x y v w : List ℕ)
+    → Ended end out image r x v → Ended end out image s y w → (r ≡ s) × (x ≡ y) × (v ≡ w)
+one-end end out image r s x y v w a b = (one-reply _ r s (a .0) (b .0), a .1 ∙ sym (b .1), a .2 ∙ sym (b .2))
 
 module _ (text : List ℕ) where
   -- `mortarbee_assemble`
@@ -63,17 +73,19 @@ module _ (text : List ℕ) where
       → (r ≡ s) × (x ≡ y)
   one-assembled room r s x y a b = (one-reply _ r s (a .0) (b .0), a .1 ∙ sym (b .1))
 
-  -- `mortarbee_optimize_jumps`: what its contract says of the answer and of both rooms
-  abbrev Optimized : (asked : Settings) (out image : List ℕ) (r : Reply) (out′ image′ : List ℕ) → Type 0
-  Optimized asked out image r out′ image′ =
-      let end = run asked text (length out) (length image) in
-      Says r (answerOf end) × (out′ ≡ listingAfter end out) × (image′ ≡ imageAfter end image)
-
+  -- `mortarbee_optimize_jumps`
   pub one-optimized : (comments callf folds : ℕ) (out image : List ℕ) (r s : Reply) (x y v w : List ℕ)
-      → Optimized (askedBy comments callf folds) out image r x v → Optimized (askedBy comments callf folds) out image s y w
-      → (r ≡ s) × (x ≡ y) × (v ≡ w)
+      → let end = run (askedBy comments callf folds) text (length out) (length image) in
+      Ended end out image r x v → Ended end out image s y w → (r ≡ s) × (x ≡ y) × (v ≡ w)
   one-optimized comments callf folds out image r s x y v w a b =
-      (one-reply _ r s (a .0) (b .0), a .1 ∙ sym (b .1), a .2 ∙ sym (b .2))
+      one-end (run (askedBy comments callf folds) text (length out) (length image)) out image r s x y v w a b
+
+  -- `mortarbee_optimize_jumps_under`
+  pub one-under : (store : List ℕ) (f e : ℕ) (out image : List ℕ) (r s : Reply) (x y v w : List ℕ)
+      → let end = runUnder store f e text (length out) (length image) in
+      Ended end out image r x v → Ended end out image s y w → (r ≡ s) × (x ≡ y) × (v ≡ w)
+  one-under store f e out image r s x y v w a b =
+      one-end (runUnder store f e text (length out) (length image)) out image r s x y v w a b
 
   -- ---- C-17: `mortarbee_where_sits`
   pub one-place : (n : ℕ) (r s : SitsReply) → SaysSits r (sitsAs (sits text n)) → SaysSits s (sitsAs (sits text n)) → r ≡ s
@@ -103,3 +115,10 @@ module _ (room : List ℕ) (f : ℕ) where
       → SaysNumbered s (numberedAs (dropIn room f)) × (y ≡ afterDrop room f)
       → (r ≡ s) × (x ≡ y)
   one-dropped r s x y a b = (one-numbered _ r s (a .0) (b .0), a .1 ∙ sym (b .1))
+
+-- ---- C-21: `mortarbee_read_back`
+pub one-read-back : (image : List ℕ) (start : ℕ) (room : List ℕ) (r s : Reply) (x y : List ℕ)
+    → Says r (readAs (readBack image start (length room))) × (x ≡ readRoom (readBack image start (length room)) room)
+    → Says s (readAs (readBack image start (length room))) × (y ≡ readRoom (readBack image start (length room)) room)
+    → (r ≡ s) × (x ≡ y)
+one-read-back image start room r s x y a b = (one-reply _ r s (a .0) (b .0), a .1 ∙ sym (b .1))

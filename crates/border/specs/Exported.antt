@@ -1,12 +1,14 @@
 -- What the functions for C answer: structs of numbers, the first 0 where nothing is refused.
 use mathlib.Core.Path.{_≡_}
+use mathlib.Core.List.{List}
 use mathlib.Core.Bool.{Bool, not, cond}
 use Prim.Native.Nat.{ℕ}
 use lib.Dec.{eqb}
-use lib.IntN.{ℤ}
 use Rattle.rules.specs.declared.Settings.{Settings}
 use Rattle.rules.specs.declared.Answer.{Answer}
 use Rattle.rules.specs.declared.Answer.the-variants.{Done, Refused}
+use Rattle.rules.specs.Answers.{Judged}
+use Rattle.rules.specs.Run.{Output}
 use Rattle.rules.specs.Refusals.{Fault, ofNone, faultOf}
 use Rattle.sits.specs.declared.Sits.{Sits}
 use Rattle.sits.specs.declared.Sits.the-variants.{At, Refused as NotSitting}
@@ -15,6 +17,8 @@ use Rattle.store.specs.declared.Found.{Found}
 use Rattle.store.specs.declared.Found.the-variants.{Is as IsFound, Refused as NotFound}
 use Rattle.store.specs.declared.Numbered.{Numbered}
 use Rattle.store.specs.declared.Numbered.the-variants.{Is as IsNumbered, Refused as NotNumbered}
+use Rattle.store.specs.Rooms.{getIn, newestIn}
+use Rattle.editions.specs.Under.{under}
 use Rattle.border.specs.declared.replies.Reply.{Reply}
 use Rattle.border.specs.declared.replies.SitsReply.{SitsReply}
 use Rattle.border.specs.declared.replies.NumberedReply.{NumberedReply}
@@ -40,7 +44,12 @@ pub record Tells (t : Told) (f : Fault) : Type 0 where
   pub argument : t .argument ≡ f .argument
   pub amount : t .amount ≡ f .amount
 
--- ---- `assemble` and `optimize_jumps`
+-- ---- document 01, and C-24's run under an edition
+
+-- under edition e of family f; 0 asks for the newest, for no edition has this number
+abbrev pub runUnder : (store : List ℕ) (f e : ℕ) (text : List ℕ) (listingRoom imageRoom : ℕ) → Judged Output
+runUnder store f e text listingRoom imageRoom =
+    under (cond (eqb e 0) (newestIn store f) (getIn store f e)) text listingRoom imageRoom
 
 abbrev pub faultIn : Answer → Fault
 faultIn (Done s) = nothing

@@ -7,8 +7,12 @@ use crate::replies::found_reply;
 use crate::replies::numbered_reply;
 use crate::replies::reply_of;
 use crate::replies::sits_reply;
+use editions::optimize_under;
+use editions::optimize_under_newest;
 use entries::assemble;
 use entries::optimize_jumps;
+use readback::entry::read_back;
+use rules::Answer;
 use rules::Settings;
 use sits::where_sits;
 use store::add_edition;
@@ -19,9 +23,12 @@ ghost use mathlib.Core.Path.{_≡_};
 ghost use lib.ListN.{length};
 ghost use Rattle.rules.specs.Run.{assembled, run, answerOf, listingAfter, imageAfter};
 ghost use Rattle.entries.specs.Assembling.{answerAs, roomAs};
+ghost use Rattle.entries.specs.Optimizing.{Delivers};
+ghost use Rattle.readback.specs.ReadBack.{readBack};
+ghost use Rattle.readback.specs.Entry.{answerAs as readAs, roomAs as readRoom};
 ghost use Rattle.sits.specs.Sits.{sits, sitsAs};
 ghost use Rattle.store.specs.Rooms.{getIn, newestIn, addIn, dropIn, afterAdd, afterDrop, foundAs, numberedAs};
-ghost use Rattle.border.specs.Exported.{askedBy, Says, SaysSits, SaysNumbered, SaysFound};
+ghost use Rattle.border.specs.Exported.{askedBy, runUnder, Says, SaysSits, SaysNumbered, SaysFound};
 
 // `assemble`, for C.
 #[no_mangle]
@@ -111,4 +118,57 @@ pub extern "C" fn mortarbee_drop_old(room: &mut [u8], family: u16) -> NumberedRe
     ensures { λ _. ⌜ now (room .exit) ≡ afterDrop (now (room .entry)) family ⌝ }
 {
     numbered_reply(drop_old(room, family))
+}
+
+// A run under an edition of a family, 0 for its newest: no edition has the number 0.
+fn run_under(
+    store: &[u8],
+    family: u16,
+    edition: u16,
+    listing: &[u8],
+    out: &mut [u8],
+    image: &mut [u8],
+) -> Answer
+    ensures { λ r. let text = now (listing .entry) in
+        let x = runUnder (now (store .entry)) family edition text (length (now (out .entry))) (length (now (image .entry))) in
+        ⌜ Delivers x r (now (out .entry)) (now (image .entry)) (now (out .exit)) (now (image .exit)) ⌝ }
+{
+    if edition == 0 {
+        optimize_under_newest(store, family, listing, out, image)
+    } else {
+        optimize_under(store, family, edition, listing, out, image)
+    }
+}
+
+// `optimize_under` and `optimize_under_newest`, for C.
+#[no_mangle]
+pub extern "C" fn mortarbee_optimize_jumps_under(
+    store: &[u8],
+    family: u16,
+    edition: u16,
+    listing: &[u8],
+    out: &mut [u8],
+    image: &mut [u8],
+) -> Reply
+    ensures { λ r. let text = now (listing .entry) in
+        let end = runUnder (now (store .entry)) family edition text (length (now (out .entry))) (length (now (image .entry))) in
+        ⌜ Says r (answerOf end) ⌝ }
+    ensures { λ _. let text = now (listing .entry) in
+        let end = runUnder (now (store .entry)) family edition text (length (now (out .entry))) (length (now (image .entry))) in
+        ⌜ now (out .exit) ≡ listingAfter end (now (out .entry)) ⌝ }
+    ensures { λ _. let text = now (listing .entry) in
+        let end = runUnder (now (store .entry)) family edition text (length (now (out .entry))) (length (now (image .entry))) in
+        ⌜ now (image .exit) ≡ imageAfter end (now (image .entry)) ⌝ }
+{
+    reply_of(run_under(store, family, edition, listing, out, image))
+}
+
+// `read_back`, for C: the listing of an image from a start on. `rewrites` and `image` are 0.
+#[no_mangle]
+pub extern "C" fn mortarbee_read_back(image: &[u8], start: usize, listing: &mut [u8]) -> Reply
+    ensures { λ r. let x = readBack (now (image .entry)) start (length (now (listing .entry))) in ⌜ Says r (readAs x) ⌝ }
+    ensures { λ _. let x = readBack (now (image .entry)) start (length (now (listing .entry))) in
+        ⌜ now (listing .exit) ≡ readRoom x (now (listing .entry)) ⌝ }
+{
+    reply_of(read_back(image, start, listing))
 }

@@ -8,6 +8,8 @@ pub use exported::mortarbee_drop_old;
 pub use exported::mortarbee_get_edition;
 pub use exported::mortarbee_get_newest;
 pub use exported::mortarbee_optimize_jumps;
+pub use exported::mortarbee_optimize_jumps_under;
+pub use exported::mortarbee_read_back;
 pub use exported::mortarbee_where_sits;
 pub use replies::FoundReply;
 pub use replies::NumberedReply;

@@ -9,8 +9,10 @@ use Rattle.rules.specs.declared.Answer.the-variants.{Done, Refused}
 use Rattle.rules.specs.declared.Refusal.{Refusal}
 use Rattle.rules.specs.declared.Sizes.{Sizes}
 use Rattle.rules.specs.Answers.{Judged, ok, no, _>>=_}
-use Rattle.promises.specs.Demand2.{Answered}
-use Rattle.promises.proofs.Entry.{on-acceptance, on-refusal}
+use Rattle.rules.specs.Run.{Output, answerOf}
+use Rattle.promises.specs.Demand1.{Cause}
+use Rattle.promises.specs.Demand2.{Accepted, Answered}
+use Rattle.promises.proofs.Entry.{on-acceptance, accepts, on-refusal, refuses}
 use Rattle.walk.proofs.Entry.{walked-alike}
 use Rattle.entries.specs.Optimizing.{Delivers}
 use Rattle.store.specs.declared.Edition.{Edition}
@@ -49,3 +51,12 @@ module _ (text listing image : List ℕ) (listing′ image′ : List ℕ) where
     where
       told : (s r : Refusal) → Refused r ≡ Refused s → s ≡ r
       told s r e = cc
+
+  -- and "exactly when": what is accepted under the settings found is answered so, and what has a cause there is refused with it
+  pub accepts-under : (e : Edition) (o : Output) (r : Answer) → Under (ok e) r
+      → Accepted (e .settings) text (length listing) (length image) o → r ≡ answerOf (ok o)
+  accepts-under e o r d a = accepts (e .settings) text listing image o r listing′ image′ (answered e r d) a
+
+  pub refuses-under : (e : Edition) (s : Refusal) (r : Answer) → Under (ok e) r
+      → Cause (e .settings) text (length listing) (length image) s → r ≡ Refused s
+  refuses-under e s r d c = refuses (e .settings) text listing image s r listing′ image′ (answered e r d) c

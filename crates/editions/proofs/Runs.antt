@@ -7,9 +7,9 @@ use Prim.Native.Nat.{ℕ}
 use Prim.Native.String.{String}
 use lib.Dec.{T}
 use lib.ListN.{take, replicate}
-use Rattle.laws.specs.Lists.{every, same}
+use Rattle.laws.specs.Lists.{same}
 use Rattle.laws.specs.Counts.{tab}
-use Rattle.rules.specs.Answers.{Judged, _>>=_, _>>_, require}
+use Rattle.rules.specs.Answers.{Judged, _>>=_, _>>_}
 use Rattle.rules.specs.Listing.{unhex}
 use Rattle.rules.specs.Run.{Output, printed, listingRoomOfProgram, imageRoomOfProgram}
 use Rattle.rules.proofs.Computed.{chars, lines, all, answer}

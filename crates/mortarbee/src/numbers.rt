@@ -1,4 +1,4 @@
-// The numbers that people type: decimal, or hexadecimal behind 0x, of seven digits at most.
+// The numbers that people type: decimal, or hexadecimal behind 0x.
 ghost use Prim.Native.Nat.{_<_};
 
 pub enum Typed {
@@ -34,12 +34,12 @@ fn narrow(x: u8) -> u64
     if x < 16 { x as u64 } else { 16 }
 }
 
-// One digit more. No number of seven digits reaches the last arm.
+// One digit more. From 2^28 on the number stays there: no statement, address, family or edition is as large.
 fn with_digit(n: u64, hexadecimal: bool, d: u64) -> u64
     requires { ⌜ d < 17 ⌝ }
 {
     if n >= 268435456 {
-        return n;
+        return 268435456;
     }
     if hexadecimal { n * 16 + d } else { n * 10 + d }
 }
@@ -51,9 +51,6 @@ fn base(hexadecimal: bool) -> u64 {
 // The number that digits are.
 fn digits(word: &[u8], hexadecimal: bool) -> Typed {
     if word.len() == 0 {
-        return Typed::Nothing;
-    }
-    if word.len() > 7 {
         return Typed::Nothing;
     }
     let mut n = 0;
@@ -77,7 +74,7 @@ fn is_hexadecimal(word: &[u8]) -> bool {
     if word[0] != 48 {
         return false;
     }
-    word[1] == 120
+    word[1] == 120 || word[1] == 88
 }
 
 pub fn number_of(word: &[u8]) -> Typed {

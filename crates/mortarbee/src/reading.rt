@@ -9,6 +9,7 @@ use libc::STDIN_FILENO;
 use libc::STDOUT_FILENO;
 use readback::entry::read_back;
 use rules::Answer;
+use rules::Refusal;
 use telling::say;
 ghost use mathlib.Core.Path.{_≡_};
 ghost use lib.ListN.{length};
@@ -29,22 +30,43 @@ fn misuse() {
     );
 }
 
-// One byte more than the longest image, so that a longer one is seen to be longer.
-fn image_room() -> [u8; 65537]
-    ensures { λ r. ⌜ 65537 ≡ length r ⌝ }
+// More than the longest image, so that a longer one is seen to be longer.
+fn image_room() -> [u8; 262144]
+    ensures { λ r. ⌜ 262144 ≡ length r ⌝ }
 {
-    [0; 65537]
+    [0; 262144]
 }
 
-// No listing that is read back is longer than the room.
+// No listing that is read back is longer than its room.
 fn from(start: usize) {
     let mut image = image_room();
     let n = read_full(STDIN_FILENO, &mut image);
+    if n == 262144 {
+        write_all(
+            STDERR_FILENO,
+            b"mortarbee: that is no image: it has more than 262,143 bytes\n",
+        );
+        return;
+    }
     let mut listing = io::large_buffer();
     match read_back(&image[..n], start, &mut listing) {
         Answer::Done(sizes) => put(&listing, sizes.listing),
-        Answer::Refused(r) => say(r, b""),
+        Answer::Refused(r) => say_of_image(r),
     }
+}
+
+// 2 is about the image or about a listing that nobody has: no line is told.
+fn say_of_image(r: Refusal) {
+    match r {
+        Refusal::Limit(_) => {
+            write_all(
+                STDERR_FILENO,
+                b"the image has more than 65,536 bytes, or its listing would have more than 1,024 statements\n",
+            );
+        }
+        _ => {}
+    }
+    say(r, b"");
 }
 
 fn put(listing: &[u8], n: usize) {

@@ -141,7 +141,6 @@ fn show() {
     show_all(&room[..n]);
 }
 
-// A store that is refused has no place to show, and is refused once.
 fn show_all(room: &[u8]) {
     let mut k = 0;
     while k < 32 {
@@ -152,19 +151,12 @@ fn show_all(room: &[u8]) {
     }
 }
 
-// Whether there may be more to show.
+// Whether there may be more to show: of a store that is refused there is nothing, and that is said once.
 fn show_at(room: &[u8], k: usize) -> bool {
     match show_place(room, k) {
         Shown::Is(s) => put_setting(s),
-        Shown::Refused(r) => is_free_place(r),
-    }
-}
-
-// 17 is a free place; anything else is about the whole store.
-fn is_free_place(r: Refusal) -> bool {
-    match r {
-        Refusal::Unknown => true,
-        _ => {
+        Shown::Free => true,
+        Shown::Refused(r) => {
             refuse(r);
             false
         }

@@ -31,7 +31,7 @@ module _ (room room′ : List ℕ) (ss : Store) (h : Holds room room′ ss) (lon
 
 -- ---- asking by what is found
 
-get-some : (f e w : ℕ) (ss : Store) → 1 ≤ e → find f e ss ≡ some w → get f e ss ≡ ok (record { number = e; settings = settingsOf w })
+pub get-some : (f e w : ℕ) (ss : Store) → 1 ≤ e → find f e ss ≡ some w → get f e ss ≡ ok (record { number = e; settings = settingsOf w })
 unfolding get require
 get-some f e w ss l h = rw (le-leb 1 e l, h)
 

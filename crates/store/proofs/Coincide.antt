@@ -5,7 +5,8 @@ use Prim.Native.Nat.{ℕ}
 use Rattle.rules.specs.declared.Settings.{Settings}
 use Rattle.store.specs.declared.Found.{Found}
 use Rattle.store.specs.declared.Numbered.{Numbered}
-use Rattle.store.specs.Rooms.{getIn, newestIn, addIn, dropIn, afterAdd, afterDrop, foundAs, numberedAs}
+use Rattle.store.specs.declared.Shown.{Shown}
+use Rattle.store.specs.Rooms.{getIn, newestIn, placeIn, addIn, dropIn, afterAdd, afterDrop, foundAs, shownAs, numberedAs}
 
 module _ (room : List ℕ) (f : ℕ) where
   -- `get_edition`
@@ -15,6 +16,10 @@ module _ (room : List ℕ) (f : ℕ) where
   -- `get_newest`
   pub one-newest : (r s : Found) → r ≡ foundAs (newestIn room f) → s ≡ foundAs (newestIn room f) → r ≡ s
   one-newest r s a b = a ∙ sym b
+
+  -- `show_place`: f is the place
+  pub one-shown : (r s : Shown) → r ≡ shownAs (placeIn room f) → s ≡ shownAs (placeIn room f) → r ≡ s
+  one-shown r s a b = a ∙ sym b
 
   -- `add_edition`
   pub one-added : (asked : Settings) (r s : Numbered) (x y : List ℕ)

@@ -4,6 +4,7 @@ pub mod OldOnesStay
 pub mod NewestStays
 pub mod RoomHolds
 pub mod Afterwards
+pub mod ShowsAll
 pub mod Never19
 pub mod Causes
 -- ---- what the code's contracts say
@@ -12,7 +13,6 @@ pub mod Coincide
 pub mod PlaceByPlace
 pub mod Rewritten
 pub mod JudgedFirst
-pub mod PlacesShown
 pub mod Answered
 -- ---- runs that the checker computes
 pub mod Runs

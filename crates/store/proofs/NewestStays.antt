@@ -16,6 +16,12 @@ use Rattle.store.specs.Store.{Store, free, isFree, isOf, inRange, noneHo
 use Rattle.store.specs.Promise.{freed, Drops}
 use Rattle.store.proofs.OldOnesStay.{free-is, no-edition, free-newest}
 
+-- a place in range that is not free has an edition
+pub in-range-some : (s : Setting) → inRange s ≡ true → isFree s ≡ false → 1 ≤ s .edition
+in-range-some s a b =
+    let c : leb 1 (s .edition) && ltb (s .switches) 8 ≡ true = rw b at a in
+    leb-true 1 (s .edition) (and-true (leb 1 (s .edition)) (ltb (s .switches) 8) c .0)
+
 -- an old edition
 record Old (f top : ℕ) (s : Setting) : Type 0 where
   family : s .family ≡ f
@@ -135,11 +141,6 @@ module _ (f top : ℕ) where
           → every (λ x. not (isOf g e x)) (cond o free s ∷ kept ss) ≡ true
       on true a b = rw (no-edition g e free refl l) b
       on false a b = rw a b
-
-  in-range-some : (s : Setting) → inRange s ≡ true → isFree s ≡ false → 1 ≤ s .edition
-  in-range-some s a b =
-      let c : leb 1 (s .edition) && ltb (s .switches) 8 ≡ true = rw b at a in
-      leb-true 1 (s .edition) (and-true (leb 1 (s .edition)) (ltb (s .switches) 8) c .0)
 
   twice-kept : (ss : Store) → every (λ s. inRange s) ss ≡ true → noneTwice ss ≡ true → noneTwice (kept ss) ≡ true
   unfolding noneTwice every

@@ -49,7 +49,7 @@ unfolding noneHolds every
 fresh f n [] h = refl
 fresh f n (s ∷ ss) h = let a = above-newest f n s ss h in rw (a .0) (fresh f n ss (a .1))
 
-eqb-sym : (a b : ℕ) → eqb a b ≡ eqb b a
+pub eqb-sym : (a b : ℕ) → eqb a b ≡ eqb b a
 eqb-sym a b = on (eqb a b) refl
   where
     on : (t : Bool) → eqb a b ≡ t → t ≡ eqb b a

@@ -9,7 +9,7 @@ use lib.ListN.{length, getD, drop, length-append, length-drop}
 use lib.Seq.{drop-at}
 use borrow.Author.Tests.{leb-true, ltb-true}
 use Rattle.laws.specs.Lists.{each}
-use Rattle.laws.proofs.Counts.{tab-is, length-tab}
+use Rattle.laws.proofs.Counts.{tab-is, length-tab, getD-tab}
 use Rattle.laws.proofs.Tests.{and-true}
 use Rattle.rules.specs.declared.Refusal.{Refusal}
 use Rattle.rules.specs.declared.Refusal.the-variants.{Room, Unknown, Full, Store as BadStore}
@@ -62,6 +62,10 @@ holds room ss l h =
 pub length-store : (room : List ℕ) → length (storeIn room) ≡ 32
 unfolding storeIn
 length-store room = length-tab (settingAt room) 32
+
+pub place-is : (room : List ℕ) (k : ℕ) → k < 32 → getD (storeIn room) k free ≡ settingAt room k
+unfolding storeIn
+place-is room k l = getD-tab (settingAt room) 32 k free l
 
 -- ---- an answer of a good store
 

@@ -14,9 +14,11 @@ use Rattle.rules.specs.Answers.{Judged, ok, no, _>>_, require}
 use Rattle.rules.specs.Listing.{unhex}
 use Rattle.rules.proofs.Computed.{chars, all}
 use Rattle.store.specs.declared.Edition.{Edition}
+use Rattle.store.specs.declared.Shown.{Shown}
+use Rattle.store.specs.declared.Shown.the-variants.{Is as IsShown, Free as IsFree, Refused as NotShown}
 use Rattle.store.specs.Switches.{switchesOf, settingsOf}
 use Rattle.store.specs.Store.{noneHolds, noneTwice, isGood, find, newest, get, getNewest, hasFree, put, added, add, dropped, dropOld}
-use Rattle.store.specs.Rooms.{storeIn, roomWith, judged, inStore, getIn, newestIn, addIn, dropIn, afterAdd, afterDrop}
+use Rattle.store.specs.Rooms.{storeIn, roomWith, judged, inStore, getIn, newestIn, placeIn, addIn, dropIn, afterAdd, afterDrop, shownAs}
 
 -- ---- tests
 
@@ -111,6 +113,34 @@ asking =
 asking-holds : T (all asking)
 unfolding all asking opened two
 asking-holds = tt
+
+-- ---- showing, place by place
+abbrev shows : (family edition switches : ℕ) → Shown → Bool
+shows f e w (IsShown s) = eqb (s .family) f && (eqb (s .edition) e && eqb (s .switches) w)
+shows f e w IsFree = false
+shows f e w (NotShown r) = false
+
+abbrev showsNone : Shown → Bool
+showsNone (IsShown s) = false
+showsNone IsFree = true
+showsNone (NotShown r) = false
+
+showing : List Bool
+showing =
+    shows 7 1 3 (shownAs (placeIn two 0)) ∷
+    shows 9 1 5 (shownAs (placeIn two 1)) ∷
+    shows 7 2 4 (shownAs (placeIn two 2)) ∷
+    showsNone (shownAs (placeIn two 3)) ∷
+    -- the last place, and the one behind it, whatever the room has there
+    shows 7 32 7 (shownAs (placeIn (holding 32) 31)) ∷
+    showsNone (shownAs (placeIn (many 32 ++ (0 ∷ 7 ∷ 0 ∷ 33 ∷ 7 ∷ [])) 32)) ∷
+    faultIs 12 (placeIn (replicate 159 0) 0) ∷
+    faultIs 19 (placeIn (room "0007000108") 5) ∷
+    []
+
+showing-holds : T (all showing)
+unfolding all showing opened two
+showing-holds = tt
 
 -- ---- dropping
 dropping : List Bool

@@ -5,4 +5,3 @@ pub mod Rooms
 pub mod Changes
 -- ---- what is shown
 pub mod Promise
-pub mod Showing

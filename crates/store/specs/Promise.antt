@@ -13,9 +13,9 @@ use Rattle.rules.specs.declared.Settings.{Settings}
 use Rattle.rules.specs.Answers.{Judged, ok, no}
 use Rattle.store.specs.declared.Setting.{Setting}
 use Rattle.store.specs.declared.Edition.{Edition}
-use Rattle.store.specs.Switches.{switchesOf}
+use Rattle.store.specs.Switches.{switchesOf, settingsOf}
 use Rattle.store.specs.Store.{Store, isFree, isOld, isGood, find, newest, added, dropped}
-use Rattle.store.specs.Rooms.{storeBytes, storeIn, getIn, newestIn, addIn, dropIn, afterAdd, afterDrop}
+use Rattle.store.specs.Rooms.{storeBytes, storeIn, getIn, newestIn, placeIn, addIn, dropIn, afterAdd, afterDrop}
 
 -- "a new edition, numbered one above the newest from 1 on, never alters an old one, and the newest can be asked for"
 pub record Adds (ss : Store) (f w : ℕ) : Type 0 where
@@ -91,6 +91,13 @@ pub data StoreCause {A : Type 0} (room : List ℕ) (asked : Store → Judged A) 
   short : length room < storeBytes → r ≡ Room 0 → StoreCause room asked r
   bad : storeBytes ≤ length room → isGood (storeIn room) ≡ false → r ≡ BadStore → StoreCause room asked r
   refused : storeBytes ≤ length room → isGood (storeIn room) ≡ true → asked (storeIn room) ≡ no r → StoreCause room asked r
+
+-- what is shown place by place is what can be asked for: each edition, and nothing else
+pub record ShownRight (room : List ℕ) : Type 0 where
+  pub shown-found : (k : ℕ) (s : Setting) → placeIn room k ≡ ok s → isFree s ≡ false
+      → getIn room (s .family) (s .edition) ≡ ok (record { number = s .edition; settings = settingsOf (s .switches) })
+  pub found-shown : (f e : ℕ) (x : Edition) → getIn room f e ≡ ok x
+      → (k : ℕ) × (k < 32) × (w : ℕ) × (placeIn room k ≡ ok (record { family = f; edition = e; switches = w }))
 
 -- ---- 19 is for stores that were not made so
 

@@ -2,6 +2,7 @@
 -- and the switches.
 use mathlib.Core.List.{List, [], _∷_, _++_}
 use mathlib.Core.Option.{Option, none, some}
+use mathlib.Core.Bool.{cond}
 use Prim.Native.Nat.{ℕ, _+_, _*_}
 use lib.Dec.{leb}
 use lib.ListN.{length, getD, take, drop}
@@ -19,10 +20,12 @@ use Rattle.store.specs.declared.Held.{Held}
 use Rattle.store.specs.declared.Held.the-variants.{Is as IsHeld, Nothing}
 use Rattle.store.specs.declared.Found.{Found}
 use Rattle.store.specs.declared.Found.the-variants.{Is as IsFound, Refused as NotFound}
+use Rattle.store.specs.declared.Shown.{Shown}
+use Rattle.store.specs.declared.Shown.the-variants.{Is as IsShown, Free as IsFree, Refused as NotShown}
 use Rattle.store.specs.declared.Numbered.{Numbered}
 use Rattle.store.specs.declared.Numbered.the-variants.{Is as IsNumbered, Refused as NotNumbered}
 use Rattle.store.specs.Switches.{switchesOf}
-use Rattle.store.specs.Store.{Store, isGood, get, getNewest, added, add, dropped, dropOld}
+use Rattle.store.specs.Store.{Store, isFree, isGood, get, getNewest, placeAt, added, add, dropped, dropOld}
 
 abbrev pub placeCount : ℕ
 placeCount = 32
@@ -74,6 +77,9 @@ module _ (room : List ℕ) where
   abbrev pub newestIn : (f : ℕ) → Judged Edition
   newestIn f = inStore (λ ss. getNewest f ss)
 
+  abbrev pub placeIn : (k : ℕ) → Judged Setting
+  placeIn k = inStore (λ ss. ok (placeAt k ss))
+
   abbrev pub addIn : (f : ℕ) → Judged ℕ
   addIn f = inStore (λ ss. add f ss)
 
@@ -104,6 +110,13 @@ heldAs (some w) = IsHeld w
 abbrev pub foundAs : Judged Edition → Found
 foundAs (ok e) = IsFound e
 foundAs (no r) = NotFound r
+
+abbrev pub shownOf : Setting → Shown
+shownOf s = cond (isFree s) IsFree (IsShown s)
+
+abbrev pub shownAs : Judged Setting → Shown
+shownAs (ok s) = shownOf s
+shownAs (no r) = NotShown r
 
 abbrev pub numberedAs : Judged ℕ → Numbered
 numberedAs (ok n) = IsNumbered n

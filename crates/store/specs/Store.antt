@@ -4,6 +4,7 @@ use mathlib.Core.Option.{Option, none, some}
 use mathlib.Core.Bool.{Bool, true, false, _&&_, _||_, not, cond}
 use Prim.Native.Nat.{ℕ, suc, max}
 use lib.Dec.{leb, ltb, eqb}
+use lib.ListN.{getD}
 use Rattle.laws.specs.Lists.{every}
 use Rattle.rules.specs.declared.Refusal.the-variants.{Unknown, Full}
 use Rattle.rules.specs.Answers.{Judged, ok, no, require}
@@ -67,6 +68,10 @@ get f e ss = require (leb 1 e) Unknown (known e (find f e ss))
 
 unfoldable pub getNewest : (f : ℕ) → Store → Judged Edition
 getNewest f ss = get f (newest f ss) ss
+
+-- what stands at place k; behind the last nothing
+abbrev pub placeAt : (k : ℕ) → Store → Setting
+placeAt k ss = getD ss k free
 
 -- ---- adding: "a new edition, numbered one above the newest from 1 on"
 

@@ -7,7 +7,7 @@ mod asking; // an edition, or the newest
 mod dropping; // old editions
 mod judging; // 12 and 19
 mod places; // five bytes to a setting, and back
-mod showing; // what a place holds
+mod showing; // place by place
 mod testing; // tests of one setting, and its switches
 
 pub use adding::add_edition;
@@ -47,14 +47,15 @@ pub enum Found {
     Refused(Refusal),
 }
 
-// The number of the edition that was added, or of the one that stays; or why that is refused.
-pub enum Numbered {
-    Is(u16),
+// What a place holds, or why the store is refused.
+pub enum Shown {
+    Is(Setting),
+    Free,
     Refused(Refusal),
 }
 
-// What a place holds, or why there is nothing to show.
-pub enum Shown {
-    Is(Setting),
+// The number of the edition that was added, or of the one that stays; or why that is refused.
+pub enum Numbered {
+    Is(u16),
     Refused(Refusal),
 }

@@ -1,36 +1,36 @@
-// What a place of the store holds, for `settings show`.
+// The settings place by place, for whoever lists them.
 use crate::Shown;
 use crate::Verdict;
 use crate::judging::judge;
 use crate::places::read_setting;
 use crate::testing::is_free;
-use rules::Refusal;
 ghost use mathlib.Core.Path.{_≡_};
 ghost use Prim.Native.Nat.{_≤_};
 ghost use lib.ListN.{length};
-ghost use Rattle.store.specs.Showing.{heldAt, shownIn, shownAs};
+ghost use Rattle.store.specs.Store.{placeAt};
+ghost use Rattle.store.specs.Rooms.{storeIn, placeIn, shownAs, shownOf};
 
 // A place of a good store.
-fn held_at(room: &[u8], k: usize) -> Shown
+fn show_at(room: &[u8], k: usize) -> Shown
     requires { ⌜ 160 ≤ length (now room) ⌝ }
-    ensures { λ r. ⌜ r ≡ shownAs (heldAt (now (room .entry)) k) ⌝ }
+    ensures { λ r. ⌜ r ≡ shownOf (placeAt k (storeIn (now (room .entry)))) ⌝ }
 {
-    if k >= 32 {
-        return Shown::Refused(Refusal::Unknown);
+    if 32 <= k {
+        return Shown::Free;
     }
     let s = read_setting(room, k);
     if is_free(s) {
-        return Shown::Refused(Refusal::Unknown);
+        return Shown::Free;
     }
     Shown::Is(s)
 }
 
-// The setting at place k, counted from 0; refusal 12 or 19, or 17 where the place is free or there is none.
+// What place k holds, or refusal 12 or 19; there is nothing from place 32 on.
 pub fn show_place(room: &[u8], k: usize) -> Shown
-    ensures { λ r. ⌜ r ≡ shownAs (shownIn (now (room .entry)) k) ⌝ }
+    ensures { λ r. ⌜ r ≡ shownAs (placeIn (now (room .entry)) k) ⌝ }
 {
     match judge(room) {
         Verdict::Refused(r) => Shown::Refused(r),
-        Verdict::Good => held_at(room, k),
+        Verdict::Good => show_at(room, k),
     }
 }

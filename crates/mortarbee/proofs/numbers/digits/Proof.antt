@@ -31,7 +31,6 @@ digits-spec =
     Inv-loop
     μ-loop
     (λ c. search needs)
-    (λ c. search needs)
     loop-holds
     (λ c. search needs)
     (λ c κs. search needs)

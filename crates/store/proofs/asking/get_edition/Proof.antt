@@ -25,14 +25,16 @@ returns : tie.Need-returns
 returns c =
     let j = c .before .before .before in
     let a = j .before .before .args in
-    let e = refused-first (a .room .now) (j .judge .result) (j .judge .ensures) (λ ss. get (a .family) (a .edition) ss) _ (c .before .r .given .1) in
+    let e =
+    refused-first (a .room .now) (j .judge .result) (j .judge .ensures) (λ ss. get (a .family) (a .edition) ss) _ (c .before .r .given .1) in
     sym (ap foundAs e)
 
 returns-2 : tie.Need-returns-2
 returns-2 c =
     let j = c .before .before .before in
     let a = j .before .before .args in
-    let e = asked-then (a .room .now) (j .judge .result) (j .judge .ensures) (λ ss. get (a .family) (a .edition) ss) (c .before .enum-told .given .1) in
+    let e =
+    asked-then (a .room .now) (j .judge .result) (j .judge .ensures) (λ ss. get (a .family) (a .edition) ss) (c .before .enum-told .given .1) in
     c .ask .ensures
     ∙ sym (ap foundAs e)
 

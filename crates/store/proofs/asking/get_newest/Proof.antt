@@ -31,7 +31,8 @@ returns : tie.Need-returns
 returns c =
     let j = c .before .before .before in
     let a = j .before .before .args in
-    let e = refused-first (a .room .now) (j .judge .result) (j .judge .ensures) (λ ss. getNewest (a .family) ss) _ (c .before .r .given .1) in
+    let e =
+    refused-first (a .room .now) (j .judge .result) (j .judge .ensures) (λ ss. getNewest (a .family) ss) _ (c .before .r .given .1) in
     sym (ap foundAs e)
 
 returns-2 : tie.Need-returns-2
@@ -39,7 +40,8 @@ unfolding getNewest
 returns-2 c =
     let j = c .before .before .before .before in
     let a = j .before .before .args in
-    let e = asked-then (a .room .now) (j .judge .result) (j .judge .ensures) (λ ss. getNewest (a .family) ss) (c .before .before .enum-told .given .1) in
+    let e =
+    asked-then (a .room .now) (j .judge .result) (j .judge .ensures) (λ ss. getNewest (a .family) ss) (c .before .before .enum-told .given .1) in
     c .ask .ensures
     ∙ ap (λ (e : ℕ). foundAs (get (a .family) e (storeIn (a .room .now)))) (c .before .newest-of .ensures)
     ∙ sym (ap foundAs e)
