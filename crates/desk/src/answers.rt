@@ -3,14 +3,13 @@
 use crate::rooms::part;
 use crate::rooms::put_pair;
 use crate::switches::put_others;
-use entries::fault_of;
 use entries::optimize_jumps;
 use io::print_hex;
 use io::write_all;
 use libc::STDOUT_FILENO;
-use output::refused_line;
 use printing::page_length;
 use printing::print_run;
+use printing::refusal_line;
 use rules::Answer;
 use rules::Refusal;
 use rules::Settings;
@@ -22,15 +21,15 @@ pub fn put_answer(asked: Settings, text: &[u8], on_all_sides: bool) {
     let mut page = [0u8; 62482];
     let mut image = [0u8; 65536];
     let answer = print_run(asked, text, &mut page, &mut image);
-    put_page(&page, page_length(answer));
     match answer {
         Answer::Done(sizes) => {
+            put_page(&page, page_length(answer));
             put_image(&image, sizes.image);
             if on_all_sides {
                 put_sides(asked, text, sizes, &page);
             }
         }
-        Answer::Refused(_) => {}
+        Answer::Refused(r) => put_refusal(r),
     }
     write_all(STDOUT_FILENO, b"==\n");
 }
@@ -43,7 +42,7 @@ fn put_sides(asked: Settings, text: &[u8], sizes: Sizes, page: &[u8; 62482]) {
     put_others(text, &page[..n]);
 }
 
-// The front of the page: all that the program prints for a listing.
+// The front of the page: all that the program prints for a listing that is accepted.
 pub fn put_page(page: &[u8; 62482], n: usize) {
     let page: &[u8] = page;
     let n = part(n, page);
@@ -116,7 +115,7 @@ fn put_lent(asked: Settings, text: &[u8], page: &mut [u8], image: &mut [u8]) {
             write_all(STDOUT_FILENO, b"7F\n");
         }
         Answer::Refused(r) => {
-            put_fault(r);
+            put_refusal(r);
             put_kept(page);
             put_kept(image);
         }
@@ -124,15 +123,9 @@ fn put_lent(asked: Settings, text: &[u8], page: &mut [u8], image: &mut [u8]) {
 }
 
 // As the program says it.
-fn put_fault(r: Refusal) {
-    let f = fault_of(r);
-    if f.place < 65536 {
-        if f.argument < 256 {
-            let mut line = [0u8; 19];
-            refused_line(f.number, f.place, f.argument, f.amount, &mut line);
-            write_all(STDOUT_FILENO, &line);
-        }
-    }
+fn put_refusal(r: Refusal) {
+    let line = refusal_line(r);
+    write_all(STDOUT_FILENO, &line);
 }
 
 // The rooms held zeros.

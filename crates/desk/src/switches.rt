@@ -6,6 +6,8 @@ use io::write_all;
 use libc::STDOUT_FILENO;
 use printing::page_length;
 use printing::print_run;
+use printing::refusal_line;
+use rules::Answer;
 use rules::Settings;
 
 // The settings by their number: 1 keeps comments, 2 lets Callf shrink, 4 lets folds run.
@@ -31,16 +33,26 @@ fn put_other(k: u8, text: &[u8], given: &[u8]) {
     let mut page = [0u8; 62482];
     let mut image = [0u8; 65536];
     let answer = print_run(numbered(k), text, &mut page, &mut image);
-    put_asked(k, given, &page, page_length(answer));
+    match answer {
+        Answer::Done(_) => put_page_asked(k, given, &page, page_length(answer)),
+        Answer::Refused(r) => {
+            let line = refusal_line(r);
+            put_asked(k, given, &line);
+        }
+    }
 }
 
-fn put_asked(k: u8, given: &[u8], page: &[u8; 62482], n: usize) {
+fn put_page_asked(k: u8, given: &[u8], page: &[u8; 62482], n: usize) {
     let page: &[u8] = page;
     let n = part(n, page);
-    if !same(given, &page[..n]) {
+    put_asked(k, given, &page[..n]);
+}
+
+fn put_asked(k: u8, given: &[u8], printed: &[u8]) {
+    if !same(given, printed) {
         write_all(STDOUT_FILENO, b"ASKED ");
         print_decimal(STDOUT_FILENO, k as u64);
         write_all(STDOUT_FILENO, b"\n");
-        write_all(STDOUT_FILENO, &page[..n]);
+        write_all(STDOUT_FILENO, printed);
     }
 }

@@ -6,7 +6,7 @@ use printing::page_length;
 use printing::print_run;
 use rules::Answer;
 use rules::Settings;
-use telling::tell_person;
+use telling::say;
 
 // A text that is longer than the buffer is refused within it: 57,344 characters, 1,024 line feeds and the first line are the most that is accepted.
 pub fn optimize(asked: Settings) {
@@ -15,9 +15,8 @@ pub fn optimize(asked: Settings) {
     let mut page = [0u8; 62482];
     let mut image = [0u8; 65536];
     let answer = print_run(asked, &text[..n], &mut page, &mut image);
-    put_page(&page, page_length(answer));
     match answer {
-        Answer::Done(_) => {}
-        Answer::Refused(r) => tell_person(r, &text[..n]),
+        Answer::Done(_) => put_page(&page, page_length(answer)),
+        Answer::Refused(r) => say(r, &text[..n]),
     }
 }

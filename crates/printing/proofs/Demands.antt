@@ -27,7 +27,8 @@ use Rattle.promises.specs.Entry.{Promised}
 use Rattle.promises.proofs.Entry.{promised}
 use Rattle.promises.proofs.OutputRoom.{never-room}
 use Rattle.entries.proofs.Demands.{in-front}
-use Rattle.printing.specs.Page.{pageLength, PrintedRun, Prints}
+use Rattle.printing.specs.Page.{pageLength, onPage, refusalLine, printedOf, PrintedRun, Prints}
+use Rattle.printing.proofs.Lines.{line-of-run}
 
 -- ---- `print_run`
 module _ (asked : Settings) (text page image page′ image′ : List ℕ) where
@@ -60,22 +61,30 @@ module _ (asked : Settings) (text page image page′ image′ : List ℕ) where
   refused-so s (ok o) e = clash (cc)
   refused-so s (no r) e = cc
 
-  -- prints: the front of the page is what the program prints, the rest of it is what it was, and 12 is never printed
+  -- prints: the front of the page, or the 7E line, is what the program prints, the rest of the page is what it was, and 12 is never printed
   pub prints : (r : Answer) → PrintedRun asked text page image r page′ image′ → Prints asked text page r page′
+  unfolding program
   prints r x =
-      let page-is = in-front (program asked text) page page′ (pageLength r) (x .page-length) (x .page-is) in
+      let page-is = in-front (onPage whole) page page′ (pageLength r) (x .page-length) (x .page-is) in
       record {
-        printed = page-is .0;
+        printed-is = told r whole refl (x .answers) (page-is .0);
         beyond = page-is .1;
         never-12 = λ s e. not-twelve s (refused-so s whole (sym e ∙ x .answers));
       }
+    where
+      told : (a : Answer) (j : Judged Output) → whole ≡ j → a ≡ answerOf j → take (pageLength a) page′ ≡ onPage j → printedOf a page′ ≡ program asked text
+      told (Done z) (ok o) e d f = f ∙ sym (ap printed e)
+      told (Done z) (no s) e d f = clash (cc)
+      told (Refused s) (ok o) e d f = clash (cc)
+      told (Refused s) (no t) e d f =
+          let so = refused-so s whole (d ∙ sym (ap answerOf e)) in
+          line-of-run asked text listingRoomOfProgram imageRoomOfProgram s so ∙ sym (ap printed so)
 
   -- printed-promised: the demands hold of the listing that is printed, of the image and of the count
   pub printed-promised : (sizes : Sizes) → PrintedRun asked text page image (Done sizes) page′ image′ → Promised asked text (take (sizes .listing) page′) (take (sizes .image) image′) (sizes .rewrites)
-  unfolding program
   printed-promised sizes x = on whole refl (x .answers) (x .page-is) (x .image-is)
     where
-      on : (j : Judged Output) → whole ≡ j → Done sizes ≡ answerOf j → page′ ≡ printed j ++ drop (length (printed j)) page → image′ ≡ imageAfter j image
+      on : (j : Judged Output) → whole ≡ j → Done sizes ≡ answerOf j → page′ ≡ front (onPage j) page → image′ ≡ imageAfter j image
           → Promised asked text (take (sizes .listing) page′) (take (sizes .image) image′) (sizes .rewrites)
       on (ok o) e d f g =
           let z : sizes ≡ record { listing = length (o .listing); rewrites = o .count; image = length (o .image) } = cc in
@@ -88,11 +97,12 @@ module _ (asked : Settings) (text page image page′ image′ : List ℕ) where
           rw (written, bytes, count) (promised asked text listingRoomOfProgram imageRoomOfProgram o e)
       on (no s) e d f g = clash (cc)
 
-  -- printed-refused: "On refusal it writes only 7E, number, place in two bytes" and what C-12 adds: the rest of the page and the image's room are what they were
+  -- printed-refused: "a refusal changes no byte we lent"; "On refusal it writes only 7E, number, place in two bytes" and what C-12 adds: `refusal_line`
   pub printed-refused : (s : Refusal) → PrintedRun asked text page image (Refused s) page′ image′
-      → (take 19 page′ ≡ refusedLine (faultOf s)) × (drop 19 page′ ≡ drop 19 page) × (image′ ≡ image)
-  unfolding program
+      → (page′ ≡ page) × (image′ ≡ image) × (refusalLine s ≡ refusedLine (faultOf s))
   printed-refused s x =
-      let e = refused-so s whole (x .answers) in
-      let p = prints (Refused s) x in
-      (p .printed ∙ ap printed e, p .beyond, x .image-is ∙ ap (λ (j : Judged Output). imageAfter j image) e)
+      let e = refused-so s whole (x .answers) in (
+        x .page-is ∙ ap (λ (j : Judged Output). front (onPage j) page) e,
+        x .image-is ∙ ap (λ (j : Judged Output). imageAfter j image) e,
+        line-of-run asked text listingRoomOfProgram imageRoomOfProgram s e,
+      )

@@ -1,4 +1,5 @@
 pub mod Places
+pub mod Lines
 pub mod Pages
 -- ---- what the contracts say
 pub mod Coincide

@@ -4,28 +4,24 @@ use mathlib.Core.List.{List, [], _∷_, _++_, append-assoc, append-nil}
 use Prim.Native.Nat.{ℕ, _+_, _-_, _/_, _%_, _≤_}
 use native.Mathlib.Omega.{arith}
 use lib.Dec.{leb}
-use mir.Syntax.{w32}
-use mir.Val.{ofZ}
 use lib.ListN.{length, take, drop, length-append, length-take, length-drop, take-append-drop, drop-of-length-le}
 use lib.Seq.{drop-append-le}
 use borrow.Author.Tests.{le-leb}
 use Rattle.laws.proofs.Tests.{cond-true}
 use Rattle.laws.proofs.Stores.{rest-is, front-put}
 use Rattle.rules.specs.declared.Answer.{Answer}
-use Rattle.rules.specs.declared.Answer.the-variants.{Done, Refused}
-use Rattle.rules.specs.declared.Refusal.{Refusal}
+use Rattle.rules.specs.declared.Answer.the-variants.{Done}
 use Rattle.rules.specs.declared.Sizes.{Sizes}
 use Rattle.rules.specs.declared.Settings.{Settings}
-use Rattle.rules.specs.Refusals.{Fault, faultOf}
 use Rattle.rules.specs.Answers.{Judged, ok, no}
-use Rattle.rules.specs.Expressions.{pair, four}
-use Rattle.rules.specs.Output.{doneLine, refusedLine}
-use Rattle.rules.specs.Run.{Output, run, answerOf, front, listingAfter, imageAfter, printed, listingRoomOfProgram, imageRoomOfProgram, program}
+use Rattle.rules.specs.Expressions.{pair}
+use Rattle.rules.specs.Output.{doneLine}
+use Rattle.rules.specs.Run.{Output, run, answerOf, front, listingAfter, imageAfter, listingRoomOfProgram, imageRoomOfProgram}
 use Rattle.promises.specs.Demand2.{Answered}
 use Rattle.promises.proofs.Accepted.{accepted-iff}
 use Rattle.output.proofs.Rooms.{length-line}
-use Rattle.printing.specs.Page.{Lent, LineFits, Printable, lastAfter, pageLength, PrintedRun}
-use Rattle.printing.proofs.Places.{refused-early, refused-argument, few-rewrites}
+use Rattle.printing.specs.Page.{Lent, LineFits, Printable, lastAfter, pageLength, onPage, PrintedRun}
+use Rattle.printing.proofs.Places.{few-rewrites}
 
 -- ---- the last line
 
@@ -33,16 +29,9 @@ length-done : (count len : ℕ) → length (doneLine count len) ≡ 13
 unfolding doneLine
 length-done count len = length-line (0x7F ∷ (pair count ++ (len / 65536 ∷ len / 256 % 256 ∷ len % 256 ∷ [])))
 
-length-refused : (f : Fault) → length (refusedLine f) ≡ 19
-unfolding refusedLine
-length-refused f = length-line (0x7E ∷ f .number ∷ (pair (f .place) ++ (f .argument ∷ four (ofZ w32 (f .amount)))))
-
 -- what is asked of an answer, by its kind
 pub done-fits : (a : Answer) (s : Sizes) (room : ℕ) → a ≡ Done s → Printable a room → LineFits s room
 done-fits a s room e h = subst (λ (x : Answer). Printable x room) e h
-
-pub refused-fits : (a : Answer) (r : Refusal) (room : ℕ) → a ≡ Refused r → Printable a room → Printable (Refused r) room
-refused-fits a r room e h = subst (λ (x : Answer). Printable x room) e h
 
 -- the part from n on, and a line in it
 pub part-room : (page : List ℕ) (n k : ℕ) → n + k ≤ length page → k ≤ length (take (length page - n) (drop n page))
@@ -98,23 +87,23 @@ module _ (asked : Settings) (text : List ℕ) where
       let a = accepted-iff asked text listingRoomOfProgram imageRoomOfProgram o .0 e in
       let few : o .count ≤ 3072 = rw (a .result) (few-rewrites asked text (a .program) (a .keeps-rules)) in
       record { rewrites = omega arith; image = a .image-fits; listing = omega (arith, a .listing-fits) }
-  answer-fits room (no r) e h = (omega (arith, refused-early asked text listingRoomOfProgram imageRoomOfProgram r e), refused-argument asked text listingRoomOfProgram imageRoomOfProgram r e, omega arith)
+  answer-fits room (no r) e h = tt
 
   -- and makes up what is printed
-  answer-page : (page : List ℕ) (x : Judged Output) → lastAfter (answerOf x) (listingAfter x page) ≡ front (printed x) page
+  answer-page : (page : List ℕ) (x : Judged Output) → lastAfter (answerOf x) (listingAfter x page) ≡ front (onPage x) page
   answer-page page (ok o) =
       let line : List ℕ = doneLine (o .count) (length (o .image)) in
       front-put (o .listing) page (front (o .listing) page) (length (o .listing)) refl refl line _ (length line) refl
       ∙ ap (λ (n : ℕ). (o .listing ++ line) ++ drop n page) (sym (length-append (o .listing) line))
   answer-page page (no r) = refl
 
-  answer-length : (x : Judged Output) → whole ≡ x → pageLength (answerOf x) ≡ length (printed x)
+  answer-length : (x : Judged Output) → whole ≡ x → pageLength (answerOf x) ≡ length (onPage x)
   answer-length (ok o) e =
       let l : ℕ = length (o .listing) in
       let a = accepted-iff asked text listingRoomOfProgram imageRoomOfProgram o .0 e in
       cond-true (leb l listingRoomOfProgram) (l + 13) (listingRoomOfProgram + 13) (le-leb l listingRoomOfProgram (a .listing-fits))
       ∙ omega (arith, length-append (o .listing) (doneLine (o .count) (length (o .image))), length-done (o .count) (length (o .image)))
-  answer-length (no r) e = sym (length-refused (faultOf r))
+  answer-length (no r) e = refl
 
   -- ---- both together
   module _ (page image page₁ image₁ : List ℕ) (r : Answer) (room : length image ≡ imageRoomOfProgram) (lent : Lent asked text page image r page₁ image₁) where
@@ -125,7 +114,6 @@ module _ (asked : Settings) (text : List ℕ) where
     lent-printable n h = rw answered (answer-fits n whole refl h)
 
     pub lent-printed : (page₂ : List ℕ) → page₂ ≡ lastAfter r page₁ → PrintedRun asked text page image r page₂ image₁
-    unfolding program
     lent-printed page₂ e =
         let after : page₁ ≡ listingAfter whole page = lent .page-is ∙ ap (λ (m : ℕ). listingAfter (run asked text listingRoomOfProgram m) page) room in
         record {

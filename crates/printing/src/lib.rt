@@ -1,14 +1,15 @@
-// The program's answer to a text as the bytes that it prints: the new listing and the last line, or the 7E line of a refusal.
+// The program's answer to a text as the bytes that it prints: the new listing and the last line on a page, or a refusal's 7E line.
 use entries::fault_of;
 use entries::optimize_jumps;
 use output::done_line;
 use output::refused_line;
 use rules::Answer;
+use rules::Refusal;
 use rules::Settings;
 ghost use mathlib.Core.Path.{_≡_};
 ghost use Prim.Native.Nat.{_≤_};
 ghost use lib.ListN.{length};
-ghost use Rattle.printing.specs.Page.{Lent, Printable, lastAfter, PrintedRun, pageLength};
+ghost use Rattle.printing.specs.Page.{Lent, Printable, lastAfter, PrintedRun, pageLength, refusalLine};
 
 // The run has the page's front for its listing: what lies behind is kept for the last line.
 fn run_into(asked: Settings, listing: &[u8], page: &mut [u8], image: &mut [u8]) -> Answer
@@ -18,7 +19,7 @@ fn run_into(asked: Settings, listing: &[u8], page: &mut [u8], image: &mut [u8]) 
     optimize_jumps(asked, listing, &mut page[..62469], image)
 }
 
-// The last line behind the listing, or the 7E line in front.
+// The last line behind the listing. On refusal no lent byte changes.
 fn end_page(answer: Answer, page: &mut [u8])
     requires { ⌜ Printable answer (length (now page)) ⌝ }
     ensures { λ _. ⌜ now (page .exit) ≡ lastAfter answer (now (page .entry)) ⌝ }
@@ -28,14 +29,11 @@ fn end_page(answer: Answer, page: &mut [u8])
             let at = sizes.listing;
             done_line(sizes.rewrites, sizes.image, &mut page[at..]);
         }
-        Answer::Refused(r) => {
-            let f = fault_of(r);
-            refused_line(f.number, f.place, f.argument, f.amount, page);
-        }
+        Answer::Refused(_) => {}
     }
 }
 
-// All that the program prints stands at the front of the page.
+// All that the program prints of an accepted text stands at the front of the page.
 pub fn print_run(
     asked: Settings,
     listing: &[u8],
@@ -58,6 +56,22 @@ pub fn page_length(answer: Answer) -> usize
             let n = sizes.listing;
             if n <= 62469 { n + 13 } else { 62482 }
         }
-        Answer::Refused(_) => 19,
+        Answer::Refused(_) => 0,
     }
+}
+
+// The 7E line: the place in two bytes and the argument's place in one, which hold those of every refusal of a run.
+pub fn refusal_line(r: Refusal) -> [u8; 19]
+    ensures { λ line. ⌜ (line ≡ refusalLine r) × (19 ≡ length line) ⌝ }
+{
+    let f = fault_of(r);
+    let mut line = [0u8; 19];
+    refused_line(
+        f.number,
+        f.place % 65536,
+        f.argument % 256,
+        f.amount,
+        &mut line,
+    );
+    line
 }

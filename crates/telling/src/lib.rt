@@ -4,4 +4,3 @@ mod lines; // the text of a line
 mod refusals; // each refusal in a number and a sentence
 
 pub use refusals::say;
-pub use refusals::tell_person;

@@ -9,7 +9,7 @@ use io::write_all;
 use libc::STDERR_FILENO;
 use libc::STDOUT_FILENO;
 use listing::new_form;
-use output::refused_line;
+use printing::refusal_line;
 use rules::Refusal;
 
 // What a number means, in a sentence on standard error.
@@ -59,7 +59,7 @@ fn line_of(place: usize, marked: bool) -> usize {
 }
 
 // For a person, on standard error: the number and what it means; for one that names a statement, its place and the line.
-pub fn tell_person(r: Refusal, text: &[u8]) {
+fn tell_person(r: Refusal, text: &[u8]) {
     let f = fault_of(r);
     tell(b"refused ");
     print_decimal(STDERR_FILENO, f.number as u64);
@@ -89,13 +89,7 @@ fn tell_statement(f: Fault, text: &[u8]) {
 
 // The 7E line on standard output, and then the sentence.
 pub fn say(r: Refusal, text: &[u8]) {
-    let f = fault_of(r);
-    if f.place < 65536 {
-        if f.argument < 256 {
-            let mut line = [0u8; 19];
-            refused_line(f.number, f.place, f.argument, f.amount, &mut line);
-            write_all(STDOUT_FILENO, &line);
-        }
-    }
+    let line = refusal_line(r);
+    write_all(STDOUT_FILENO, &line);
     tell_person(r, text);
 }
