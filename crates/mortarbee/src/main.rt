@@ -1,17 +1,14 @@
 // The program: a listing on standard input, the answer on standard output; the word after its name says the job.
 mod checking; // reads a listing and says how many statements it has
 mod imaging; // the image of a listing as it stands
-mod numbers; // the numbers that people type
-mod optimizing; // the job of document 01
-mod options; // the switches of a run
-mod placing; // where a statement sits
-mod reading; // the listing of an image
-mod storing; // settings kept by edition
 
 use check::same;
 use libc::STDERR_FILENO;
-use options::Asked;
-use options::options_from;
+use words::optimizing;
+use words::options::Asked;
+use words::options::options_from;
+use words::placing;
+use words::reading;
 ghost use Prim.Native.Nat.{_<_};
 
 fn main() {
@@ -37,9 +34,9 @@ fn job(word: &[u8]) {
     } else if same(word, b"read-back") {
         reading::from_word();
     } else if same(word, b"settings") {
-        storing::settings();
+        keeping::settings();
     } else if same(word, b"under") {
-        storing::under();
+        keeping::under();
     } else {
         misuse(word);
     }

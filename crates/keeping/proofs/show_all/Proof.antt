@@ -1,9 +1,9 @@
--- `mortarbee::storing::show_all` goes through the 32 places and ends.
+-- `keeping::show_all` goes through the 32 places and ends.
 use Prim.Native.Nat.{_-_, _≤_}
 use native.Mathlib.Omega.{arith}
 use borrow.Author.Needs.{needs}
-use Rattle.mortarbee.proofs.storing.show_all.Statement.{statement}
-use Rattle.mortarbee.proofs.storing.show_all.Tie as tie
+use Rattle.keeping.proofs.show_all.Statement.{statement}
+use Rattle.keeping.proofs.show_all.Tie as tie
 
 abbrev Inv-loop : tie.InvT-loop
 Inv-loop room k₀ k = k ≤ 32

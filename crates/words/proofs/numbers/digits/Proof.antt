@@ -1,10 +1,10 @@
--- `mortarbee::numbers::digits` reads within the word and ends.
+-- `words::numbers::digits` reads within the word and ends.
 use Prim.Native.Nat.{_-_, _≤_}
 use native.Mathlib.Omega.{arith}
 use lib.ListN.{length}
 use borrow.Author.Needs.{needs}
-use Rattle.mortarbee.proofs.numbers.digits.Statement.{statement}
-use Rattle.mortarbee.proofs.numbers.digits.Tie as tie
+use Rattle.words.proofs.numbers.digits.Statement.{statement}
+use Rattle.words.proofs.numbers.digits.Tie as tie
 
 abbrev Inv-loop : tie.InvT-loop
 Inv-loop word hexadecimal n₀ i₀ n i = i ≤ length word

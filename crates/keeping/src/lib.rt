@@ -1,10 +1,5 @@
 // `settings`: the store of C-24 on standard input. `add` and `drop` write the store as it is then, `newest` writes an edition's number, `show` a line a
 // setting. `under`: document 01's job under an edition; the store comes in descriptor 3.
-use crate::numbers::Typed;
-use crate::numbers::number_of;
-use crate::optimizing::optimize;
-use crate::options::Asked;
-use crate::options::options_from;
 use check::same;
 use io::print_decimal;
 use io::read_full;
@@ -24,6 +19,11 @@ use store::get_edition;
 use store::get_newest;
 use store::show_place;
 use telling::say;
+use words::numbers::Typed;
+use words::numbers::number_of;
+use words::optimizing::optimize;
+use words::options::Asked;
+use words::options::options_from;
 
 // A family or an edition: two bytes.
 enum Two {
