@@ -12,7 +12,7 @@ import time
 
 sys.path.insert(0, os.path.join(os.path.dirname(os.path.dirname(os.path.abspath(__file__))), "differential"))
 
-from families.build import instr, label, name, number, quiet, text_of
+from families.build import data, instr, label, name, number, quiet, text_of, variable
 from families.code import inverted, tramp
 from programs import Program, build_oracle, ours
 
@@ -55,7 +55,20 @@ def half_stuck(n):
     return stuck + [label(0x8000)] + [instr("Jmpf", name(0x8000)) for _ in range(n - n // 2 - 1)]
 
 
-CASES = [nops, mixed, all_shrink, half_stuck]
+def many_names(n):
+    """Hundreds of names in many contexts"""
+    rng = random.Random("many names %d" % n)
+    result, contexts = [], n // 16
+    for g in range(1, contexts + 1):
+        own = [0x8000 + i for i in range(4)]
+        near, far = name(rng.choice(own)), name(rng.randint(1, contexts))
+        part = [variable(0x4000 + g, name(g)), instr("Jmpf", near), instr("Callf", far), instr("Jmpf", name(0x4000 + g)), data("words", far, near)]
+        part += [label(k) for k in own] + inverted(rng, 0x8004, own)
+        result += [label(g)] + part + [quiet(rng) for _ in range(15 - len(part))]
+    return result[:n]
+
+
+CASES = [nops, mixed, all_shrink, half_stuck, many_names]
 
 
 def once(program, text, times, limit):

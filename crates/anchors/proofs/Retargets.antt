@@ -76,14 +76,17 @@ label-inside names moving p i o e = on (isAnchored names p i (at p i)) e
 
 -- ---- the tables as read, and those with the inner labels
 
-module _ (t : Slots) (s : Sound t) (r : AsRead t) (owners offsets : List ℕ) (names : List Entry) (moving : List Key)
-    (labels : (i : ℕ) → i < t .count → getD owners i 0 ≡ ownerOf (originAt names moving (programOf t) i))
-    (offs : (i : ℕ) → i < t .count → getD offsets i 0 ≡ offsetOf (originAt names moving (programOf t) i)) where
+module _ (t : Slots) (s : Sound t) (r : AsRead t) (owners offsets : List ℕ) (moving : List Key)
+    (labels : (i : ℕ) → i < t .count → getD owners i 0 ≡ ownerOf (originAt (namesOf (programOf t)) moving (programOf t) i))
+    (offs : (i : ℕ) → i < t .count → getD offsets i 0 ≡ offsetOf (originAt (namesOf (programOf t)) moving (programOf t) i)) where
   abbrev u : Slots
   u = slots (t .frames) (t .starts) (t .count) (t .forms) (t .carry) owners offsets
 
   abbrev p : Program
   p = programOf t
+
+  abbrev names : List Entry
+  names = namesOf p
 
   inside : (i : ℕ) (o : Origin) → originAt names moving p i ≡ some o → o .place < t .count
   inside i o e = omega (arith, label-inside names moving p i o e, length-program t)
@@ -231,6 +234,6 @@ module _ (t : Slots) (s : Sound t) (r : AsRead t) (owners offsets : List ℕ) (n
         owned = owner-inside;
       }
 
-  pub tables-anchored : names ≡ namesOf p → moving ≡ movingOf p → Anchored t u
+  pub tables-anchored : moving ≡ movingOf p → Anchored t u
   unfolding anchor
-  tables-anchored e m = record { program = program-anchored ∙ ap₂ (λ (ns : List Entry) (ms : List Key). map (anchorAt ns ms p) (placed p)) e m; sound = sound-anchored }
+  tables-anchored m = record { program = program-anchored ∙ ap (λ (ms : List Key). map (anchorAt names ms p) (placed p)) m; sound = sound-anchored }

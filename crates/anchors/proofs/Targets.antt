@@ -3,25 +3,30 @@ use mathlib.Core.Path.{_≡_, refl, ap, _∙_}
 use mathlib.Core.List.{List}
 use mathlib.Core.Option.{none}
 use mathlib.Core.Bool.{Bool, true, false, _&&_, not, cond}
-use Prim.Native.Nat.{ℕ, _<_}
+use Prim.Native.Nat.{ℕ, _-_, _<_}
 use native.Mathlib.Omega.{arith}
 use lib.Dec.{T}
 use lib.IntN.{ℤ, pos, negsuc, natAbs}
+use lib.ListN.{length, getD}
 use lib.Signed.{ltZ, nonNeg}
 use mir.Syntax.{w32, w64}
 use mir.Val.{Fits, SFits}
 use mir.Facts.{fits-natAbs}
 use borrow.Author.Tests.{ltb-true}
 use Rattle.laws.proofs.Tests.{clash, true-false, first-false, second-false, and-both}
+use Rattle.rules.specs.declared.Outcome.{Outcome}
 use Rattle.rules.specs.declared.Outcome.the-variants.{Is}
 use Rattle.rules.specs.Values.{nat}
-use Rattle.rules.specs.Forms.{formAt, isTransfer}
+use Rattle.rules.specs.Forms.{formAt, isTransfer, operandsAt}
 use Rattle.rules.specs.Programs.{Stmt, gone, instr, label, variable, comment, org, bytes, words, pad, argsOf, lastOf, Program, at}
 use Rattle.rules.specs.Layout.{originFrom, origin}
 use Rattle.rules.specs.Names.{Key, Entry, contextAt}
 use Rattle.rules.specs.Rewriting.{isChangeJump, isAnchored}
+use Rattle.rules.specs.Statements.{argumentAt}
+use Rattle.expression.specs.Linked.{Linked}
+use Rattle.expression.proofs.Links.{linked-drop}
 use Rattle.slots.specs.Slots.{Slots, written, targetOf, programOf, Sound}
-use Rattle.patterns.specs.Targets.{standsAt, formIn, TargetIn}
+use Rattle.patterns.specs.Targets.{standsAt, formIn, TargetIn, lastBytes, lastLinks}
 use Rattle.patterns.proofs.Programs.{at-program}
 use Rattle.patterns.proofs.Instructions.{transfer-slot, carried-target, last-target, target-written}
 use Rattle.anchors.specs.Anchored.{constantValue, originAt, AsRead}
@@ -50,6 +55,14 @@ module _ (p : Program) where
   unfolding origin
   origin-address (pos a) e = refl
   origin-address (negsuc a) e = clash (cc)
+
+-- ---- a target by the links beside it
+
+pub last-linked : (env : ℕ → Outcome) (s links : List ℕ) (values : List ℤ) (limit : ℕ) → Linked env s links values limit
+    → Linked env (lastBytes s) (lastLinks s links) values limit
+unfolding lastBytes lastLinks
+last-linked env s links values limit h =
+    linked-drop s links values limit env (argumentAt s (operandsAt (getD s 1 0)) 2 (length (operandsAt (getD s 1 0)) - 1)) h
 
 -- ---- which targets are anchored
 

@@ -6,27 +6,31 @@ use asm::Origin;
 use asm::origin_of;
 use env::fill_moving;
 use expression::holds_label;
-use expression::worth_of;
+use expression::linked_worth;
 use instruction::tables::is_transfer;
 use patterns::targets::form_at;
 use patterns::targets::target_in;
+use patterns::targets::target_links;
 use rules::Address;
 use rules::Outcome;
 use rules::Place;
 ghost use mathlib.Core.Path.{_≡_};
-ghost use Prim.Native.Nat.{_<_};
+ghost use mathlib.Core.List.{List};
+ghost use Prim.Native.Nat.{ℕ, _<_};
 ghost use lib.IntN.{pos};
 ghost use lib.ListN.{length, getD};
 ghost use Rattle.rules.specs.Programs.{argsOf, lastOf};
 ghost use Rattle.rules.specs.Layout.{origin};
-ghost use Rattle.rules.specs.Judging.{namesOf};
+ghost use Rattle.rules.specs.Names.{Key, Entry, keyOf, lookup};
 ghost use Rattle.rules.specs.Rewriting.{movingOf};
-ghost use Rattle.expression.specs.Environment.{entriesOf, keysOf};
 ghost use Rattle.rules.specs.Values.{nat};
-ghost use Rattle.listing.specs.Tables.{inputAt, Held};
+ghost use Rattle.expression.specs.Environment.{keysOf};
+ghost use Rattle.expression.specs.Linked.{Linked};
+ghost use Rattle.listing.specs.Tables.{frameAt, inputAt, Held};
 ghost use Rattle.env.specs.Tables.{Any};
-ghost use Rattle.slots.specs.Slots.{slots, programOf, Positioned};
-ghost use Rattle.image.specs.Tables.{tables, program, Ready};
+ghost use Rattle.slots.specs.Slots.{Slots, slots, programOf, Positioned};
+ghost use Rattle.image.specs.Tables.{Tables, tables, program, Ready};
+ghost use Rattle.asm.specs.Assembling.{Placed};
 ghost use Rattle.patterns.specs.Targets.{TargetIn};
 ghost use Rattle.anchors.specs.Anchored.{constantValue, originAt, ownerIn, offsetIn, Small, Found, AsRead, Anchored};
 
@@ -36,18 +40,19 @@ fn target_value(
     frames: &[u8],
     starts: &[u16; 1025],
     count: usize,
-    names: &[u32; 1024],
     contexts: &[u16; 1024],
-    values: &[i32; 1024],
+    links: &[u16; 28672],
+    values: &[i64; 1024],
     moving: &[u32; 1024],
     at: Place,
 ) -> Outcome
-    requires { ⌜ Held (now frames) (now starts) count × TargetIn (now frames) (now starts) count (at .0) ⌝ }
-    ensures { λ r. ⌜ r ≡ constantValue
-        (entriesOf (now (names .entry)) (now (contexts .entry)) (now (values .entry)) count)
-        (keysOf (now (moving .entry)) (now (contexts .entry)) count)
-        (getD (now (contexts .entry)) (at .0) 0)
-        (lastOf (argsOf (inputAt (now (frames .entry)) (now (starts .entry)) (at .0)))) ⌝ }
+    requires { ⌜ Held (now frames) (now starts) count × TargetIn (now frames) (now starts) count (at .0) × (length (now links) ≡ 28672) ⌝ }
+    ensures { λ r. let k : ℕ = getD (now (contexts .entry)) (at .0) 0 in
+        ⌜ ((names : List Entry)
+        → Linked (λ m. lookup names (keyOf k m)) (frameAt (now (frames .entry)) (now (starts .entry)) (at .0))
+        (frameAt (now (links .entry)) (now (starts .entry)) (at .0)) (now (values .entry)) count
+        → r ≡ constantValue names (keysOf (now (moving .entry)) (now (contexts .entry)) count) k
+        (lastOf (argsOf (inputAt (now (frames .entry)) (now (starts .entry)) (at .0))))) ⌝ }
 {
     let i = at.0;
     let context = contexts[i];
@@ -55,7 +60,8 @@ fn target_value(
     if holds_label(target, moving, contexts, count, context) {
         return Outcome::Unknown;
     }
-    worth_of(target, names, contexts, values, count, context)
+    let beside = target_links(frames, starts, count, links, at);
+    linked_worth(target, beside, values, count)
 }
 
 // A number that is not negative, as an address.
@@ -75,8 +81,10 @@ fn value_origin(
     positions: &[u32; 1025],
     x: Outcome,
 ) -> Origin
-    requires { ⌜ Held (now frames) (now starts) count × Any (now frames) (now starts) count (now forms) (λ t. Positioned t (now positions)) ⌝ }
-    ensures { λ r. ⌜ Any (now (frames .entry)) (now (starts .entry)) count (now (forms .entry)) (λ t. Found t (origin (programOf t) x) r) ⌝ }
+    requires { ⌜ Held (now frames) (now starts) count
+        × Any (now frames) (now starts) count (now forms) (λ t. Positioned t (now positions)) ⌝ }
+    ensures { λ r. ⌜ Any (now (frames .entry)) (now (starts .entry)) count (now (forms .entry))
+        (λ t. Found t (origin (programOf t) x) r) ⌝ }
 {
     match x {
         Outcome::Is(v) => {
@@ -100,19 +108,20 @@ fn origin_at(
     carry: &[u16; 1024],
     bare: &[u16; 1024],
     none: &[u16; 1024],
-    names: &[u32; 1024],
     contexts: &[u16; 1024],
-    values: &[i32; 1024],
+    links: &[u16; 28672],
+    values: &[i64; 1024],
     positions: &[u32; 1025],
     moving: &[u32; 1024],
     at: Place,
 ) -> Origin
-    requires { ⌜ Ready (tables (now frames) (now starts) count (now forms) (now carry) (now bare) (now none)
-        (now names) (now contexts) (now values) (now positions))
-        × AsRead (slots (now frames) (now starts) count (now forms) (now carry) (now bare) (now none)) × (at .0 < count) ⌝ }
-    ensures { λ r. ⌜ (let d = tables (now (frames .entry)) (now (starts .entry)) count (now (forms .entry)) (now (carry .entry))
-        (now (bare .entry)) (now (none .entry)) (now (names .entry)) (now (contexts .entry)) (now (values .entry)) (now (positions .entry)) in
-        Found (d .slots) (originAt (d .entries) (keysOf (now (moving .entry)) (now (contexts .entry)) count) (program d) (at .0)) r) ⌝ }
+    requires { let d : Tables = tables (now frames) (now starts) count (now forms) (now carry) (now bare) (now none)
+        (now links) (now values) (now positions) in
+        ⌜ Ready d × AsRead (d .slots) × Placed (d .slots) (now contexts) × (at .0 < count) ⌝ }
+    ensures { λ r. let d : Tables = tables (now (frames .entry)) (now (starts .entry)) count (now (forms .entry)) (now (carry .entry))
+        (now (bare .entry)) (now (none .entry)) (now (links .entry)) (now (values .entry)) (now (positions .entry)) in
+        let names : List Key = keysOf (now (moving .entry)) (now (contexts .entry)) count in
+        ⌜ Found (d .slots) (originAt (d .entries) names (program d) (at .0)) r ⌝ }
 {
     if !is_transfer(form_at(frames, starts, count, forms, at)) {
         return Origin::Nothing;
@@ -125,15 +134,14 @@ fn origin_at(
         carry,
         bare,
         none,
-        names,
-        contexts,
+        links,
         values,
         positions,
         at,
     ) {
         return Origin::Nothing;
     }
-    let x = target_value(frames, starts, count, names, contexts, values, moving, at);
+    let x = target_value(frames, starts, count, contexts, links, values, moving, at);
     value_origin(frames, starts, count, forms, positions, x)
 }
 
@@ -163,22 +171,22 @@ fn anchor_targets(
     carry: &[u16; 1024],
     bare: &[u16; 1024],
     none: &[u16; 1024],
-    names: &[u32; 1024],
     contexts: &[u16; 1024],
-    values: &[i32; 1024],
+    links: &[u16; 28672],
+    values: &[i64; 1024],
     positions: &[u32; 1025],
     moving: &[u32; 1024],
     owners: &mut [u16; 1024],
     offsets: &mut [u16; 1024],
 )
-    requires { ⌜ (let d = tables (now frames) (now starts) count (now forms) (now carry) (now bare) (now none)
-        (now names) (now contexts) (now values) (now positions) in
-        Ready d × AsRead (d .slots) × (d .entries ≡ namesOf (program d))) ⌝ }
-    requires { ⌜ (length (now owners) ≡ 1024) × (length (now offsets) ≡ 1024)
-        × (keysOf (now moving) (now contexts) count
-        ≡ movingOf (programOf (slots (now frames) (now starts) count (now forms) (now carry) (now bare) (now none)))) ⌝ }
-    ensures { λ _. ⌜ (let over = slots (now (frames .entry)) (now (starts .entry)) count (now (forms .entry)) (now (carry .entry)) in
-        Anchored (over (now (bare .entry)) (now (none .entry))) (over (now (owners .exit)) (now (offsets .exit)))) ⌝ }
+    requires { let d : Tables = tables (now frames) (now starts) count (now forms) (now carry) (now bare) (now none)
+        (now links) (now values) (now positions) in
+        ⌜ Ready d × AsRead (d .slots) × Placed (d .slots) (now contexts) ⌝ }
+    requires { let t : Slots = slots (now frames) (now starts) count (now forms) (now carry) (now bare) (now none) in
+        ⌜ (length (now owners) ≡ 1024) × (length (now offsets) ≡ 1024)
+        × (keysOf (now moving) (now contexts) count ≡ movingOf (programOf t)) ⌝ }
+    ensures { λ _. let over = slots (now (frames .entry)) (now (starts .entry)) count (now (forms .entry)) (now (carry .entry)) in
+        ⌜ Anchored (over (now (bare .entry)) (now (none .entry))) (over (now (owners .exit)) (now (offsets .exit))) ⌝ }
     ensures { λ _. ⌜ (length (now (owners .exit)) ≡ 1024) × (length (now (offsets .exit)) ≡ 1024) ⌝ }
 {
     let mut i = 0;
@@ -191,8 +199,8 @@ fn anchor_targets(
             carry,
             bare,
             none,
-            names,
             contexts,
+            links,
             values,
             positions,
             moving,
@@ -214,19 +222,19 @@ pub fn anchor(
     carry: &[u16; 1024],
     bare: &[u16; 1024],
     none: &[u16; 1024],
-    names: &[u32; 1024],
     contexts: &[u16; 1024],
-    values: &[i32; 1024],
+    links: &[u16; 28672],
+    values: &[i64; 1024],
     positions: &[u32; 1025],
     owners: &mut [u16; 1024],
     offsets: &mut [u16; 1024],
 )
-    requires { ⌜ (let d = tables (now frames) (now starts) count (now forms) (now carry) (now bare) (now none)
-        (now names) (now contexts) (now values) (now positions) in
-        Ready d × AsRead (d .slots) × (d .entries ≡ namesOf (program d))) ⌝ }
+    requires { let d : Tables = tables (now frames) (now starts) count (now forms) (now carry) (now bare) (now none)
+        (now links) (now values) (now positions) in
+        ⌜ Ready d × AsRead (d .slots) × Placed (d .slots) (now contexts) ⌝ }
     requires { ⌜ (length (now owners) ≡ 1024) × (length (now offsets) ≡ 1024) ⌝ }
-    ensures { λ _. ⌜ (let over = slots (now (frames .entry)) (now (starts .entry)) count (now (forms .entry)) (now (carry .entry)) in
-        Anchored (over (now (bare .entry)) (now (none .entry))) (over (now (owners .exit)) (now (offsets .exit)))) ⌝ }
+    ensures { λ _. let over = slots (now (frames .entry)) (now (starts .entry)) count (now (forms .entry)) (now (carry .entry)) in
+        ⌜ Anchored (over (now (bare .entry)) (now (none .entry))) (over (now (owners .exit)) (now (offsets .exit))) ⌝ }
     ensures { λ _. ⌜ (length (now (owners .exit)) ≡ 1024) × (length (now (offsets .exit)) ≡ 1024) ⌝ }
 {
     let mut moving = [65536u32; 1024];
@@ -239,8 +247,8 @@ pub fn anchor(
         carry,
         bare,
         none,
-        names,
         contexts,
+        links,
         values,
         positions,
         &moving,

@@ -8,9 +8,8 @@ use rules::Outcome;
 use rules::Place;
 use slots::kind_at;
 ghost use mathlib.Core.Path.{_≡_};
-ghost use mathlib.Core.List.{List};
 ghost use mathlib.Core.Option.{some};
-ghost use Prim.Native.Nat.{ℕ, suc, _<_, _≤_};
+ghost use Prim.Native.Nat.{suc, _<_, _≤_};
 ghost use lib.Dec.{eqb};
 ghost use lib.ListN.{getD};
 ghost use Rattle.rules.specs.Values.{isNumber};
@@ -21,8 +20,9 @@ ghost use Rattle.rules.specs.Judging.{worthOf};
 ghost use Rattle.rules.specs.Rewriting.{skipped, valued10DAnd0, changesAt, isChangeJump};
 ghost use Rattle.rules.specs.Rewriting.{nearest as nearestPlace};
 ghost use Rattle.listing.specs.Tables.{Held};
-ghost use Rattle.slots.specs.Slots.{slots, slotAt, programOf};
-ghost use Rattle.image.specs.Tables.{tables, program, Ready};
+ghost use Rattle.env.specs.Tables.{Any};
+ghost use Rattle.slots.specs.Slots.{slotAt, programOf};
+ghost use Rattle.image.specs.Tables.{Tables, tables, program, Ready};
 ghost use Rattle.patterns.specs.Targets.{standsAt, formIn};
 ghost use Rattle.anchors.specs.Changes.{nearestAs};
 
@@ -35,7 +35,7 @@ fn skipped_at(
     at: Place,
 ) -> bool
     requires { ⌜ Held (now frames) (now starts) count × (at .0 < count) ⌝ }
-    ensures { λ r. ⌜ ((carry owners offsets : List ℕ) → r ≡ skipped (slotAt (slots (now (frames .entry)) (now (starts .entry)) count (now (forms .entry)) carry owners offsets) (at .0))) ⌝ }
+    ensures { λ r. ⌜ Any (now (frames .entry)) (now (starts .entry)) count (now (forms .entry)) (λ t. r ≡ skipped (slotAt t (at .0))) ⌝ }
 {
     let kind = kind_at(frames, starts, count, forms, at);
     if kind == 1 {
@@ -53,7 +53,8 @@ fn nearest(
     at: Place,
 ) -> Nearest
     requires { ⌜ Held (now frames) (now starts) count × (at .0 ≤ count) ⌝ }
-    ensures { λ r. ⌜ ((carry owners offsets : List ℕ) → r ≡ nearestAs (nearestPlace (programOf (slots (now (frames .entry)) (now (starts .entry)) count (now (forms .entry)) carry owners offsets)) (at .0))) ⌝ }
+    ensures { λ r. ⌜ Any (now (frames .entry)) (now (starts .entry)) count (now (forms .entry))
+        (λ t. r ≡ nearestAs (nearestPlace (programOf t) (at .0))) ⌝ }
 {
     let mut j = at.0;
     while 0 < j {
@@ -95,14 +96,17 @@ fn valued_at(
     carry: &[u16; 1024],
     owners: &[u16; 1024],
     offsets: &[u16; 1024],
-    names: &[u32; 1024],
-    contexts: &[u16; 1024],
-    values: &[i32; 1024],
+    links: &[u16; 28672],
+    values: &[i64; 1024],
     positions: &[u32; 1025],
     j: Place,
 ) -> bool
-    requires { ⌜ Ready (tables (now frames) (now starts) count (now forms) (now carry) (now owners) (now offsets) (now names) (now contexts) (now values) (now positions)) × (j .0 < count) × (formIn (standsAt (slots (now frames) (now starts) count (now forms) (now carry) (now owners) (now offsets)) (j .0)) ≡ not1) ⌝ }
-    ensures { λ r. ⌜ (let d = tables (now (frames .entry)) (now (starts .entry)) count (now (forms .entry)) (now (carry .entry)) (now (owners .entry)) (now (offsets .entry)) (now (names .entry)) (now (contexts .entry)) (now (values .entry)) (now (positions .entry)) in r ≡ valued10DAnd0 (worthOf (d .entries) (program d) (contextAt (program d) (j .0))) (argsOf (standsAt (d .slots) (j .0)))) ⌝ }
+    requires { let d : Tables = tables (now frames) (now starts) count (now forms) (now carry) (now owners) (now offsets)
+        (now links) (now values) (now positions) in
+        ⌜ Ready d × (j .0 < count) × (formIn (standsAt (d .slots) (j .0)) ≡ not1) ⌝ }
+    ensures { λ r. let d : Tables = tables (now (frames .entry)) (now (starts .entry)) count (now (forms .entry)) (now (carry .entry))
+        (now (owners .entry)) (now (offsets .entry)) (now (links .entry)) (now (values .entry)) (now (positions .entry)) in
+        ⌜ r ≡ valued10DAnd0 (worthOf (d .entries) (program d) (contextAt (program d) (j .0))) (argsOf (standsAt (d .slots) (j .0))) ⌝ }
 {
     let bank = argument_worth(
         frames,
@@ -112,8 +116,7 @@ fn valued_at(
         carry,
         owners,
         offsets,
-        names,
-        contexts,
+        links,
         values,
         positions,
         j,
@@ -130,8 +133,7 @@ fn valued_at(
         carry,
         owners,
         offsets,
-        names,
-        contexts,
+        links,
         values,
         positions,
         j,
@@ -149,15 +151,18 @@ fn changes_at(
     carry: &[u16; 1024],
     owners: &[u16; 1024],
     offsets: &[u16; 1024],
-    names: &[u32; 1024],
-    contexts: &[u16; 1024],
-    values: &[i32; 1024],
+    links: &[u16; 28672],
+    values: &[i64; 1024],
     positions: &[u32; 1025],
     at: Place,
     j: Place,
 ) -> bool
-    requires { ⌜ Ready (tables (now frames) (now starts) count (now forms) (now carry) (now owners) (now offsets) (now names) (now contexts) (now values) (now positions)) × (at .0 < count) × (j .0 < count) ⌝ }
-    ensures { λ r. ⌜ (let d = tables (now (frames .entry)) (now (starts .entry)) count (now (forms .entry)) (now (carry .entry)) (now (owners .entry)) (now (offsets .entry)) (now (names .entry)) (now (contexts .entry)) (now (values .entry)) (now (positions .entry)) in r ≡ changesAt (d .entries) (program d) (at .0) (some (j .0))) ⌝ }
+    requires { let d : Tables = tables (now frames) (now starts) count (now forms) (now carry) (now owners) (now offsets)
+        (now links) (now values) (now positions) in
+        ⌜ Ready d × (at .0 < count) × (j .0 < count) ⌝ }
+    ensures { λ r. let d : Tables = tables (now (frames .entry)) (now (starts .entry)) count (now (forms .entry)) (now (carry .entry))
+        (now (owners .entry)) (now (offsets .entry)) (now (links .entry)) (now (values .entry)) (now (positions .entry)) in
+        ⌜ r ≡ changesAt (d .entries) (program d) (at .0) (some (j .0)) ⌝ }
 {
     if form_at(frames, starts, count, forms, j) != NOT1 {
         return false;
@@ -170,8 +175,7 @@ fn changes_at(
         carry,
         owners,
         offsets,
-        names,
-        contexts,
+        links,
         values,
         positions,
         j,
@@ -190,14 +194,17 @@ pub fn is_change_jump(
     carry: &[u16; 1024],
     owners: &[u16; 1024],
     offsets: &[u16; 1024],
-    names: &[u32; 1024],
-    contexts: &[u16; 1024],
-    values: &[i32; 1024],
+    links: &[u16; 28672],
+    values: &[i64; 1024],
     positions: &[u32; 1025],
     at: Place,
 ) -> bool
-    requires { ⌜ Ready (tables (now frames) (now starts) count (now forms) (now carry) (now owners) (now offsets) (now names) (now contexts) (now values) (now positions)) × (at .0 < count) ⌝ }
-    ensures { λ r. ⌜ (let d = tables (now (frames .entry)) (now (starts .entry)) count (now (forms .entry)) (now (carry .entry)) (now (owners .entry)) (now (offsets .entry)) (now (names .entry)) (now (contexts .entry)) (now (values .entry)) (now (positions .entry)) in r ≡ isChangeJump (d .entries) (program d) (at .0)) ⌝ }
+    requires { let d : Tables = tables (now frames) (now starts) count (now forms) (now carry) (now owners) (now offsets)
+        (now links) (now values) (now positions) in
+        ⌜ Ready d × (at .0 < count) ⌝ }
+    ensures { λ r. let d : Tables = tables (now (frames .entry)) (now (starts .entry)) count (now (forms .entry)) (now (carry .entry))
+        (now (owners .entry)) (now (offsets .entry)) (now (links .entry)) (now (values .entry)) (now (positions .entry)) in
+        ⌜ r ≡ isChangeJump (d .entries) (program d) (at .0) ⌝ }
 {
     if form_at(frames, starts, count, forms, at) != JMPF {
         return false;
@@ -211,8 +218,7 @@ pub fn is_change_jump(
             carry,
             owners,
             offsets,
-            names,
-            contexts,
+            links,
             values,
             positions,
             at,

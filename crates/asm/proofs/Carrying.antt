@@ -29,7 +29,7 @@ either F f g e false (words es) = refl
 either F f g e false (pad add m) = refl
 
 -- statements that enter the same contexts
-context-same : (k : ℕ) (p q : Program) → length p ≡ length q → ((j : Placeℕ) (m : ℕ) → j < length p → enter m (at p j) ≡ enter m (at q j))
+pub context-same : (k : ℕ) (p q : Program) → length p ≡ length q → ((j : Placeℕ) (m : ℕ) → j < length p → enter m (at p j) ≡ enter m (at q j))
     → (i : Placeℕ) → contextFrom k p i ≡ contextFrom k q i
 unfolding contextFrom
 context-same k [] [] e h i = refl

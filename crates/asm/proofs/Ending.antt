@@ -12,8 +12,8 @@ use Rattle.rules.specs.Layout.{position}
 use Rattle.rules.specs.Names.{Entry, placed}
 use Rattle.rules.specs.Judging.{noNameTwice, positionsFit, defineAll, encodeAll, namesOf, judge, assembles}
 use Rattle.rules.proofs.Laws.{next-ok}
-use Rattle.expression.specs.Environment.{entriesOf}
 use Rattle.slots.specs.Slots.{Slots, programOf, Sound}
+use Rattle.slots.specs.Links.{contextsRead, Together}
 use Rattle.env.specs.declared.Checked.{Checked}
 use Rattle.env.specs.declared.Checked.the-variants.{Passes, Refused}
 use Rattle.image.specs.declared.Checked.{Checked as Encoded}
@@ -22,7 +22,7 @@ use Rattle.image.specs.Tables.{Tables, program, Ready}
 use Rattle.image.specs.Encoding.{checkedAs, encodeSlots}
 use Rattle.asm.specs.declared.Verdict.{Verdict}
 use Rattle.asm.specs.declared.Verdict.the-variants.{Good, Refused as Bad}
-use Rattle.asm.specs.Assembling.{namesJudged, Placed, Filled, Prepared}
+use Rattle.asm.specs.Assembling.{namesJudged, InPlace, Filled, Prepared}
 use Rattle.asm.specs.Verdicts.{verdictAs, JudgedAs}
 use Rattle.asm.proofs.Passing.{refused-is}
 
@@ -74,42 +74,51 @@ names-stand p names e =
 
 -- ---- the tables
 
-module _ (t : Slots) (contexts names : List ℕ) (values : List ℤ) (positions : List ℕ) where
+module _ (t : Slots) (links : List ℕ) (values : List ℤ) (positions : List ℕ) where
   abbrev pub held : Tables
-  held = record { slots = t; entries = entriesOf names contexts values (t .count); contexts = contexts; positions = positions }
+  held =
+      record {
+        slots = t;
+        entries = namesOf (programOf t);
+        contexts = contextsRead (t .frames) (t .starts) (t .count);
+        links = links;
+        values = values;
+        positions = positions;
+      }
 
-  pub ready-of : Sound t → Placed t contexts → Filled t contexts names values positions → Ready held
-  ready-of s c f =
+  pub ready-of : Sound t → Together t → InPlace t → Filled t links values positions → Ready held
+  ready-of s g c f =
       record {
         sound = s;
+        says = f .says;
+        together = g;
         context = c .context;
         position = f .place;
         rises = λ i l. rw (f .place i (omega arith), f .place (suc i) l) (f .rises i l);
         low = λ i l. rw (f .place i l) (f .low i l);
       }
 
-  pub judged-refused : (r : Checked) (q : Refusal) → Prepared t contexts names values positions r → r ≡ Refused q → JudgedAs held (Bad q)
+  pub judged-refused : (r : Checked) (q : Refusal) → Prepared t links values positions r → r ≡ Refused q → JudgedAs held (Bad q)
   judged-refused r q h e =
       let n = judge-refused (programOf t) q (refused-is (namesJudged (programOf t)) q (sym e ∙ h .answer)) in
       record {
         answer = sym (ap verdictAs n);
         ready = λ z. absurd (let w : _≡_ {A = ℕ} 0 1 = cc in omega arith);
-        names = λ z. absurd (let w : _≡_ {A = ℕ} 0 1 = cc in omega arith);
         encodes = λ z. absurd (let w : _≡_ {A = ℕ} 0 1 = cc in omega arith);
       }
 
-  pub judged-last : (v : Verdict) → Sound t → Placed t contexts → Filled t contexts names values positions → v ≡ verdictAs (encodeSlots held) → JudgedAs held v
+  pub judged-last : (v : Verdict) → Sound t → Together t → InPlace t → Filled t links values positions → v ≡ verdictAs (encodeSlots held) → JudgedAs held v
   unfolding encodeSlots
-  judged-last v s c f e =
-      let n = judge-encodes (programOf t) (entriesOf names contexts values (t .count)) (f .entries) in
-      record { answer = e ∙ ap verdictAs (sym n); ready = λ z. ready-of s c f; names = λ z. names-stand (programOf t) (entriesOf names contexts values (t .count)) (f .entries); encodes = λ z. n }
+  judged-last v s g c f e =
+      let n = judge-encodes (programOf t) (namesOf (programOf t)) (f .entries) in
+      record { answer = e ∙ ap verdictAs (sym n); ready = λ z. ready-of s g c f; encodes = λ z. n }
 
   -- ---- the same as a test
 
-  pub fails-refused : (r : Checked) (q : Refusal) → Prepared t contexts names values positions r → r ≡ Refused q → false ≡ assembles (programOf t)
+  pub fails-refused : (r : Checked) (q : Refusal) → Prepared t links values positions r → r ≡ Refused q → false ≡ assembles (programOf t)
   unfolding assembles isOk
   fails-refused r q h e = sym (ap (λ x. isOk x) (judge-refused (programOf t) q (refused-is (namesJudged (programOf t)) q (sym e ∙ h .answer))))
 
-  pub assembles-last : (b : Bool) → Filled t contexts names values positions → b ≡ isOk (encodeSlots held) → b ≡ assembles (programOf t)
+  pub assembles-last : (b : Bool) → Filled t links values positions → b ≡ isOk (encodeSlots held) → b ≡ assembles (programOf t)
   unfolding assembles encodeSlots
-  assembles-last b f e = e ∙ sym (ap (λ x. isOk x) (judge-encodes (programOf t) (entriesOf names contexts values (t .count)) (f .entries)))
+  assembles-last b f e = e ∙ sym (ap (λ x. isOk x) (judge-encodes (programOf t) (namesOf (programOf t)) (f .entries)))

@@ -4,3 +4,4 @@ pub mod Ending
 pub mod OriginsBack
 pub mod Finding
 pub mod Started
+pub mod Finds

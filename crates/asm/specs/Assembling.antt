@@ -8,9 +8,9 @@ use Rattle.rules.specs.Answers.{Judged, ok, _>>_}
 use Rattle.rules.specs.Programs.{Placeℕ, Program}
 use Rattle.rules.specs.Layout.{position}
 use Rattle.rules.specs.Names.{Entry, contextAt, placed}
-use Rattle.rules.specs.Judging.{noNameTwice, positionsFit, defineAll}
-use Rattle.expression.specs.Environment.{entriesOf}
-use Rattle.slots.specs.Slots.{Slots, programOf}
+use Rattle.rules.specs.Judging.{noNameTwice, positionsFit, defineAll, namesOf}
+use Rattle.slots.specs.Slots.{Slots, goneForm, programOf}
+use Rattle.slots.specs.Links.{contextsRead, Says}
 use Rattle.env.specs.declared.Checked.{Checked}
 use Rattle.env.specs.declared.Checked.the-variants.{Passes}
 use Rattle.env.specs.Answers.{checkedAs}
@@ -30,13 +30,22 @@ pub record Placed (t : Slots) (contexts : List ℕ) : Type 0 where
 abbrev pub Once : Slots → Type 0
 Once t = noNameTwice [] (placed (programOf t)) ≡ ok tt
 
+-- no slot is gone: the listing as it was read
+abbrev pub Whole : Slots → Type 0
+Whole t = (i : Placeℕ) → i < t .count → getD (t .forms) i 0 ≡ goneForm → ⊥
+
+-- the contexts of the slots are those of the listing as it was read
+abbrev pub InPlace : Slots → Type 0
+InPlace t = Placed t (contextsRead (t .frames) (t .starts) (t .count))
+
 -- what the tables hold of a program whose names stand
-pub record Filled (t : Slots) (contexts names : List ℕ) (values : List ℤ) (positions : List ℕ) : Type 0 where
-  pub entries : namesJudged (programOf t) ≡ ok (entriesOf names contexts values (t .count))
+pub record Filled (t : Slots) (links : List ℕ) (values : List ℤ) (positions : List ℕ) : Type 0 where
+  pub entries : namesJudged (programOf t) ≡ ok (namesOf (programOf t))
+  pub says : Says t (namesOf (programOf t)) links values
   pub place : (i : Placeℕ) → i ≤ t .count → getD positions i 0 ≡ position (programOf t) i
   pub low : (i : Placeℕ) → i ≤ t .count → position (programOf t) i ≤ 65536
   pub rises : (i : Placeℕ) → i < t .count → position (programOf t) i ≤ position (programOf t) (suc i)
 
-pub record Prepared (t : Slots) (contexts names : List ℕ) (values : List ℤ) (positions : List ℕ) (r : Checked) : Type 0 where
+pub record Prepared (t : Slots) (links : List ℕ) (values : List ℤ) (positions : List ℕ) (r : Checked) : Type 0 where
   pub answer : r ≡ checkedAs (namesJudged (programOf t))
-  pub filled : r ≡ Passes → Filled t contexts names values positions
+  pub filled : r ≡ Passes → Filled t links values positions

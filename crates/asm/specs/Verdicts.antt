@@ -1,7 +1,7 @@
 -- The verdict on a program, and what the tables hold where it is good.
 use mathlib.Core.Path.{_≡_}
 use Rattle.rules.specs.Answers.{Judged, ok, no}
-use Rattle.rules.specs.Judging.{namesOf, judge}
+use Rattle.rules.specs.Judging.{judge}
 use Rattle.image.specs.Tables.{Tables, program, Ready}
 use Rattle.image.specs.Encoding.{encodeSlots}
 use Rattle.asm.specs.declared.Verdict.{Verdict}
@@ -14,5 +14,4 @@ verdictAs (no r) = Refused r
 pub record JudgedAs (d : Tables) (r : Verdict) : Type 0 where
   pub answer : r ≡ verdictAs (judge (program d))
   pub ready : r ≡ Good → Ready d
-  pub names : r ≡ Good → namesOf (program d) ≡ d .entries
   pub encodes : r ≡ Good → judge (program d) ≡ encodeSlots d

@@ -1,7 +1,6 @@
 // Whether a candidate assembles: yes or no. A rewrite adds no name, so 3 is never asked again.
 use crate::names::lay_and_define;
 use env::Checked;
-use env::fill_names;
 use image::encode_all;
 use image::encodes_at;
 use rules::Place;
@@ -11,10 +10,11 @@ ghost use Prim.Native.Nat.{_<_};
 ghost use lib.ListN.{length};
 ghost use Rattle.rules.specs.Answers.{isOk};
 ghost use Rattle.rules.specs.Judging.{assembles};
-ghost use Rattle.slots.specs.Slots.{slots, programOf, Positioned, Sound};
-ghost use Rattle.image.specs.Tables.{tables, Ready};
+ghost use Rattle.slots.specs.Slots.{Slots, slots, programOf, Positioned, Sound};
+ghost use Rattle.slots.specs.Links.{Beside, Together};
+ghost use Rattle.image.specs.Tables.{Tables, tables, Ready};
 ghost use Rattle.image.specs.Encoding.{encodeSlots};
-ghost use Rattle.asm.specs.Assembling.{Placed, Once};
+ghost use Rattle.asm.specs.Assembling.{InPlace, Once};
 
 // Whether all statements encode. The one at the hint is looked at first.
 fn encodes_all(
@@ -25,14 +25,17 @@ fn encodes_all(
     carry: &[u16; 1024],
     owners: &[u16; 1024],
     offsets: &[u16; 1024],
-    names: &[u32; 1024],
-    contexts: &[u16; 1024],
-    values: &[i32; 1024],
+    links: &[u16; 28672],
+    values: &[i64; 1024],
     positions: &[u32; 1025],
     hint: Place,
 ) -> bool
-    requires { ⌜ Ready (tables (now frames) (now starts) count (now forms) (now carry) (now owners) (now offsets) (now names) (now contexts) (now values) (now positions)) × (hint .0 < count) ⌝ }
-    ensures { λ r. ⌜ r ≡ isOk (encodeSlots (tables (now (frames .entry)) (now (starts .entry)) count (now (forms .entry)) (now (carry .entry)) (now (owners .entry)) (now (offsets .entry)) (now (names .entry)) (now (contexts .entry)) (now (values .entry)) (now (positions .entry)))) ⌝ }
+    requires { let d : Tables = tables (now frames) (now starts) count (now forms) (now carry) (now owners) (now offsets)
+        (now links) (now values) (now positions) in
+        ⌜ Ready d × (hint .0 < count) ⌝ }
+    ensures { λ r. let d : Tables = tables (now (frames .entry)) (now (starts .entry)) count (now (forms .entry)) (now (carry .entry))
+        (now (owners .entry)) (now (offsets .entry)) (now (links .entry)) (now (values .entry)) (now (positions .entry)) in
+        ⌜ r ≡ isOk (encodeSlots d) ⌝ }
 {
     if !encodes_at(
         frames,
@@ -42,8 +45,7 @@ fn encodes_all(
         carry,
         owners,
         offsets,
-        names,
-        contexts,
+        links,
         values,
         positions,
         hint,
@@ -58,8 +60,7 @@ fn encodes_all(
         carry,
         owners,
         offsets,
-        names,
-        contexts,
+        links,
         values,
         positions,
     ) {
@@ -68,8 +69,8 @@ fn encodes_all(
     }
 }
 
-// Whether the program assembles, and where it does, its positions. It looks first where it is likely to fail: at the statement that a rewrite
-// changed. `contexts` are those of the slots, and no name is defined twice.
+// Whether the program assembles, and where it does, its positions. It looks first where it is likely to fail: at the statement that a
+// rewrite changed. `links` are those of the listing as it was read, and no name is defined twice.
 pub fn assembles(
     frames: &[u8],
     starts: &[u16; 1025],
@@ -78,29 +79,19 @@ pub fn assembles(
     carry: &[u16; 1024],
     owners: &[u16; 1024],
     offsets: &[u16; 1024],
-    contexts: &[u16; 1024],
+    links: &[u16; 28672],
     hint: Place,
     positions: &mut [u32; 1025],
 ) -> bool
-    requires { ⌜ (let t = slots (now frames) (now starts) count (now forms) (now carry) (now owners) (now offsets) in
-        Sound t × Placed t (now contexts) × Once t × (hint .0 < count) × (length (now positions) ≡ 1025)) ⌝ }
-    ensures { λ r. ⌜ (let t = slots (now (frames .entry)) (now (starts .entry)) count (now (forms .entry))
+    requires { let t : Slots = slots (now frames) (now starts) count (now forms) (now carry) (now owners) (now offsets) in
+        ⌜ Sound t × InPlace t × Together t × Once t × Beside (now frames) (now starts) count (now links)
+        × (hint .0 < count) × (length (now positions) ≡ 1025) ⌝ }
+    ensures { λ r. let t : Slots = slots (now (frames .entry)) (now (starts .entry)) count (now (forms .entry))
         (now (carry .entry)) (now (owners .entry)) (now (offsets .entry)) in
-        (r ≡ assembles (programOf t)) × (r ≡ true → Positioned t (now (positions .exit)))) ⌝ }
+        ⌜ (r ≡ assembles (programOf t)) × (r ≡ true → Positioned t (now (positions .exit))) ⌝ }
 {
-    let mut names = [65536u32; 1024];
-    let mut values = [0i32; 1024];
-    fill_names(frames, starts, count, forms, &mut names);
-    match lay_and_define(
-        frames,
-        starts,
-        count,
-        forms,
-        &names,
-        contexts,
-        positions,
-        &mut values,
-    ) {
+    let mut values = [0i64; 1024];
+    match lay_and_define(frames, starts, count, forms, links, positions, &mut values) {
         Checked::Refused(_) => false,
         Checked::Passes => encodes_all(
             frames,
@@ -110,8 +101,7 @@ pub fn assembles(
             carry,
             owners,
             offsets,
-            &names,
-            contexts,
+            links,
             &values,
             positions,
             hint,

@@ -7,7 +7,8 @@ mod start; // the slots of a listing as read
 
 pub use candidates::assembles;
 pub use judging::judge;
-pub use names::name_and_lay;
+pub use judging::judge_linked;
+pub use names::lay_and_define;
 pub use origins::address_of;
 pub use origins::origin_of;
 use rules::Place;

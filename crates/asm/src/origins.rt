@@ -39,7 +39,8 @@ pub fn origin_of(
     positions: &[u32; 1025],
     address: Address,
 ) -> Origin
-    requires { ⌜ Held (now frames) (now starts) count × Any (now frames) (now starts) count (now forms) (λ t. Positioned t (now positions)) ⌝ }
+    requires { ⌜ Held (now frames) (now starts) count
+        × Any (now frames) (now starts) count (now forms) (λ t. Positioned t (now positions)) ⌝ }
     ensures { λ r. ⌜ Any (now (frames .entry)) (now (starts .entry)) count (now (forms .entry)) (λ t. FoundAs t (address .0) r) ⌝ }
 {
     let mut i = 0;

@@ -22,7 +22,8 @@ fn form_in(frame: &[u8]) -> u8
 // Fills the form of each place.
 pub fn start_forms(frames: &[u8], starts: &[u16; 1025], count: usize, forms: &mut [u8; 1024])
     requires { ⌜ Held (now frames) (now starts) count × (length (now forms) ≡ 1024) ⌝ }
-    ensures { λ _. ⌜ now (forms .exit) ≡ tab (λ i. formIn (frameAt (now (frames .entry)) (now (starts .entry)) i)) count ++ drop count (now (forms .entry)) ⌝ }
+    ensures { λ _. ⌜ now (forms .exit)
+        ≡ tab (λ i. formIn (frameAt (now (frames .entry)) (now (starts .entry)) i)) count ++ drop count (now (forms .entry)) ⌝ }
 {
     let mut i = 0;
     while i < count {

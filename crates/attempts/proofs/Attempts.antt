@@ -17,15 +17,21 @@ use Rattle.rules.specs.Names.{enter}
 use Rattle.rules.specs.Judging.{assembles}
 use Rattle.rules.specs.Rewriting.{everyInnerLabel, acceptable, candidate, localLabel, dropAll}
 use Rattle.slots.specs.Slots.{Slots, slots, goneForm, slotAt, programOf, Agree}
+use Rattle.slots.specs.Links.{Beside}
+use Rattle.patterns.specs.Mentions.{Told}
 use Rattle.patterns.proofs.Programs.{at-program}
 use Rattle.attempts.specs.Standing.{Standing, Tried}
 use Rattle.attempts.specs.Folds.{inverted, bounced, Inverts, Bounces}
 use Rattle.attempts.proofs.Edits.{Quiet, instr-quiet, label-quiet, edit-gone, edit-form, edit-aimed, edit-target}
 
+-- what the links say of a program that stands
+pub told : (t : Slots) (links : List ℕ) → Standing t → Beside (t .frames) (t .starts) (t .count) links → Told t links
+told t links st b = record { beside = b; contexts = st .context .context; together = st .together }
+
 -- ---- whether it counts
 
-pub tried-not : (x : Option Program) (contexts : List ℕ) (t : Slots) → Standing t contexts → x ≡ none → Tried x contexts t t false
-tried-not x contexts t st e =
+pub tried-not : (x : Option Program) (t : Slots) → Standing t → x ≡ none → Tried x t t false
+tried-not x t st e =
     record {
       says = sym (ap isSome e);
       leaves = sym (ap (λ (o : Option Program). getOr o (programOf t)) e);
@@ -57,16 +63,16 @@ module _ (p : Program) (whole : Bool) (w : whole ≡ assembles p) where
   counts-if b h e = e ∙ sym (and-right (everyInnerLabel (λ owner o. ltb o (sizeIn p owner)) p) (assembles p) (sym w ∙ h))
 
 -- an attempt at what x comes to is one at x
-pub tried-as : (x y : Option Program) (contexts : List ℕ) (t u : Slots) (r : Bool) → x ≡ y → Tried y contexts t u r → Tried x contexts t u r
-tried-as x y contexts t u r e h = subst (λ (o : Option Program). Tried o contexts t u r) (sym e) h
+pub tried-as : (x y : Option Program) (t u : Slots) (r : Bool) → x ≡ y → Tried y t u r → Tried x t u r
+tried-as x y t u r e h = subst (λ (o : Option Program). Tried o t u r) (sym e) h
 
 -- the tables u hold the candidate q
-pub record Holding (u : Slots) (contexts : List ℕ) (q : Program) : Type 0 where
+pub record Holding (u : Slots) (q : Program) : Type 0 where
   pub is : programOf u ≡ q
-  pub stands : Standing u contexts
+  pub stands : Standing u
 
-module _ (q : Program) (contexts : List ℕ) (t u : Slots) (h : Holding u contexts q) (b : Bool) (e : b ≡ acceptable (programOf u)) where
-  pub tried-kept : b ≡ true → Tried (candidate q) contexts t u true
+module _ (q : Program) (t u : Slots) (h : Holding u q) (b : Bool) (e : b ≡ acceptable (programOf u)) where
+  pub tried-kept : b ≡ true → Tried (candidate q) t u true
   tried-kept counts =
       let is = candidate-is q b (e ∙ ap acceptable (h .is)) counts in
       record {
@@ -80,30 +86,30 @@ module _ (q : Program) (contexts : List ℕ) (t u : Slots) (h : Holding u contex
   pub tried-none : b ≡ false → candidate q ≡ none
   tried-none fails = candidate-not q b (e ∙ ap acceptable (h .is)) fails
 
-module _ (frames starts : List ℕ) (count : ℕ) (forms carry owners offsets contexts : List ℕ) (st : Standing (slots frames starts count forms carry owners offsets) contexts) where
+module _ (frames starts : List ℕ) (count : ℕ) (forms carry owners offsets : List ℕ) (st : Standing (slots frames starts count forms carry owners offsets)) where
   abbrev there : (forms carry : List ℕ) → Slots
   there forms carry = slots frames starts count forms carry owners offsets
 
   -- the tables as they were, by equations
-  pub tried-back : (x : Option Program) (forms′ carry′ : List ℕ) → x ≡ none → forms′ ≡ forms → carry′ ≡ carry → Tried x contexts (there forms carry) (there forms′ carry′) false
+  pub tried-back : (x : Option Program) (forms′ carry′ : List ℕ) → x ≡ none → forms′ ≡ forms → carry′ ≡ carry → Tried x (there forms carry) (there forms′ carry′) false
   tried-back x forms′ carry′ e f c =
-      subst (λ (a : List ℕ). Tried x contexts (there forms carry) (there a carry′) false) (sym f)
-      (subst (λ (a : List ℕ). Tried x contexts (there forms carry) (there forms a) false) (sym c) (tried-not x contexts (there forms carry) st e))
+      subst (λ (a : List ℕ). Tried x (there forms carry) (there a carry′) false) (sym f)
+      (subst (λ (a : List ℕ). Tried x (there forms carry) (there forms a) false) (sym c) (tried-not x (there forms carry) st e))
 
   -- ---- the folds
 
   inverted-held : (to i j : ℕ) → Inverts (there forms carry) to i j
-      → Holding (there (set (set forms i to) j goneForm) (set carry i (getD carry j 0))) contexts (inverted (there forms carry) to i j)
+      → Holding (there (set (set forms i to) j goneForm) (set carry i (getD carry j 0))) (inverted (there forms carry) to i j)
   unfolding inverted dropAll
   inverted-held to i j h =
-      let a = edit-aimed frames starts count forms carry owners offsets contexts st i j to (h .branches) (h .jumps) (h .agrees) in
+      let a = edit-aimed frames starts count forms carry owners offsets st i j to (h .branches) (h .jumps) (h .together) (h .agrees) in
       let quiet : Quiet (slotAt (there (set forms i to) (set carry i (getD carry j 0))) j) =
       instr-quiet (slotAt (there (set forms i to) (set carry i (getD carry j 0))) j) (ap kindOf (a .elsewhere j (λ e. omega (arith, h .rises))) ∙ h .jumps .kind) in
-      let b = edit-gone frames starts count (set forms i to) (set carry i (getD carry j 0)) owners offsets contexts (a .stands) j (h .jumps .inside) quiet in
+      let b = edit-gone frames starts count (set forms i to) (set carry i (getD carry j 0)) owners offsets (a .stands) j (h .jumps .inside) quiet in
       record { is = b .is ∙ ap (λ (p : Program). set p j gone) (a .is); stands = b .stands }
 
   bounced-held : (f i skip target last : ℕ) → Bounces (there forms carry) f i skip target last
-      → Holding (there (set (set (set forms skip goneForm) target goneForm) last goneForm) (set carry i (getD carry last 0))) contexts (bounced (there forms carry) f i skip target last)
+      → Holding (there (set (set (set forms skip goneForm) target goneForm) last goneForm) (set carry i (getD carry last 0))) (bounced (there forms carry) f i skip target last)
   unfolding bounced dropAll
   bounced-held f i skip target last h =
       let t = there forms carry in
@@ -112,42 +118,42 @@ module _ (frames starts : List ℕ) (count : ℕ) (forms carry owners offsets co
       let two = set one target goneForm in
       let inside : target < count = omega (arith, h .last-rises, h .jumps .inside) in
       let lands : Quiet (slotAt t target) = label-quiet (slotAt t target) (ap (λ s. isSome (localLabel s)) (sym (at-program t target inside)) ∙ h .lands) in
-      let a = edit-target frames starts count forms carry owners offsets contexts st i last f (h .branches) (h .jumps) (h .form) in
+      let a = edit-target frames starts count forms carry owners offsets st i last f (h .branches) (h .jumps) (h .together) (h .form) in
       let at-skip : Quiet (slotAt (there forms c) skip) =
       instr-quiet (slotAt (there forms c) skip) (ap kindOf (a .elsewhere skip (λ e. omega (arith, h .skip-rises))) ∙ h .skips .kind) in
-      let b = edit-gone frames starts count forms c owners offsets contexts (a .stands) skip (h .skips .inside) at-skip in
+      let b = edit-gone frames starts count forms c owners offsets (a .stands) skip (h .skips .inside) at-skip in
       let at-target : Quiet (slotAt (there one c) target) =
       λ k. ap (enter k) (b .elsewhere target (λ e. omega (arith, h .target-rises)) ∙ a .elsewhere target (λ e. omega (arith, h .skip-rises, h .target-rises))) ∙ lands k in
-      let d = edit-gone frames starts count one c owners offsets contexts (b .stands) target inside at-target in
+      let d = edit-gone frames starts count one c owners offsets (b .stands) target inside at-target in
       let at-last : Quiet (slotAt (there two c) last) =
       instr-quiet (slotAt (there two c) last) (ap kindOf (d .elsewhere last (λ e. omega (arith, h .last-rises)) ∙ b .elsewhere last (λ e. omega (arith, h .target-rises, h .last-rises))
       ∙ a .elsewhere last (λ e. omega (arith, h .skip-rises, h .target-rises, h .last-rises))) ∙ h .jumps .kind) in
-      let g = edit-gone frames starts count two c owners offsets contexts (d .stands) last (h .jumps .inside) at-last in
+      let g = edit-gone frames starts count two c owners offsets (d .stands) last (h .jumps .inside) at-last in
       record {
         is = g .is ∙ ap (λ (p : Program). set p last gone) (d .is ∙ ap (λ (p : Program). set p target gone) (b .is ∙ ap (λ (p : Program). set p skip gone) (a .is)));
         stands = g .stands;
       }
 
   -- the same, of tables known by equations
-  holding-by : (q : Program) (forms′ carry′ forms″ carry″ : List ℕ) → forms″ ≡ forms′ → carry″ ≡ carry′ → Holding (there forms′ carry′) contexts q → Holding (there forms″ carry″) contexts q
+  holding-by : (q : Program) (forms′ carry′ forms″ carry″ : List ℕ) → forms″ ≡ forms′ → carry″ ≡ carry′ → Holding (there forms′ carry′) q → Holding (there forms″ carry″) q
   holding-by q forms′ carry′ forms″ carry″ e d h =
-      subst (λ (a : List ℕ). Holding (there a carry″) contexts q) (sym e) (subst (λ (a : List ℕ). Holding (there forms′ a) contexts q) (sym d) h)
+      subst (λ (a : List ℕ). Holding (there a carry″) q) (sym e) (subst (λ (a : List ℕ). Holding (there forms′ a) q) (sym d) h)
 
   pub inverted-holds : (to i j : ℕ) (forms′ carry′ : List ℕ) → Inverts (there forms carry) to i j → forms′ ≡ set (set forms i to) j goneForm → carry′ ≡ set carry i (getD carry j 0)
-      → Holding (there forms′ carry′) contexts (inverted (there forms carry) to i j)
+      → Holding (there forms′ carry′) (inverted (there forms carry) to i j)
   inverted-holds to i j forms′ carry′ h e d = holding-by (inverted (there forms carry) to i j) _ _ forms′ carry′ e d (inverted-held to i j h)
 
   pub bounced-holds : (f i skip target last : ℕ) (forms′ : List ℕ) → Bounces (there forms carry) f i skip target last → forms′ ≡ set (set (set forms skip goneForm) target goneForm) last goneForm
-      → Holding (there forms′ (set carry i (getD carry last 0))) contexts (bounced (there forms carry) f i skip target last)
+      → Holding (there forms′ (set carry i (getD carry last 0))) (bounced (there forms carry) f i skip target last)
   bounced-holds f i skip target last forms′ h e =
       holding-by (bounced (there forms carry) f i skip target last) _ _ forms′ (set carry i (getD carry last 0)) e refl (bounced-held f i skip target last h)
 
   -- ---- a shorter form
 
   pub formed-holds : (f i : ℕ) → i < count → kindOf (slotAt (there forms carry) i) ≡ 1 → Agree f (getD forms i 0)
-      → Holding (there (set forms i f) carry) contexts (set (programOf (there forms carry)) i (instr f (argsOf (slotAt (there forms carry) i)) (getD carry i 0)))
+      → Holding (there (set forms i f) carry) (set (programOf (there forms carry)) i (instr f (argsOf (slotAt (there forms carry) i)) (getD carry i 0)))
   formed-holds f i l kind a =
-      let e = edit-form frames starts count forms carry owners offsets contexts st i f l kind a in
+      let e = edit-form frames starts count forms carry owners offsets st i f l kind a in
       record { is = e .is; stands = e .stands }
 
 -- ---- undone

@@ -20,6 +20,7 @@ use Rattle.rules.specs.Judging.{noNameTwice}
 use Rattle.rules.specs.Rewriting.{localLabel, aimed}
 use Rattle.listing.specs.Tables.{frameAt, inputAt}
 use Rattle.slots.specs.Slots.{Slots, slots, goneForm, written, targetOf, aimedAt, slotAt, programOf, Agree, WroteTarget, Sound}
+use Rattle.slots.specs.Links.{Together}
 use Rattle.slots.proofs.Slots.{slot-gone, slot-instr}
 use Rattle.patterns.specs.Targets.{instrAt}
 use Rattle.patterns.specs.Matches.{Moves}
@@ -137,30 +138,54 @@ module _ (frames starts : List ℕ) (count : ℕ) (owners offsets : List ℕ) wh
             let w = s .carried j l (sym (ap kindOf (elsewhere j n)) ∙ e) (ap isTransfer (sym (getD-set-other forms i j f 0 n)) ∙ m) in
             rw (getD-set-other carry i j c 0 n) (record { inside = w .inside; instruction = w .instruction; transfer = w .transfer })
 
+    -- and the target is in the context of its new place
+    abbrev Near : Type 0
+    Near = kindOf (slotAt after i) ≡ 1 → isTransfer f ≡ true → contextAt (programOf before) c ≡ contextAt (programOf before) i
+
+    edit-together : ((j : ℕ) → contextAt (programOf after) j ≡ contextAt (programOf before) j) → Together before → Near → Together after
+    edit-together same t near j l e m = on (eq-or-not j i)
+      where
+        on : (j ≡ i) ⊎ (j ≡ i → ⊥) → contextAt (programOf after) (getD (set carry i c) j 0) ≡ contextAt (programOf after) j
+        on (inl q) =
+            let d : getD (set carry i c) j 0 ≡ c = ap (λ k. getD (set carry i c) k 0) q ∙ carry-there in
+            let moves : isTransfer f ≡ true = ap isTransfer (sym (ap (λ k. getD (set forms i f) k 0) q ∙ form-there)) ∙ m in
+            same (getD (set carry i c) j 0)
+            ∙ ap (contextAt (programOf before)) d
+            ∙ near (ap (λ k. kindOf (slotAt after k)) (sym q) ∙ e) moves
+            ∙ ap (contextAt (programOf before)) (sym q)
+            ∙ sym (same j)
+        on (inr n) =
+            same (getD (set carry i c) j 0)
+            ∙ ap (contextAt (programOf before)) (getD-set-other carry i j c 0 n)
+            ∙ t j l (sym (ap kindOf (elsewhere j n)) ∙ e) (ap isTransfer (sym (getD-set-other forms i j f 0 n)) ∙ m)
+            ∙ sym (same j)
+
     -- the contexts and the names stay too, if neither statement enters a context and the new one defines no name
-    edit-stands : (contexts : List ℕ) (s : Stmt) → Standing before contexts → i < count → Quiet (slotAt before i) → slotAt after i ≡ s → Quiet s → asName s ≡ none → Fits → Standing after contexts
-    edit-stands contexts s st l old is new unnamed fits =
+    edit-stands : (s : Stmt) → Standing before → i < count → Quiet (slotAt before i) → slotAt after i ≡ s → Quiet s → asName s ≡ none → Fits → Near → Standing after
+    edit-stands s st l old is new unnamed fits near =
         let p = programOf before in
         let in-p : i < length p = omega (arith, length-program before) in
         let quiet : Quiet (at p i) = λ k. ap (enter k) (at-program before i l) ∙ old k in
         let q = edit-is s is in
+        let same : (j : ℕ) → contextAt (programOf after) j ≡ contextAt p j = λ j. ap (λ r. contextAt r j) q ∙ set-context p i s j in-p quiet new in
         record {
           sound = edit-sound (st .sound) fits;
           forms-full = length-set forms i f ∙ st .forms-full;
           carry-full = length-set carry i c ∙ st .carry-full;
-          context = λ j m. st .context j m ∙ sym (ap (λ r. contextAt r j) q ∙ set-context p i s j in-p quiet new);
+          context = record { context = λ j m. st .context .context j m ∙ sym (same j) };
+          together = edit-together same (st .together) near;
           named = ap (λ r. noNameTwice [] (placed r)) q ∙ set-named p i s in-p quiet new unnamed (st .named);
         }
 
 -- ---- the edits that are made
 
 -- after is before with statement s at place i
-pub record Edited (before after : Slots) (contexts : List ℕ) (i : ℕ) (s : Stmt) : Type 0 where
+pub record Edited (before after : Slots) (i : ℕ) (s : Stmt) : Type 0 where
   pub is : programOf after ≡ set (programOf before) i s
-  pub stands : Standing after contexts
+  pub stands : Standing after
   pub elsewhere : (j : ℕ) → (j ≡ i → ⊥) → slotAt after j ≡ slotAt before j
 
-module _ (frames starts : List ℕ) (count : ℕ) (forms carry owners offsets contexts : List ℕ) (st : Standing (slots frames starts count forms carry owners offsets) contexts) where
+module _ (frames starts : List ℕ) (count : ℕ) (forms carry owners offsets : List ℕ) (st : Standing (slots frames starts count forms carry owners offsets)) where
   abbrev here : Slots
   here = slots frames starts count forms carry owners offsets
 
@@ -174,21 +199,23 @@ module _ (frames starts : List ℕ) (count : ℕ) (forms carry owners offsets co
   in-carry i l = omega (arith, st .carry-full, st .sound .held .few)
 
   edited : (i f c : ℕ) (s : Stmt) → (l : i < count) → Quiet (slotAt here i) → slotAt (there (set forms i f) (set carry i c)) i ≡ s → Quiet s → asName s ≡ none
-      → Fits frames starts count owners offsets forms carry i f c (in-forms i l) (in-carry i l) → Edited here (there (set forms i f) (set carry i c)) contexts i s
-  edited i f c s l old is new unnamed fits =
+      → Fits frames starts count owners offsets forms carry i f c (in-forms i l) (in-carry i l)
+      → Near frames starts count owners offsets forms carry i f c (in-forms i l) (in-carry i l) → Edited here (there (set forms i f) (set carry i c)) i s
+  edited i f c s l old is new unnamed fits near =
       record {
         is = edit-is frames starts count owners offsets forms carry i f c (in-forms i l) (in-carry i l) s is;
-        stands = edit-stands frames starts count owners offsets forms carry i f c (in-forms i l) (in-carry i l) contexts s st l old is new unnamed fits;
+        stands = edit-stands frames starts count owners offsets forms carry i f c (in-forms i l) (in-carry i l) s st l old is new unnamed fits near;
         elsewhere = elsewhere frames starts count owners offsets forms carry i f c (in-forms i l) (in-carry i l);
       }
 
   -- a slot that is gone
-  pub edit-gone : (i : ℕ) → i < count → Quiet (slotAt here i) → Edited here (there (set forms i goneForm) carry) contexts i gone
+  pub edit-gone : (i : ℕ) → i < count → Quiet (slotAt here i) → Edited here (there (set forms i goneForm) carry) i gone
   unfolding asName
   edit-gone i l old =
       let is = slot-gone (there (set forms i goneForm) (set carry i (getD carry i 0))) i (getD-set-same forms i goneForm 0 (in-forms i l)) in
-      subst (λ (c : List ℕ). Edited here (there (set forms i goneForm) c) contexts i gone) (set-getD carry i 0)
-      (edited i goneForm (getD carry i 0) gone l old is (λ k. refl) refl (λ e. let z : _≡_ {A = ℕ} 0 1 = sym (ap kindOf is) ∙ e in absurd (omega arith)))
+      subst (λ (c : List ℕ). Edited here (there (set forms i goneForm) c) i gone) (set-getD carry i 0)
+      (edited i goneForm (getD carry i 0) gone l old is (λ k. refl) refl
+      (λ e. let z : _≡_ {A = ℕ} 0 1 = sym (ap kindOf is) ∙ e in absurd (omega arith)) (λ e m. let z : _≡_ {A = ℕ} 0 1 = sym (ap kindOf is) ∙ e in absurd (omega arith)))
 
   module _ (i f : ℕ) (l : i < count) (kind : kindOf (slotAt here i) ≡ 1) (a : Agree f (getD forms i 0)) where
     abbrev args : List Operand
@@ -203,22 +230,22 @@ module _ (frames starts : List ℕ) (count : ℕ) (forms carry owners offsets co
         (getD-set-same forms i f 0 (in-forms i l)) (getD-set-same carry i c 0 (in-carry i l)) (a .known) (own here (st .sound .held) i l kind .is)
 
     -- another form, the operands kept
-    pub edit-form : Edited here (there (set forms i f) carry) contexts i (instr f (argsOf (slotAt here i)) (getD carry i 0))
+    pub edit-form : Edited here (there (set forms i f) carry) i (instr f (argsOf (slotAt here i)) (getD carry i 0))
     unfolding asName
     edit-form =
         let c = getD carry i 0 in
         let same : argsOf (slotAt here i) ≡ aimedAt here f c args =
         ap argsOf (slot-is here (st .sound .held) i l kind) ∙ ap (λ (b : Bool). cond b (onLast (λ old. targetOf here c) args) args) (sym (a .transfer)) in
-        subst (λ (d : List ℕ). Edited here (there (set forms i f) d) contexts i (instr f (argsOf (slotAt here i)) c)) (set-getD carry i 0)
+        subst (λ (d : List ℕ). Edited here (there (set forms i f) d) i (instr f (argsOf (slotAt here i)) c)) (set-getD carry i 0)
         (edited i f c (instr f (argsOf (slotAt here i)) c) l (instr-quiet (slotAt here i) kind)
         (slot-there c ∙ ap (λ (xs : List Operand). instr f xs c) (sym same)) (λ k. refl) refl
-        (λ e. (fits-frame, λ m. st .sound .carried i l kind (sym (a .transfer) ∙ m))))
+        (λ e. (fits-frame, λ m. st .sound .carried i l kind (sym (a .transfer) ∙ m))) (λ e m. st .together i l kind (sym (a .transfer) ∙ m)))
 
   -- a transfer, to the target of the one at j
-  pub edit-aimed : (i j f : ℕ) → Moves here i → Moves here j → Agree f (getD forms i 0)
-      → Edited here (there (set forms i f) (set carry i (getD carry j 0))) contexts i (aimed f (instrAt here i) (instrAt here j))
+  pub edit-aimed : (i j f : ℕ) → Moves here i → Moves here j → contextAt (programOf here) j ≡ contextAt (programOf here) i → Agree f (getD forms i 0)
+      → Edited here (there (set forms i f) (set carry i (getD carry j 0))) i (aimed f (instrAt here i) (instrAt here j))
   unfolding asName
-  edit-aimed i j f from to a =
+  edit-aimed i j f from to near a =
       let s = st .sound in
       let c = getD carry j 0 in
       let xs = args i f (from .inside) (from .kind) a in
@@ -229,13 +256,14 @@ module _ (frames starts : List ℕ) (count : ℕ) (forms carry owners offsets co
       ∙ sym (cond-true (isTransfer f) (onLast (λ old. targetOf here c) xs) xs (a .transfer ∙ from .transfer)) in
       edited i f c (aimed f (instrAt here i) (instrAt here j)) (from .inside) (instr-quiet (slotAt here i) (from .kind))
       (slot-there i f (from .inside) (from .kind) a c ∙ ap (λ (ys : List Operand). instr f ys c) (sym goal)) (λ k. refl) refl
-      (λ e. (fits-frame i f (from .inside) (from .kind) a, λ m. s .carried j (to .inside) (to .kind) (to .transfer)))
+      (λ e. (fits-frame i f (from .inside) (from .kind) a, λ m. s .carried j (to .inside) (to .kind) (to .transfer))) (λ e m. st .together j (to .inside) (to .kind) (to .transfer) ∙ near)
 
   -- the same, its form kept
-  pub edit-target : (i j f : ℕ) → Moves here i → Moves here j → getD forms i 0 ≡ f → Edited here (there forms (set carry i (getD carry j 0))) contexts i (aimed f (instrAt here i) (instrAt here j))
-  edit-target i j f from to e =
+  pub edit-target : (i j f : ℕ) → Moves here i → Moves here j → contextAt (programOf here) j ≡ contextAt (programOf here) i → getD forms i 0 ≡ f
+      → Edited here (there forms (set carry i (getD carry j 0))) i (aimed f (instrAt here i) (instrAt here j))
+  edit-target i j f from to near e =
       let g = getD forms i 0 in
       let keeps : Agree g g = record { known = st .sound .forms i (from .inside) (from .kind) .known; registers = refl; transfer = refl } in
-      subst (λ (h : ℕ). Edited here (there forms (set carry i (getD carry j 0))) contexts i (aimed h (instrAt here i) (instrAt here j))) e
-      (subst (λ (fs : List ℕ). Edited here (there fs (set carry i (getD carry j 0))) contexts i (aimed g (instrAt here i) (instrAt here j))) (set-getD forms i 0)
-      (edit-aimed i j g from to keeps))
+      subst (λ (h : ℕ). Edited here (there forms (set carry i (getD carry j 0))) i (aimed h (instrAt here i) (instrAt here j))) e
+      (subst (λ (fs : List ℕ). Edited here (there fs (set carry i (getD carry j 0))) i (aimed g (instrAt here i) (instrAt here j))) (set-getD forms i 0)
+      (edit-aimed i j g from to near keeps))

@@ -31,7 +31,7 @@ module _ (t : Slots) (f i : ℕ) where
 
   module _ (j m : ℕ) (h : InvertedFound t f i j m) (to : ℕ) where
     pub inverts : Agree to f → Inverts t to i j
-    inverts a = record { rises = h .jump-rises; branches = h .branches; jumps = h .jumps; agrees = subst (Agree to) (sym (h .form)) a }
+    inverts a = record { rises = h .jump-rises; branches = h .branches; jumps = h .jumps; together = h .together; agrees = subst (Agree to) (sym (h .form)) a }
 
     pub inverted-is : invertedAt f to (programOf t) i ≡ candidate (inverted t to i j)
     unfolding inverted
@@ -51,6 +51,7 @@ module _ (t : Slots) (f i : ℕ) where
           skips = h .skips;
           lands = h .lands;
           jumps = h .jumps;
+          together = h .together;
         }
 
     pub bounced-is : trampolineAt f (programOf t) i ≡ candidate (bounced t f i skip target last)

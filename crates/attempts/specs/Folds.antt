@@ -6,6 +6,7 @@ use Prim.Native.Nat.{ℕ, _<_}
 use lib.ListN.{getD, set}
 use Rattle.laws.specs.Options.{isSome}
 use Rattle.rules.specs.Programs.{Placeℕ, Program}
+use Rattle.rules.specs.Names.{contextAt}
 use Rattle.rules.specs.Rewriting.{localLabel, aimed, dropAll}
 use Rattle.slots.specs.Slots.{Slots, programOf, Agree}
 use Rattle.patterns.specs.Targets.{standsAt, instrAt}
@@ -25,6 +26,7 @@ pub record Inverts (t : Slots) (to : ℕ) (i j : Placeℕ) : Type 0 where
   pub rises : i < j
   pub branches : Moves t i
   pub jumps : Moves t j
+  pub together : contextAt (programOf t) j ≡ contextAt (programOf t) i
   pub agrees : Agree to (getD (t .forms) i 0)
 
 pub record Bounces (t : Slots) (f : ℕ) (i skip target last : Placeℕ) : Type 0 where
@@ -36,3 +38,4 @@ pub record Bounces (t : Slots) (f : ℕ) (i skip target last : Placeℕ) : Type 
   pub skips : Moves t skip
   pub lands : isSome (localLabel (standsAt t target)) ≡ true
   pub jumps : Moves t last
+  pub together : contextAt (programOf t) last ≡ contextAt (programOf t) i

@@ -5,7 +5,7 @@ use rules::Place;
 ghost use mathlib.Core.Path.{_≡_};
 ghost use Prim.Native.Nat.{ℕ, max};
 ghost use lib.ListN.{length, getD, replicate};
-ghost use Rattle.slots.specs.Slots.{slots, Sound};
+ghost use Rattle.slots.specs.Slots.{Slots, slots, Sound};
 ghost use Rattle.patterns.specs.Labels.{OwnerIn};
 ghost use Rattle.attempts.specs.Deepest.{depthOf, wantedOf, Deepest};
 
@@ -49,8 +49,11 @@ pub fn fill_deepest(
     offsets: &[u16; 1024],
     deepest: &mut [u32; 1024],
 )
-    requires { ⌜ Sound (slots (now frames) (now starts) count (now forms) (now carry) (now owners) (now offsets)) × (now deepest ≡ replicate 1024 0) ⌝ }
-    ensures { λ _. ⌜ Deepest (slots (now (frames .entry)) (now (starts .entry)) count (now (forms .entry)) (now (carry .entry)) (now (owners .entry)) (now (offsets .entry))) (now (deepest .exit)) ⌝ }
+    requires { let t : Slots = slots (now frames) (now starts) count (now forms) (now carry) (now owners) (now offsets) in
+        ⌜ Sound t × (now deepest ≡ replicate 1024 0) ⌝ }
+    ensures { λ _. let t : Slots = slots (now (frames .entry)) (now (starts .entry)) count (now (forms .entry)) (now (carry .entry))
+        (now (owners .entry)) (now (offsets .entry)) in
+        ⌜ Deepest t (now (deepest .exit)) ⌝ }
 {
     let mut j = 0;
     while j < count {

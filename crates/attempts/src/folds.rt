@@ -13,7 +13,8 @@ ghost use Prim.Native.Nat.{_<_};
 ghost use lib.ListN.{length, set};
 ghost use Rattle.rules.specs.Forms.{isTransfer};
 ghost use Rattle.rules.specs.Rewriting.{candidate, invertedAt, trampolineAt};
-ghost use Rattle.slots.specs.Slots.{slots, programOf, Agree};
+ghost use Rattle.slots.specs.Slots.{Slots, slots, programOf, Agree};
+ghost use Rattle.slots.specs.Links.{Beside};
 ghost use Rattle.attempts.specs.Standing.{Standing, Tried};
 ghost use Rattle.attempts.specs.Folds.{inverted, bounced, Inverts, Bounces};
 
@@ -28,7 +29,8 @@ fn put_two(
     left: u8,
 )
     requires { ⌜ (length (now forms) ≡ 1024) × (length (now carry) ≡ 1024) × (at .0 < 1024) × (jump .0 < 1024) ⌝ }
-    ensures { λ _. ⌜ (now (forms .exit) ≡ set (set (now (forms .entry)) (at .0) form) (jump .0) left) × (now (carry .exit) ≡ set (now (carry .entry)) (at .0) from) ⌝ }
+    ensures { λ _. ⌜ (now (forms .exit) ≡ set (set (now (forms .entry)) (at .0) form) (jump .0) left)
+        × (now (carry .exit) ≡ set (now (carry .entry)) (at .0) from) ⌝ }
 {
     let i = at.0;
     let j = jump.0;
@@ -59,13 +61,18 @@ fn attempt_inverted(
     carry: &mut [u16; 1024],
     owners: &[u16; 1024],
     offsets: &[u16; 1024],
-    contexts: &[u16; 1024],
+    links: &[u16; 28672],
     to: u8,
     at: Place,
     jump: Place,
 ) -> bool
-    requires { ⌜ Standing (slots (now frames) (now starts) count (now forms) (now carry) (now owners) (now offsets)) (now contexts) × Inverts (slots (now frames) (now starts) count (now forms) (now carry) (now owners) (now offsets)) to (at .0) (jump .0) ⌝ }
-    ensures { λ r. ⌜ Tried (candidate (inverted (slots (now (frames .entry)) (now (starts .entry)) count (now (forms .entry)) (now (carry .entry)) (now (owners .entry)) (now (offsets .entry))) to (at .0) (jump .0))) (now (contexts .entry)) (slots (now (frames .entry)) (now (starts .entry)) count (now (forms .entry)) (now (carry .entry)) (now (owners .entry)) (now (offsets .entry))) (slots (now (frames .entry)) (now (starts .entry)) count (now (forms .exit)) (now (carry .exit)) (now (owners .entry)) (now (offsets .entry))) r ⌝ }
+    requires { let t : Slots = slots (now frames) (now starts) count (now forms) (now carry) (now owners) (now offsets) in
+        ⌜ Standing t × Inverts t to (at .0) (jump .0) × Beside (now frames) (now starts) count (now links) ⌝ }
+    ensures { λ r. let t : Slots = slots (now (frames .entry)) (now (starts .entry)) count (now (forms .entry)) (now (carry .entry))
+        (now (owners .entry)) (now (offsets .entry)) in
+        let u : Slots = slots (now (frames .entry)) (now (starts .entry)) count (now (forms .exit)) (now (carry .exit))
+        (now (owners .entry)) (now (offsets .entry)) in
+        ⌜ Tried (candidate (inverted t to (at .0) (jump .0))) t u r ⌝ }
 {
     let i = at.0;
     let j = jump.0;
@@ -82,7 +89,7 @@ fn attempt_inverted(
         carry,
         owners,
         offsets,
-        contexts,
+        links,
         at,
     ) {
         return true;
@@ -100,15 +107,20 @@ fn attempt_trampoline(
     carry: &mut [u16; 1024],
     owners: &[u16; 1024],
     offsets: &[u16; 1024],
-    contexts: &[u16; 1024],
+    links: &[u16; 28672],
     form: u8,
     at: Place,
     skip: Place,
     target: Place,
     last: Place,
 ) -> bool
-    requires { ⌜ Standing (slots (now frames) (now starts) count (now forms) (now carry) (now owners) (now offsets)) (now contexts) × Bounces (slots (now frames) (now starts) count (now forms) (now carry) (now owners) (now offsets)) form (at .0) (skip .0) (target .0) (last .0) ⌝ }
-    ensures { λ r. ⌜ Tried (candidate (bounced (slots (now (frames .entry)) (now (starts .entry)) count (now (forms .entry)) (now (carry .entry)) (now (owners .entry)) (now (offsets .entry))) form (at .0) (skip .0) (target .0) (last .0))) (now (contexts .entry)) (slots (now (frames .entry)) (now (starts .entry)) count (now (forms .entry)) (now (carry .entry)) (now (owners .entry)) (now (offsets .entry))) (slots (now (frames .entry)) (now (starts .entry)) count (now (forms .exit)) (now (carry .exit)) (now (owners .entry)) (now (offsets .entry))) r ⌝ }
+    requires { let t : Slots = slots (now frames) (now starts) count (now forms) (now carry) (now owners) (now offsets) in
+        ⌜ Standing t × Bounces t form (at .0) (skip .0) (target .0) (last .0) × Beside (now frames) (now starts) count (now links) ⌝ }
+    ensures { λ r. let t : Slots = slots (now (frames .entry)) (now (starts .entry)) count (now (forms .entry)) (now (carry .entry))
+        (now (owners .entry)) (now (offsets .entry)) in
+        let u : Slots = slots (now (frames .entry)) (now (starts .entry)) count (now (forms .exit)) (now (carry .exit))
+        (now (owners .entry)) (now (offsets .entry)) in
+        ⌜ Tried (candidate (bounced t form (at .0) (skip .0) (target .0) (last .0))) t u r ⌝ }
 {
     let i = at.0;
     let a = skip.0;
@@ -129,7 +141,7 @@ fn attempt_trampoline(
         carry,
         owners,
         offsets,
-        contexts,
+        links,
         at,
     ) {
         return true;
@@ -148,13 +160,18 @@ pub fn try_inverted(
     carry: &mut [u16; 1024],
     owners: &[u16; 1024],
     offsets: &[u16; 1024],
-    contexts: &[u16; 1024],
+    links: &[u16; 28672],
     from: u8,
     to: u8,
     at: Place,
 ) -> bool
-    requires { ⌜ Standing (slots (now frames) (now starts) count (now forms) (now carry) (now owners) (now offsets)) (now contexts) × (at .0 < count) × (isTransfer from ≡ true) × Agree to from ⌝ }
-    ensures { λ r. ⌜ Tried (invertedAt from to (programOf (slots (now (frames .entry)) (now (starts .entry)) count (now (forms .entry)) (now (carry .entry)) (now (owners .entry)) (now (offsets .entry)))) (at .0)) (now (contexts .entry)) (slots (now (frames .entry)) (now (starts .entry)) count (now (forms .entry)) (now (carry .entry)) (now (owners .entry)) (now (offsets .entry))) (slots (now (frames .entry)) (now (starts .entry)) count (now (forms .exit)) (now (carry .exit)) (now (owners .entry)) (now (offsets .entry))) r ⌝ }
+    requires { let t : Slots = slots (now frames) (now starts) count (now forms) (now carry) (now owners) (now offsets) in
+        ⌜ Standing t × (at .0 < count) × (isTransfer from ≡ true) × Agree to from × Beside (now frames) (now starts) count (now links) ⌝ }
+    ensures { λ r. let t : Slots = slots (now (frames .entry)) (now (starts .entry)) count (now (forms .entry)) (now (carry .entry))
+        (now (owners .entry)) (now (offsets .entry)) in
+        let u : Slots = slots (now (frames .entry)) (now (starts .entry)) count (now (forms .exit)) (now (carry .exit))
+        (now (owners .entry)) (now (offsets .entry)) in
+        ⌜ Tried (invertedAt from to (programOf t) (at .0)) t u r ⌝ }
 {
     let Inverted::At(jump, _) = inverted_at(
         frames,
@@ -164,6 +181,7 @@ pub fn try_inverted(
         carry,
         owners,
         offsets,
+        links,
         from,
         at,
     ) else {
@@ -177,7 +195,7 @@ pub fn try_inverted(
         carry,
         owners,
         offsets,
-        contexts,
+        links,
         to,
         at,
         jump,
@@ -193,12 +211,17 @@ pub fn try_trampoline(
     carry: &mut [u16; 1024],
     owners: &[u16; 1024],
     offsets: &[u16; 1024],
-    contexts: &[u16; 1024],
+    links: &[u16; 28672],
     form: u8,
     at: Place,
 ) -> bool
-    requires { ⌜ Standing (slots (now frames) (now starts) count (now forms) (now carry) (now owners) (now offsets)) (now contexts) × (at .0 < count) × (isTransfer form ≡ true) ⌝ }
-    ensures { λ r. ⌜ Tried (trampolineAt form (programOf (slots (now (frames .entry)) (now (starts .entry)) count (now (forms .entry)) (now (carry .entry)) (now (owners .entry)) (now (offsets .entry)))) (at .0)) (now (contexts .entry)) (slots (now (frames .entry)) (now (starts .entry)) count (now (forms .entry)) (now (carry .entry)) (now (owners .entry)) (now (offsets .entry))) (slots (now (frames .entry)) (now (starts .entry)) count (now (forms .exit)) (now (carry .exit)) (now (owners .entry)) (now (offsets .entry))) r ⌝ }
+    requires { let t : Slots = slots (now frames) (now starts) count (now forms) (now carry) (now owners) (now offsets) in
+        ⌜ Standing t × (at .0 < count) × (isTransfer form ≡ true) × Beside (now frames) (now starts) count (now links) ⌝ }
+    ensures { λ r. let t : Slots = slots (now (frames .entry)) (now (starts .entry)) count (now (forms .entry)) (now (carry .entry))
+        (now (owners .entry)) (now (offsets .entry)) in
+        let u : Slots = slots (now (frames .entry)) (now (starts .entry)) count (now (forms .exit)) (now (carry .exit))
+        (now (owners .entry)) (now (offsets .entry)) in
+        ⌜ Tried (trampolineAt form (programOf t) (at .0)) t u r ⌝ }
 {
     let Trampoline::At(skip, target, last, _) = trampoline_at(
         frames,
@@ -208,7 +231,7 @@ pub fn try_trampoline(
         carry,
         owners,
         offsets,
-        contexts,
+        links,
         form,
         at,
     ) else {
@@ -222,7 +245,7 @@ pub fn try_trampoline(
         carry,
         owners,
         offsets,
-        contexts,
+        links,
         form,
         at,
         skip,

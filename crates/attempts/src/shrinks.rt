@@ -5,7 +5,8 @@ ghost use mathlib.Core.Path.{_≡_};
 ghost use Prim.Native.Nat.{_<_};
 ghost use lib.ListN.{getD};
 ghost use Rattle.rules.specs.Programs.{kindOf};
-ghost use Rattle.slots.specs.Slots.{slots, slotAt, Agree};
+ghost use Rattle.slots.specs.Slots.{Slots, slots, slotAt, Agree};
+ghost use Rattle.slots.specs.Links.{Beside};
 ghost use Rattle.attempts.specs.Standing.{Standing, Tried};
 ghost use Rattle.attempts.specs.Deepest.{Deepest};
 ghost use Rattle.attempts.specs.Shrinks.{shrunk};
@@ -20,13 +21,19 @@ pub fn try_form(
     carry: &[u16; 1024],
     owners: &[u16; 1024],
     offsets: &[u16; 1024],
-    contexts: &[u16; 1024],
+    links: &[u16; 28672],
     deepest: &[u32; 1024],
     form: u8,
     at: Place,
 ) -> bool
-    requires { ⌜ Standing (slots (now frames) (now starts) count (now forms) (now carry) (now owners) (now offsets)) (now contexts) × Deepest (slots (now frames) (now starts) count (now forms) (now carry) (now owners) (now offsets)) (now deepest) × (at .0 < count) × (kindOf (slotAt (slots (now frames) (now starts) count (now forms) (now carry) (now owners) (now offsets)) (at .0)) ≡ 1) × Agree form (getD (now forms) (at .0) 0) ⌝ }
-    ensures { λ r. ⌜ Tried (shrunk (slots (now (frames .entry)) (now (starts .entry)) count (now (forms .entry)) (now (carry .entry)) (now (owners .entry)) (now (offsets .entry))) (at .0) form) (now (contexts .entry)) (slots (now (frames .entry)) (now (starts .entry)) count (now (forms .entry)) (now (carry .entry)) (now (owners .entry)) (now (offsets .entry))) (slots (now (frames .entry)) (now (starts .entry)) count (now (forms .exit)) (now (carry .entry)) (now (owners .entry)) (now (offsets .entry))) r ⌝ }
+    requires { let t : Slots = slots (now frames) (now starts) count (now forms) (now carry) (now owners) (now offsets) in
+        ⌜ Standing t × Deepest t (now deepest) × (at .0 < count) × (kindOf (slotAt t (at .0)) ≡ 1) × Agree form (getD (now forms) (at .0) 0)
+        × Beside (now frames) (now starts) count (now links) ⌝ }
+    ensures { λ r. let t : Slots = slots (now (frames .entry)) (now (starts .entry)) count (now (forms .entry)) (now (carry .entry))
+        (now (owners .entry)) (now (offsets .entry)) in
+        let u : Slots = slots (now (frames .entry)) (now (starts .entry)) count (now (forms .exit)) (now (carry .entry))
+        (now (owners .entry)) (now (offsets .entry)) in
+        ⌜ Tried (shrunk t (at .0) form) t u r ⌝ }
 {
     let i = at.0;
     if 1 < deepest[i] {
@@ -42,7 +49,7 @@ pub fn try_form(
         carry,
         owners,
         offsets,
-        contexts,
+        links,
         at,
     ) {
         return true;

@@ -1,5 +1,5 @@
--- What the phases hand to each other is what document 01's run has: the anchored program stands, its end form's text and image are the output's, and
--- the whole is the run of the text.
+-- What the phases hand to each other is what document 01's run has: an end form's text and image are the output's, and the whole is the run of the
+-- text.
 use mathlib.Core.Path.{_≡_, refl, sym, ap, ap₂, _∙_, subst}
 use mathlib.Core.List.{List, []}
 use mathlib.Core.Bool.{true}
@@ -16,17 +16,15 @@ use Rattle.rules.specs.declared.Settings.{Settings}
 use Rattle.rules.specs.Answers.{Judged, ok, no, _>>=_, _>>_, require, orD, isOk}
 use Rattle.rules.specs.Programs.{Program}
 use Rattle.rules.specs.Listing.{readListing, Beside, besideOf}
-use Rattle.rules.specs.Names.{contextAt}
 use Rattle.rules.specs.Judging.{judge, assembles}
 use Rattle.rules.specs.Rewriting.{Chain, anchor, chain, instrBytes, optimized}
 use Rattle.rules.specs.Output.{writeBack, shown, compact, stems, textOf}
 use Rattle.rules.specs.Run.{Output, outputOf, fits, run, rewritten as run-rewritten}
 use Rattle.promises.specs.Demand2.{Answered, Input, outputProgram}
-use Rattle.promises.proofs.Passes.{judge-passes, assembles-image, image-assembles}
+use Rattle.promises.proofs.Passes.{assembles-image}
 use Rattle.promises.proofs.Anchors.{instrBytes-anchor}
-use Rattle.promises.proofs.Acceptable.{judge-anchor}
 use Rattle.promises.proofs.ImageOfOutput.{image-of-output}
-use Rattle.promises.proofs.Shows.{judge-shown, shown-context, writeBack-shown}
+use Rattle.promises.proofs.Shows.{judge-shown, writeBack-shown}
 use Rattle.slots.specs.Slots.{Slots, programOf}
 use Rattle.image.specs.Tables.{Tables, program, Ready}
 use Rattle.image.specs.Encoding.{encodeSlots}
@@ -36,9 +34,6 @@ use Rattle.output.specs.Showing.{Shown}
 use Rattle.asm.specs.declared.Verdict.{Verdict}
 use Rattle.asm.specs.declared.Verdict.the-variants.{Good, Refused as Bad}
 use Rattle.asm.specs.Verdicts.{JudgedAs}
-use Rattle.asm.specs.Assembling.{Placed}
-use Rattle.attempts.specs.Standing.{Standing}
-use Rattle.anchors.specs.Anchored.{Anchored}
 use Rattle.optimize.specs.Optimized.{Optimized}
 use Rattle.entries.specs.Optimizing.{resultOf, rewritten, roomed, judgedRun, Assembled, Delivers, Fitted}
 use Rattle.entries.proofs.Phases.{good-ok, bad-no}
@@ -52,7 +47,6 @@ unfolding assembles
 assembled-by d r e v =
     record {
       ready = v .ready e;
-      names = sym (v .names e);
       encodes = v .encodes e;
       good = good-ok (judge (program d)) (sym e ∙ v .answer);
     }
@@ -86,44 +80,16 @@ not-refused d r q e v g =
     let b : judge (program d) ≡ no q = bad-no (judge (program d)) q (sym e ∙ v .answer) in
     false-true (rw b at g)
 
--- ---- anchored
-
--- anchoring a program that assembles leaves one that assembles, and defines no name twice
-pub anchored-stands : (t u : Slots) (contexts : List ℕ) → Anchored t u → assembles (programOf t) ≡ true → length (u .forms) ≡ 1024 → length (u .carry) ≡ 1024
-    → Placed u contexts → Standing u contexts × (assembles (programOf u) ≡ true)
-anchored-stands t u contexts a g f c k =
-    let i = assembles-image (programOf t) g in
-    let j : judge (programOf u) ≡ ok (i .0) = ap judge (a .program) ∙ judge-anchor (programOf t) ∙ i .1 in (
-      record { sound = a .sound; forms-full = f; carry-full = c; context = k .context; named = judge-passes (programOf u) (i .0) j .once },
-      image-assembles (programOf u) (i .0) j,
-    )
-
 -- ---- rewritten
 
 pub rewritten-is : (asked : Settings) (b : Beside) (q end : Program) (n : ℕ) → chain asked (total instrBytes q) q ≡ record { program = end; count = n } → rewritten asked b q ≡ resultOf b (shown asked end) n
 unfolding rewritten
 rewritten-is asked b q end n e = ap (λ (c : Chain). resultOf b (shown asked (c .program)) (c .count)) e
 
--- a program without its comments stands as it stood
-pub shown-stands : (asked : Settings) (t u : Slots) (contexts : List ℕ) → Standing t contexts → assembles (programOf t) ≡ true → length (u .forms) ≡ 1024 → length (u .carry) ≡ 1024
-    → u .count ≡ t .count → Shown asked t u → Standing u contexts × (assembles (programOf u) ≡ true)
-shown-stands asked t u contexts s g f c n h =
-    let i = assembles-image (programOf t) g in
-    let j : judge (programOf u) ≡ ok (i .0) = ap judge (h .program) ∙ judge-shown asked (programOf t) ∙ i .1 in (
-      record {
-        sound = h .sound;
-        forms-full = f;
-        carry-full = c;
-        context = λ k l. s .context k (omega arith) ∙ sym (shown-context asked (programOf t) k) ∙ ap (λ (p : Program). contextAt p k) (sym (h .program));
-        named = judge-passes (programOf u) (i .0) j .once;
-      },
-      image-assembles (programOf u) (i .0) j,
-    )
-
 -- what the rewriting left, handed out
-pub optimized-fitted : (asked : Settings) (b : Beside) (contexts : List ℕ) (t u v : Slots) (n : ℕ) {r : Answer} {out image out′ image′ : List ℕ} → Optimized asked t u contexts n → Shown asked u v
+pub optimized-fitted : (asked : Settings) (b : Beside) (t u v : Slots) (n : ℕ) {r : Answer} {out image out′ image′ : List ℕ} → Optimized asked t u n → Shown asked u v
     → Fitted (t .count) (resultOf b (programOf v) n) r out image out′ image′ → Fitted (t .count) (rewritten asked b (programOf t)) r out image out′ image′
-optimized-fitted asked b contexts t u v n {r} {out} {image} {out′} {image′} h k d =
+optimized-fitted asked b t u v n {r} {out} {image} {out′} {image′} h k d =
     let e = rewritten-is asked b (programOf t) (programOf u) n (h .chain-is (total instrBytes (programOf t)) (omega arith)) ∙ ap (λ (p : Program). resultOf b p n) (sym (k .program)) in
     subst (λ (o : Output). Fitted (t .count) o r out image out′ image′) (sym e) d
 

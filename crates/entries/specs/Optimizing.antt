@@ -11,7 +11,7 @@ use Rattle.rules.specs.declared.Settings.{Settings}
 use Rattle.rules.specs.Answers.{Judged, ok, _>>_, require, orD}
 use Rattle.rules.specs.Programs.{Program}
 use Rattle.rules.specs.Listing.{Beside}
-use Rattle.rules.specs.Judging.{namesOf, judge, assembles}
+use Rattle.rules.specs.Judging.{judge, assembles}
 use Rattle.rules.specs.Rewriting.{Chain, anchor, chain, instrBytes}
 use Rattle.rules.specs.Output.{writeBack, shown, compact, stems, textOf}
 use Rattle.rules.specs.Run.{Output, fits, answerOf, listingAfter, imageAfter}
@@ -36,10 +36,9 @@ roomed count listingRoom imageRoom o = require (fits listingRoom imageRoom o) (R
 unfoldable pub judgedRun : Settings → Beside → (listingRoom imageRoom : ℕ) → Program → Judged Output
 judgedRun asked b listingRoom imageRoom p = judge p >> roomed (length p) listingRoom imageRoom (rewritten asked b (anchor p))
 
--- tables of a program that was judged good: they hold its names, and what they encode to is its image
+-- tables of a program that was judged good: what they encode to is its image
 pub record Assembled (d : Tables) : Type 0 where
   pub ready : Ready d
-  pub names : d .entries ≡ namesOf (program d)
   pub encodes : judge (program d) ≡ encodeSlots d
   pub good : assembles (program d) ≡ true
 

@@ -15,13 +15,15 @@ ghost use mathlib.Core.Path.{_≡_};
 ghost use mathlib.Core.Bool.{true};
 ghost use lib.ListN.{length};
 ghost use Rattle.rules.specs.Answers.{isOk};
+ghost use Rattle.rules.specs.Programs.{Program};
 ghost use Rattle.rules.specs.Run.{assembled};
 ghost use Rattle.listing.specs.Tables.{inputOf, Held};
 ghost use Rattle.env.specs.Tables.{Any};
-ghost use Rattle.slots.specs.Slots.{slots, programOf, Sound};
-ghost use Rattle.image.specs.Tables.{tables, Ready};
+ghost use Rattle.slots.specs.Slots.{Slots, slots, programOf, Sound};
+ghost use Rattle.slots.specs.Links.{Together};
+ghost use Rattle.image.specs.Tables.{Tables, tables, Ready};
 ghost use Rattle.image.specs.Encoding.{encodeSlots};
-ghost use Rattle.asm.specs.Assembling.{Placed};
+ghost use Rattle.asm.specs.Assembling.{Placed, Whole};
 ghost use Rattle.entries.specs.Assembling.{Leaves, imageIn, fitted};
 
 // The image of slots that encode, if the room holds it.
@@ -33,14 +35,17 @@ fn finish(
     carry: &[u16; 1024],
     owners: &[u16; 1024],
     offsets: &[u16; 1024],
-    names: &[u32; 1024],
-    contexts: &[u16; 1024],
-    values: &[i32; 1024],
+    links: &[u16; 28672],
+    values: &[i64; 1024],
     positions: &[u32; 1025],
     image: &mut [u8],
 ) -> Answer
-    requires { ⌜ Ready (tables (now frames) (now starts) count (now forms) (now carry) (now owners) (now offsets) (now names) (now contexts) (now values) (now positions)) × (isOk (encodeSlots (tables (now frames) (now starts) count (now forms) (now carry) (now owners) (now offsets) (now names) (now contexts) (now values) (now positions))) ≡ true) ⌝ }
-    ensures { λ r. ⌜ Leaves (fitted count (length (now (image .entry))) (encodeSlots (tables (now (frames .entry)) (now (starts .entry)) count (now (forms .entry)) (now (carry .entry)) (now (owners .entry)) (now (offsets .entry)) (now (names .entry)) (now (contexts .entry)) (now (values .entry)) (now (positions .entry))))) r (now (image .entry)) (now (image .exit)) ⌝ }
+    requires { let d : Tables = tables (now frames) (now starts) count (now forms) (now carry) (now owners) (now offsets)
+        (now links) (now values) (now positions) in
+        ⌜ Ready d × (isOk (encodeSlots d) ≡ true) ⌝ }
+    ensures { λ r. let d : Tables = tables (now (frames .entry)) (now (starts .entry)) count (now (forms .entry)) (now (carry .entry))
+        (now (owners .entry)) (now (offsets .entry)) (now (links .entry)) (now (values .entry)) (now (positions .entry)) in
+        ⌜ Leaves (fitted count (length (now (image .entry))) (encodeSlots d)) r (now (image .entry)) (now (image .exit)) ⌝ }
 {
     let n = image_length(frames, starts, count, forms, positions);
     if image.len() < n {
@@ -54,8 +59,7 @@ fn finish(
         carry,
         owners,
         offsets,
-        names,
-        contexts,
+        links,
         values,
         positions,
         image,
@@ -79,12 +83,15 @@ fn judge_slots(
     contexts: &[u16; 1024],
     image: &mut [u8],
 ) -> Answer
-    requires { ⌜ Sound (slots (now frames) (now starts) count (now forms) (now carry) (now owners) (now offsets)) × Any (now frames) (now starts) count (now forms) (λ t. Placed t (now contexts)) ⌝ }
-    ensures { λ r. ⌜ Leaves (imageIn (length (now (image .entry))) (programOf (slots (now (frames .entry)) (now (starts .entry)) count (now (forms .entry)) (now (carry .entry)) (now (owners .entry)) (now (offsets .entry))))) r (now (image .entry)) (now (image .exit)) ⌝ }
+    requires { let t : Slots = slots (now frames) (now starts) count (now forms) (now carry) (now owners) (now offsets) in
+        ⌜ Sound t × Together t × Any (now frames) (now starts) count (now forms) (λ u. Placed u (now contexts) × Whole u) ⌝ }
+    ensures { λ r. let t : Slots = slots (now (frames .entry)) (now (starts .entry)) count (now (forms .entry)) (now (carry .entry))
+        (now (owners .entry)) (now (offsets .entry)) in
+        ⌜ Leaves (imageIn (length (now (image .entry))) (programOf t)) r (now (image .entry)) (now (image .exit)) ⌝ }
 {
-    let mut names = [65536u32; 1024];
+    let mut links = [0u16; 28672];
     let mut positions = [0u32; 1025];
-    let mut values = [0i32; 1024];
+    let mut values = [0i64; 1024];
     match judge(
         frames,
         starts,
@@ -94,7 +101,7 @@ fn judge_slots(
         owners,
         offsets,
         contexts,
-        &mut names,
+        &mut links,
         &mut positions,
         &mut values,
     ) {
@@ -107,8 +114,7 @@ fn judge_slots(
             carry,
             owners,
             offsets,
-            &names,
-            contexts,
+            &links,
             &values,
             &positions,
             image,
@@ -116,7 +122,7 @@ fn judge_slots(
     }
 }
 
-// The contexts are found first: every later pass asks for them.
+// The contexts are found first: names are found by them.
 fn place_slots(
     frames: &[u8],
     starts: &[u16; 1025],
@@ -127,8 +133,11 @@ fn place_slots(
     offsets: &[u16; 1024],
     image: &mut [u8],
 ) -> Answer
-    requires { ⌜ Sound (slots (now frames) (now starts) count (now forms) (now carry) (now owners) (now offsets)) ⌝ }
-    ensures { λ r. ⌜ Leaves (imageIn (length (now (image .entry))) (programOf (slots (now (frames .entry)) (now (starts .entry)) count (now (forms .entry)) (now (carry .entry)) (now (owners .entry)) (now (offsets .entry))))) r (now (image .entry)) (now (image .exit)) ⌝ }
+    requires { let t : Slots = slots (now frames) (now starts) count (now forms) (now carry) (now owners) (now offsets) in
+        ⌜ Sound t × Together t × Whole t ⌝ }
+    ensures { λ r. let t : Slots = slots (now (frames .entry)) (now (starts .entry)) count (now (forms .entry)) (now (carry .entry))
+        (now (owners .entry)) (now (offsets .entry)) in
+        ⌜ Leaves (imageIn (length (now (image .entry))) (programOf t)) r (now (image .entry)) (now (image .exit)) ⌝ }
 {
     let mut contexts = [0u16; 1024];
     fill_contexts(frames, starts, count, forms, &mut contexts);
@@ -148,7 +157,8 @@ fn place_slots(
 // The slots of a listing as read: no target is an inner label.
 fn assemble_read(frames: &[u8], starts: &[u16; 1025], count: usize, image: &mut [u8]) -> Answer
     requires { ⌜ Held (now frames) (now starts) count ⌝ }
-    ensures { λ r. ⌜ Leaves (imageIn (length (now (image .entry))) (inputOf (now (frames .entry)) (now (starts .entry)) count)) r (now (image .entry)) (now (image .exit)) ⌝ }
+    ensures { λ r. let p : Program = inputOf (now (frames .entry)) (now (starts .entry)) count in
+        ⌜ Leaves (imageIn (length (now (image .entry))) p) r (now (image .entry)) (now (image .exit)) ⌝ }
 {
     let mut forms = [0u8; 1024];
     let mut carry = [0u16; 1024];
@@ -170,7 +180,8 @@ fn assemble_read(frames: &[u8], starts: &[u16; 1025], count: usize, image: &mut 
 
 // Reads a listing, judges it as it stands and writes its image. On refusal no lent byte changes.
 pub fn assemble(listing: &[u8], image: &mut [u8]) -> Answer
-    ensures { λ r. ⌜ Leaves (assembled (now (listing .entry)) (length (now (image .entry)))) r (now (image .entry)) (now (image .exit)) ⌝ }
+    ensures { λ r. ⌜ Leaves (assembled (now (listing .entry)) (length (now (image .entry)))) r
+        (now (image .entry)) (now (image .exit)) ⌝ }
 {
     let mut frames = [0u8; 28672];
     let mut starts = [0u16; 1025];

@@ -1,6 +1,6 @@
 // An end form is judged once more, and its listing and image are written if both rooms hold them.
 use asm::Verdict;
-use asm::judge;
+use asm::judge_linked;
 use image::image_length;
 use image::write_image;
 use output::text_length;
@@ -10,10 +10,12 @@ use rules::Refusal;
 use rules::Sizes;
 ghost use mathlib.Core.Path.{_≡_};
 ghost use mathlib.Core.Bool.{true};
+ghost use Rattle.rules.specs.Listing.{Beside as Lines};
 ghost use Rattle.rules.specs.Judging.{assembles};
 ghost use Rattle.output.specs.Lines.{besideIn};
-ghost use Rattle.slots.specs.Slots.{slots, programOf};
-ghost use Rattle.image.specs.Tables.{tables};
+ghost use Rattle.slots.specs.Slots.{Slots, slots, programOf};
+ghost use Rattle.slots.specs.Links.{Beside};
+ghost use Rattle.image.specs.Tables.{Tables, tables};
 ghost use Rattle.attempts.specs.Standing.{Standing};
 ghost use Rattle.entries.specs.Optimizing.{resultOf, Assembled, Fitted};
 
@@ -28,16 +30,21 @@ fn write_both(
     carry: &[u16; 1024],
     owners: &[u16; 1024],
     offsets: &[u16; 1024],
-    names: &[u32; 1024],
-    contexts: &[u16; 1024],
-    values: &[i32; 1024],
+    links: &[u16; 28672],
+    values: &[i64; 1024],
     positions: &[u32; 1025],
     rewrites: usize,
     out: &mut [u8],
     image: &mut [u8],
 ) -> Answer
-    requires { ⌜ Assembled (tables (now frames) (now starts) count (now forms) (now carry) (now owners) (now offsets) (now names) (now contexts) (now values) (now positions)) ⌝ }
-    ensures { λ r. ⌜ Fitted count (resultOf (besideIn marked (now (lines .entry)) count) (programOf (slots (now (frames .entry)) (now (starts .entry)) count (now (forms .entry)) (now (carry .entry)) (now (owners .entry)) (now (offsets .entry)))) rewrites) r (now (out .entry)) (now (image .entry)) (now (out .exit)) (now (image .exit)) ⌝ }
+    requires { let d : Tables = tables (now frames) (now starts) count (now forms) (now carry) (now owners) (now offsets)
+        (now links) (now values) (now positions) in
+        ⌜ Assembled d ⌝ }
+    ensures { λ r. let t : Slots = slots (now (frames .entry)) (now (starts .entry)) count (now (forms .entry)) (now (carry .entry))
+        (now (owners .entry)) (now (offsets .entry)) in
+        let marks : Lines = besideIn marked (now (lines .entry)) count in
+        ⌜ Fitted count (resultOf marks (programOf t) rewrites) r (now (out .entry)) (now (image .entry))
+        (now (out .exit)) (now (image .exit)) ⌝ }
 {
     let listing_size = text_length(marked, frames, starts, count, forms, carry, owners);
     let image_size = image_length(frames, starts, count, forms, positions);
@@ -68,8 +75,7 @@ fn write_both(
         carry,
         owners,
         offsets,
-        names,
-        contexts,
+        links,
         values,
         positions,
         image,
@@ -81,7 +87,7 @@ fn write_both(
     })
 }
 
-// Names, positions and values of the end form are found once more: it assembles.
+// Positions and values of the end form are found once more: it assembles.
 pub fn judge_end(
     marked: bool,
     lines: &[u32; 1024],
@@ -92,18 +98,22 @@ pub fn judge_end(
     carry: &[u16; 1024],
     owners: &[u16; 1024],
     offsets: &[u16; 1024],
-    contexts: &[u16; 1024],
+    links: &[u16; 28672],
     rewrites: usize,
     out: &mut [u8],
     image: &mut [u8],
 ) -> Answer
-    requires { ⌜ Standing (slots (now frames) (now starts) count (now forms) (now carry) (now owners) (now offsets)) (now contexts) × (assembles (programOf (slots (now frames) (now starts) count (now forms) (now carry) (now owners) (now offsets))) ≡ true) ⌝ }
-    ensures { λ r. ⌜ Fitted count (resultOf (besideIn marked (now (lines .entry)) count) (programOf (slots (now (frames .entry)) (now (starts .entry)) count (now (forms .entry)) (now (carry .entry)) (now (owners .entry)) (now (offsets .entry)))) rewrites) r (now (out .entry)) (now (image .entry)) (now (out .exit)) (now (image .exit)) ⌝ }
+    requires { let t : Slots = slots (now frames) (now starts) count (now forms) (now carry) (now owners) (now offsets) in
+        ⌜ Standing t × (assembles (programOf t) ≡ true) × Beside (now frames) (now starts) count (now links) ⌝ }
+    ensures { λ r. let t : Slots = slots (now (frames .entry)) (now (starts .entry)) count (now (forms .entry)) (now (carry .entry))
+        (now (owners .entry)) (now (offsets .entry)) in
+        let marks : Lines = besideIn marked (now (lines .entry)) count in
+        ⌜ Fitted count (resultOf marks (programOf t) rewrites) r (now (out .entry)) (now (image .entry))
+        (now (out .exit)) (now (image .exit)) ⌝ }
 {
-    let mut names = [65536u32; 1024];
     let mut positions = [0u32; 1025];
-    let mut values = [0i32; 1024];
-    match judge(
+    let mut values = [0i64; 1024];
+    match judge_linked(
         frames,
         starts,
         count,
@@ -111,8 +121,7 @@ pub fn judge_end(
         carry,
         owners,
         offsets,
-        contexts,
-        &mut names,
+        links,
         &mut positions,
         &mut values,
     ) {
@@ -127,8 +136,7 @@ pub fn judge_end(
             carry,
             owners,
             offsets,
-            &names,
-            contexts,
+            links,
             &values,
             &positions,
             rewrites,

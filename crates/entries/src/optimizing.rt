@@ -16,15 +16,18 @@ use rules::Settings;
 ghost use mathlib.Core.Path.{_≡_};
 ghost use mathlib.Core.Bool.{true};
 ghost use lib.ListN.{length};
+ghost use Rattle.rules.specs.Programs.{Program};
+ghost use Rattle.rules.specs.Listing.{Beside as Lines};
 ghost use Rattle.rules.specs.Judging.{assembles};
 ghost use Rattle.rules.specs.Rewriting as rewriting;
 ghost use Rattle.promises.specs.Demand2.{Answered};
 ghost use Rattle.listing.specs.Tables.{inputOf, Held};
 ghost use Rattle.env.specs.Tables.{Any};
 ghost use Rattle.output.specs.Lines.{besideIn};
-ghost use Rattle.slots.specs.Slots.{slots, programOf, Sound};
-ghost use Rattle.image.specs.Tables.{tables};
-ghost use Rattle.asm.specs.Assembling.{Placed};
+ghost use Rattle.slots.specs.Slots.{Slots, slots, programOf, Sound};
+ghost use Rattle.slots.specs.Links.{Beside};
+ghost use Rattle.image.specs.Tables.{Tables, tables};
+ghost use Rattle.asm.specs.Assembling.{Placed, Whole};
 ghost use Rattle.attempts.specs.Standing.{Standing};
 ghost use Rattle.anchors.specs.Anchored.{AsRead};
 ghost use Rattle.entries.specs.Optimizing.{rewritten, judgedRun, Assembled, Delivers, Fitted};
@@ -41,12 +44,17 @@ fn rewrite_anchored(
     carry: &mut [u16; 1024],
     owners: &[u16; 1024],
     offsets: &[u16; 1024],
-    contexts: &[u16; 1024],
+    links: &[u16; 28672],
     out: &mut [u8],
     image: &mut [u8],
 ) -> Answer
-    requires { ⌜ Standing (slots (now frames) (now starts) count (now forms) (now carry) (now owners) (now offsets)) (now contexts) × (assembles (programOf (slots (now frames) (now starts) count (now forms) (now carry) (now owners) (now offsets))) ≡ true) ⌝ }
-    ensures { λ r. ⌜ Fitted count (rewritten asked (besideIn marked (now (lines .entry)) count) (programOf (slots (now (frames .entry)) (now (starts .entry)) count (now (forms .entry)) (now (carry .entry)) (now (owners .entry)) (now (offsets .entry))))) r (now (out .entry)) (now (image .entry)) (now (out .exit)) (now (image .exit)) ⌝ }
+    requires { let t : Slots = slots (now frames) (now starts) count (now forms) (now carry) (now owners) (now offsets) in
+        ⌜ Standing t × (assembles (programOf t) ≡ true) × Beside (now frames) (now starts) count (now links) ⌝ }
+    ensures { λ r. let t : Slots = slots (now (frames .entry)) (now (starts .entry)) count (now (forms .entry)) (now (carry .entry))
+        (now (owners .entry)) (now (offsets .entry)) in
+        let marks : Lines = besideIn marked (now (lines .entry)) count in
+        ⌜ Fitted count (rewritten asked marks (programOf t)) r (now (out .entry)) (now (image .entry))
+        (now (out .exit)) (now (image .exit)) ⌝ }
 {
     let rewrites = optimize(
         asked,
@@ -57,7 +65,7 @@ fn rewrite_anchored(
         carry,
         owners,
         offsets,
-        contexts,
+        links,
     );
     show(asked, frames, starts, count, forms);
     judge_end(
@@ -70,7 +78,7 @@ fn rewrite_anchored(
         carry,
         owners,
         offsets,
-        contexts,
+        links,
         rewrites,
         out,
         image,
@@ -89,15 +97,22 @@ fn anchor_judged(
     carry: &mut [u16; 1024],
     bare: &[u16; 1024],
     none: &[u16; 1024],
-    names: &[u32; 1024],
     contexts: &[u16; 1024],
-    values: &[i32; 1024],
+    links: &[u16; 28672],
+    values: &[i64; 1024],
     positions: &[u32; 1025],
     out: &mut [u8],
     image: &mut [u8],
 ) -> Answer
-    requires { ⌜ Assembled (tables (now frames) (now starts) count (now forms) (now carry) (now bare) (now none) (now names) (now contexts) (now values) (now positions)) × AsRead (slots (now frames) (now starts) count (now forms) (now carry) (now bare) (now none)) × (length (now forms) ≡ 1024) × (length (now carry) ≡ 1024) × Any (now frames) (now starts) count (now forms) (λ t. Placed t (now contexts)) ⌝ }
-    ensures { λ r. ⌜ Fitted count (rewritten asked (besideIn marked (now (lines .entry)) count) (rewriting.anchor (programOf (slots (now (frames .entry)) (now (starts .entry)) count (now (forms .entry)) (now (carry .entry)) (now (bare .entry)) (now (none .entry)))))) r (now (out .entry)) (now (image .entry)) (now (out .exit)) (now (image .exit)) ⌝ }
+    requires { let d : Tables = tables (now frames) (now starts) count (now forms) (now carry) (now bare) (now none)
+        (now links) (now values) (now positions) in
+        ⌜ Assembled d × AsRead (d .slots) × (length (now forms) ≡ 1024) × (length (now carry) ≡ 1024)
+        × Placed (d .slots) (now contexts) × Beside (now frames) (now starts) count (now links) ⌝ }
+    ensures { λ r. let t : Slots = slots (now (frames .entry)) (now (starts .entry)) count (now (forms .entry)) (now (carry .entry))
+        (now (bare .entry)) (now (none .entry)) in
+        let marks : Lines = besideIn marked (now (lines .entry)) count in
+        ⌜ Fitted count (rewritten asked marks (rewriting.anchor (programOf t))) r (now (out .entry)) (now (image .entry))
+        (now (out .exit)) (now (image .exit)) ⌝ }
 {
     let mut owners = [1024u16; 1024];
     let mut offsets = [0u16; 1024];
@@ -109,8 +124,8 @@ fn anchor_judged(
         carry,
         bare,
         none,
-        names,
         contexts,
+        links,
         values,
         positions,
         &mut owners,
@@ -127,7 +142,7 @@ fn anchor_judged(
         carry,
         &owners,
         &offsets,
-        contexts,
+        links,
         out,
         image,
     )
@@ -149,12 +164,18 @@ fn judge_read(
     out: &mut [u8],
     image: &mut [u8],
 ) -> Answer
-    requires { ⌜ Sound (slots (now frames) (now starts) count (now forms) (now carry) (now bare) (now none)) × AsRead (slots (now frames) (now starts) count (now forms) (now carry) (now bare) (now none)) × (length (now forms) ≡ 1024) × (length (now carry) ≡ 1024) × Any (now frames) (now starts) count (now forms) (λ t. Placed t (now contexts)) ⌝ }
-    ensures { λ r. ⌜ Delivers (judgedRun asked (besideIn marked (now (lines .entry)) count) (length (now (out .entry))) (length (now (image .entry))) (programOf (slots (now (frames .entry)) (now (starts .entry)) count (now (forms .entry)) (now (carry .entry)) (now (bare .entry)) (now (none .entry))))) r (now (out .entry)) (now (image .entry)) (now (out .exit)) (now (image .exit)) ⌝ }
+    requires { let t : Slots = slots (now frames) (now starts) count (now forms) (now carry) (now bare) (now none) in
+        ⌜ Sound t × AsRead t × (length (now forms) ≡ 1024) × (length (now carry) ≡ 1024)
+        × Any (now frames) (now starts) count (now forms) (λ u. Placed u (now contexts) × Whole u) ⌝ }
+    ensures { λ r. let t : Slots = slots (now (frames .entry)) (now (starts .entry)) count (now (forms .entry)) (now (carry .entry))
+        (now (bare .entry)) (now (none .entry)) in
+        let marks : Lines = besideIn marked (now (lines .entry)) count in
+        ⌜ Delivers (judgedRun asked marks (length (now (out .entry))) (length (now (image .entry))) (programOf t)) r
+        (now (out .entry)) (now (image .entry)) (now (out .exit)) (now (image .exit)) ⌝ }
 {
-    let mut names = [65536u32; 1024];
+    let mut links = [0u16; 28672];
     let mut positions = [0u32; 1025];
-    let mut values = [0i32; 1024];
+    let mut values = [0i64; 1024];
     match judge(
         frames,
         starts,
@@ -164,7 +185,7 @@ fn judge_read(
         bare,
         none,
         contexts,
-        &mut names,
+        &mut links,
         &mut positions,
         &mut values,
     ) {
@@ -180,8 +201,8 @@ fn judge_read(
             carry,
             bare,
             none,
-            &names,
             contexts,
+            &links,
             &values,
             &positions,
             out,
@@ -190,7 +211,7 @@ fn judge_read(
     }
 }
 
-// The contexts are found first: they stay the same to the end.
+// The contexts are found first: they stay the same to the end, and links are made of them.
 fn place_read(
     asked: Settings,
     marked: bool,
@@ -205,8 +226,13 @@ fn place_read(
     out: &mut [u8],
     image: &mut [u8],
 ) -> Answer
-    requires { ⌜ Sound (slots (now frames) (now starts) count (now forms) (now carry) (now bare) (now none)) × AsRead (slots (now frames) (now starts) count (now forms) (now carry) (now bare) (now none)) × (length (now forms) ≡ 1024) × (length (now carry) ≡ 1024) ⌝ }
-    ensures { λ r. ⌜ Delivers (judgedRun asked (besideIn marked (now (lines .entry)) count) (length (now (out .entry))) (length (now (image .entry))) (programOf (slots (now (frames .entry)) (now (starts .entry)) count (now (forms .entry)) (now (carry .entry)) (now (bare .entry)) (now (none .entry))))) r (now (out .entry)) (now (image .entry)) (now (out .exit)) (now (image .exit)) ⌝ }
+    requires { let t : Slots = slots (now frames) (now starts) count (now forms) (now carry) (now bare) (now none) in
+        ⌜ Sound t × AsRead t × (length (now forms) ≡ 1024) × (length (now carry) ≡ 1024) × Whole t ⌝ }
+    ensures { λ r. let t : Slots = slots (now (frames .entry)) (now (starts .entry)) count (now (forms .entry)) (now (carry .entry))
+        (now (bare .entry)) (now (none .entry)) in
+        let marks : Lines = besideIn marked (now (lines .entry)) count in
+        ⌜ Delivers (judgedRun asked marks (length (now (out .entry))) (length (now (image .entry))) (programOf t)) r
+        (now (out .entry)) (now (image .entry)) (now (out .exit)) (now (image .exit)) ⌝ }
 {
     let mut contexts = [0u16; 1024];
     fill_contexts(frames, starts, count, forms, &mut contexts);
@@ -239,7 +265,10 @@ fn optimize_read(
     image: &mut [u8],
 ) -> Answer
     requires { ⌜ Held (now frames) (now starts) count ⌝ }
-    ensures { λ r. ⌜ Delivers (judgedRun asked (besideIn marked (now (lines .entry)) count) (length (now (out .entry))) (length (now (image .entry))) (inputOf (now (frames .entry)) (now (starts .entry)) count)) r (now (out .entry)) (now (image .entry)) (now (out .exit)) (now (image .exit)) ⌝ }
+    ensures { λ r. let marks : Lines = besideIn marked (now (lines .entry)) count in
+        let p : Program = inputOf (now (frames .entry)) (now (starts .entry)) count in
+        ⌜ Delivers (judgedRun asked marks (length (now (out .entry))) (length (now (image .entry))) p) r
+        (now (out .entry)) (now (image .entry)) (now (out .exit)) (now (image .exit)) ⌝ }
 {
     let mut forms = [0u8; 1024];
     let mut carry = [0u16; 1024];
@@ -265,7 +294,8 @@ fn optimize_read(
 
 // Reads a listing, judges it, rewrites it and writes the new listing and its image. On refusal no lent byte changes.
 pub fn optimize_jumps(asked: Settings, listing: &[u8], out: &mut [u8], image: &mut [u8]) -> Answer
-    ensures { λ r. ⌜ Answered asked (now (listing .entry)) (now (out .entry)) (now (image .entry)) r (now (out .exit)) (now (image .exit)) ⌝ }
+    ensures { λ r. ⌜ Answered asked (now (listing .entry)) (now (out .entry)) (now (image .entry)) r
+        (now (out .exit)) (now (image .exit)) ⌝ }
 {
     let mut frames = [0u8; 28672];
     let mut starts = [0u16; 1025];

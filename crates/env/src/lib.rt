@@ -2,12 +2,14 @@
 // the statements ends at its first refusal.
 mod contexts; // the context of each place
 mod layout; // positions: 5 and 6
+mod links; // the place that each name means
 mod moving; // which names move with the code
 mod names; // the name that each place defines: 3
 mod variables; // what names stand for: 4 and 7
 
 pub use contexts::fill_contexts;
 pub use layout::lay_out;
+pub use links::fill_links;
 pub use moving::fill_moving;
 pub use names::fill_names;
 pub use names::no_name_twice;
@@ -40,8 +42,8 @@ enum Moved {
     Refused(Refusal),
 }
 
-// What a name stands for.
+// What stands in the table of values.
 enum Valued {
-    Is(i32),
+    Is(i64),
     Refused(Refusal),
 }

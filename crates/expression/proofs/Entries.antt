@@ -33,26 +33,9 @@ module _ (names contexts : List ℕ) (values : List ℤ) (c m : ℕ) where
   abbrev pub here : (i : ℕ) → Bool
   here i = isHere (getD names i 0) (getD contexts i 0) m c
 
-  at-place : (i : ℕ) (a b : Bool) → ltb (getD names i 0) 65536 ≡ a → sameKey (keyOf (getD contexts i 0) (getD names i 0)) (keyOf c m) ≡ b
+  pub at-place : (i : ℕ) (a b : Bool) → ltb (getD names i 0) 65536 ≡ a → sameKey (keyOf (getD contexts i 0) (getD names i 0)) (keyOf c m) ≡ b
       → found (suc i) ≡ cond (a && b) (Is (getD values i (pos 0))) (found i)
   unfolding entriesOf lookup
   at-place i true true p q = rw (p, q)
   at-place i true false p q = rw (p, q)
   at-place i false b p q = rw p
-
-  from : (i : ℕ) → 0 < i → (b : Bool) → here (i - 1) ≡ b → found i ≡ cond b (Is (getD values (i - 1) (pos 0))) (found (i - 1))
-  from i h b e =
-      let q : i ≡ suc (i - 1) = omega arith in
-      ap found q
-      ∙ at-place (i - 1) (ltb (getD names (i - 1) 0) 65536) (sameKey (keyOf (getD contexts (i - 1) 0) (getD names (i - 1) 0)) (keyOf c m)) refl refl
-      ∙ ap (λ (t : Bool). cond t (Is (getD values (i - 1) (pos 0))) (found (i - 1))) e
-
-  pub find-here : (i : ℕ) → 0 < i → here (i - 1) ≡ true → found i ≡ Is (getD values (i - 1) (pos 0))
-  find-here i h e = from i h true e
-
-  pub find-below : (i : ℕ) → 0 < i → here (i - 1) ≡ false → found i ≡ found (i - 1)
-  find-below i h e = from i h false e
-
-  pub find-end : (i : ℕ) → i ≤ 0 → found i ≡ Unknown
-  unfolding entriesOf lookup
-  find-end i h = let q : i ≡ 0 = omega arith in ap found q

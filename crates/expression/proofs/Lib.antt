@@ -7,3 +7,5 @@ pub mod Entries
 pub mod Keys
 pub mod Alongs
 pub mod Bares
+pub mod Links
+pub mod Tallies

@@ -4,7 +4,6 @@ use crate::Tally;
 use crate::fields::pair;
 use crate::naming::leaf;
 use crate::reading::tag_of;
-use crate::worth::defines;
 use rules::Tag;
 ghost use mathlib.Core.Path.{_≡_};
 ghost use Prim.Native.Nat.{ℕ, _≤_};
@@ -12,9 +11,22 @@ ghost use Rattle.rules.specs.Expressions.{Expr, readExpr, got, mentions};
 ghost use Rattle.rules.specs.Names.{keyOf};
 ghost use Rattle.rules.specs.Judging.{isSeen};
 ghost use Rattle.rules.specs.Rewriting.{holdsLabel};
-ghost use Rattle.expression.specs.Environment.{keysOf};
+ghost use Rattle.expression.specs.Environment.{isHere, keysOf};
 ghost use Rattle.expression.specs.Naming.{seenTally};
 ghost use Rattle.expression.specs.Along.{Along};
+
+// A statement of context k that defines n defines what `name` means in `context`: a local name within its context only.
+pub fn defines(n: u32, k: u16, name: u16, context: u16) -> bool
+    ensures { λ r. ⌜ r ≡ isHere n k name context ⌝ }
+{
+    if n != name as u32 {
+        return false;
+    }
+    if name < 0x8000 {
+        return true;
+    }
+    k == context
+}
 
 // Whether a place below the limit has what `name` means in `context`.
 pub fn is_seen(

@@ -7,29 +7,23 @@ mod reading; // where an expression ends
 mod values; // the operators
 mod worth; // what an expression is worth
 
+pub use labels::defines;
 pub use labels::holds_label;
 pub use labels::is_seen;
-pub use naming::bare_name;
-pub use naming::count_name;
+pub use naming::count_links;
 pub use naming::is_bare;
 pub use reading::read_expr;
 pub use reading::tag_of;
 use rules::Outcome;
 pub use values::apply_one;
 pub use values::apply_two;
-pub use worth::worth_of;
+pub use worth::linked_worth;
 
 // What reading an expression comes to: how many bytes it takes, or why it is none.
 pub enum Read {
     Ends(usize),
     TooLong,
     Broken,
-}
-
-// An expression that is one name, or any other.
-pub enum Bare {
-    Name(u16),
-    Nothing,
 }
 
 // What the bytes of an expression are worth, and how many they are.

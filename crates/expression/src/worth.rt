@@ -1,56 +1,20 @@
-// What an expression is worth among the names that the places below a limit define: `names` has at each place the name that its
-// statement defines, 65,536 where it defines none, `contexts` its context and `values` what the name stands for.
+// What an expression is worth, its names found beforehand: beside each byte at which a name begins `links` has the place of the statement
+// that defines it. `values` has by place what its name stands for, and a number outside 32 bits where the statement is gone.
 use crate::Valued;
 use crate::fields::four;
-use crate::fields::pair;
 use crate::reading::tag_of;
+use crate::values::fit;
 use crate::values::with_one;
 use crate::values::with_two;
 use rules::Outcome;
 use rules::Tag;
 ghost use mathlib.Core.Path.{_≡_};
 ghost use Prim.Native.Nat.{ℕ, _≤_};
-ghost use Rattle.rules.specs.Expressions.{Expr, readExpr, got};
-ghost use Rattle.rules.specs.Names.{keyOf, lookup};
-ghost use Rattle.rules.specs.Judging.{worth};
-ghost use Rattle.expression.specs.Environment.{isHere, entriesOf};
-ghost use Rattle.expression.specs.Evaluating.{noValue, numberAt, nameAt};
-ghost use Rattle.expression.specs.Along.{Along};
-
-// A statement of context k that defines n defines what `name` means in `context`: a local name within its context only.
-pub fn defines(n: u32, k: u16, name: u16, context: u16) -> bool
-    ensures { λ r. ⌜ r ≡ isHere n k name context ⌝ }
-{
-    if n != name as u32 {
-        return false;
-    }
-    if name < 0x8000 {
-        return true;
-    }
-    k == context
-}
-
-// What a name stands for, the latest place first.
-fn find(
-    names: &[u32; 1024],
-    contexts: &[u16; 1024],
-    values: &[i32; 1024],
-    limit: usize,
-    context: u16,
-    name: u16,
-) -> Outcome
-    requires { ⌜ limit ≤ 1024 ⌝ }
-    ensures { λ r. ⌜ r ≡ lookup (entriesOf (now (names .entry)) (now (contexts .entry)) (now (values .entry)) limit) (keyOf context name) ⌝ }
-{
-    let mut i = limit;
-    while 0 < i {
-        i -= 1;
-        if defines(names[i], contexts[i], name, context) {
-            return Outcome::Is(values[i]);
-        }
-    }
-    Outcome::Unknown
-}
+ghost use lib.ListN.{length};
+ghost use Rattle.rules.specs.declared.Outcome.{Outcome as Outcomes};
+ghost use Rattle.rules.specs.Expressions.{Expr, readExpr, got, evalTree};
+ghost use Rattle.expression.specs.Evaluating.{noValue, numberAt};
+ghost use Rattle.expression.specs.Linked.{standsAt, linkAt, Linked, Evaluated};
 
 // Where bytes are lacking, or are no expression.
 fn none() -> Valued
@@ -74,55 +38,57 @@ fn number(s: &[u8]) -> Valued
     }
 }
 
-fn named(
-    s: &[u8],
-    names: &[u32; 1024],
-    contexts: &[u16; 1024],
-    values: &[i32; 1024],
-    limit: usize,
-    context: u16,
-) -> Valued
+// What the name that a place defines stands for: nothing from the limit on, and nothing where the statement is gone.
+fn stands_for(values: &[i64; 1024], limit: usize, place: u16) -> Outcome
     requires { ⌜ limit ≤ 1024 ⌝ }
-    ensures { λ r. ⌜ r ≡ nameAt (entriesOf (now (names .entry)) (now (contexts .entry)) (now (values .entry)) limit) context (now (s .entry)) ⌝ }
+    ensures { λ r. ⌜ r ≡ standsAt (now (values .entry)) limit place ⌝ }
+{
+    let i = place as usize;
+    if limit <= i {
+        return Outcome::Unknown;
+    }
+    match fit(values[i]) {
+        Outcome::Is(z) => Outcome::Is(z),
+        Outcome::Unknown => Outcome::Unknown,
+        Outcome::Nothing => Outcome::Unknown,
+    }
+}
+
+fn linked(s: &[u8], links: &[u16], values: &[i64; 1024], limit: usize) -> Valued
+    requires { ⌜ (limit ≤ 1024) × (length (now s) ≤ length (now links)) ⌝ }
+    ensures { λ r. ⌜ r ≡ linkAt (now (values .entry)) limit (now (links .entry)) (now (s .entry)) ⌝ }
 {
     if s.len() < 3 {
         return none();
     }
     Valued {
-        value: find(names, contexts, values, limit, context, pair(s[1], s[2])),
+        value: stands_for(values, limit, links[0]),
         taken: 3,
     }
 }
 
 // The worth of the expression that s begins with: where reading gives a tree, the tree's.
-fn eval(
-    s: &[u8],
-    names: &[u32; 1024],
-    contexts: &[u16; 1024],
-    values: &[i32; 1024],
-    limit: usize,
-    context: u16,
-) -> Valued
-    requires { ⌜ limit ≤ 1024 ⌝ }
-    ensures { λ r. ⌜ Along (worth (entriesOf (now (names .entry)) (now (contexts .entry)) (now (values .entry)) limit) context) (now (s .entry)) (r .value) (r .taken) ⌝ }
+fn eval_linked(s: &[u8], links: &[u16], values: &[i64; 1024], limit: usize) -> Valued
+    requires { ⌜ (limit ≤ 1024) × (length (now s) ≤ length (now links)) ⌝ }
+    ensures { λ r. ⌜ Evaluated (now (s .entry)) (now (links .entry)) (now (values .entry)) limit (r .value) (r .taken) ⌝ }
 {
     if s.len() < 1 {
         return none();
     }
     match tag_of(s[0]) {
         Tag::Number => number(s),
-        Tag::Name => named(s, names, contexts, values, limit, context),
+        Tag::Name => linked(s, links, values, limit),
         Tag::One(o) => {
-            let a = eval(&s[1..], names, contexts, values, limit, context);
+            let a = eval_linked(&s[1..], &links[1..], values, limit);
             let x = a.value;
             let value = with_one(o, x);
             let taken = 1 + a.taken;
             Valued { value, taken }
         }
         Tag::Two(o) => {
-            let a = eval(&s[1..], names, contexts, values, limit, context);
+            let a = eval_linked(&s[1..], &links[1..], values, limit);
             let k = 1 + a.taken;
-            let b = eval(&s[k..], names, contexts, values, limit, context);
+            let b = eval_linked(&s[k..], &links[k..], values, limit);
             let x = a.value;
             let y = b.value;
             let value = with_two(o, x, y);
@@ -133,18 +99,12 @@ fn eval(
     }
 }
 
-// What the expression that s begins with is worth in `context`, by the places below `limit`.
-pub fn worth_of(
-    s: &[u8],
-    names: &[u32; 1024],
-    contexts: &[u16; 1024],
-    values: &[i32; 1024],
-    limit: usize,
-    context: u16,
-) -> Outcome
-    requires { ⌜ limit ≤ 1024 ⌝ }
-    ensures { λ r. ⌜ ((e : Expr) (n : ℕ) → readExpr (now (s .entry)) ≡ got e n → r ≡ worth (entriesOf (now (names .entry)) (now (contexts .entry)) (now (values .entry)) limit) context e) ⌝ }
+// What the expression that s begins with is worth, by the places below `limit`.
+pub fn linked_worth(s: &[u8], links: &[u16], values: &[i64; 1024], limit: usize) -> Outcome
+    requires { ⌜ (limit ≤ 1024) × (length (now s) ≤ length (now links)) ⌝ }
+    ensures { λ r. ⌜ ((env : ℕ → Outcomes) → Linked env (now (s .entry)) (now (links .entry)) (now (values .entry)) limit
+        → (e : Expr) (n : ℕ) → readExpr (now (s .entry)) ≡ got e n → r ≡ evalTree env e) ⌝ }
 {
-    let a = eval(s, names, contexts, values, limit, context);
+    let a = eval_linked(s, links, values, limit);
     a.value
 }

@@ -5,13 +5,16 @@ use mathlib.Core.Logic.{⊎-elim}
 use Prim.Native.Nat.{ℕ, suc, _*_, _-_, _≤_, _<_}
 use native.Mathlib.Omega.{arith}
 use lib.Dec.{eqb}
+use lib.IntN.{ℤ}
 use lib.ListN.{length, getD}
+use Rattle.rules.specs.declared.Outcome.{Outcome}
 use Rattle.laws.proofs.Tests.{eq-or-not, cond-both}
 use Rattle.rules.specs.Answers.{Judged}
 use Rattle.rules.specs.Expressions.{Expr}
-use Rattle.rules.specs.Programs.{Addressℕ, Stmt, gone, instr, label, variable, comment, org, bytes, words, pad, byteCount, kindOf}
+use Rattle.rules.specs.Programs.{Placeℕ, Addressℕ, Stmt, gone, instr, label, variable, comment, org, bytes, words, pad, byteCount, kindOf}
 use Rattle.rules.specs.Layout.{position}
-use Rattle.rules.specs.Names.{contextAt}
+use Rattle.rules.specs.Names.{keyOf, lookup, contextAt}
+use Rattle.expression.specs.Linked.{Linked}
 use Rattle.rules.specs.Judging.{items}
 use Rattle.listing.specs.Tables.{frameAt, inputAt}
 use Rattle.slots.specs.Slots.{Slots, slotAt, written, DataIn}
@@ -95,3 +98,13 @@ module _ (d : Tables) (i : ℕ) (s : List ℕ) (h : DataSlot d i s) where
 
   pub data-some : 0 < widthOf (getD s 0 0) * getD s 1 0
   data-some = let n = data-in i s (h .read) .some in cond-both (λ w. 0 < w * getD s 1 0) (eqb (getD s 0 0) 6) 1 2 (omega arith) (omega arith)
+
+-- the links beside a slot's own frame say what its names mean
+pub own-linked : (d : Tables) → Ready d → (i : Placeℕ) → i < d .slots .count
+    → Linked (λ m. lookup (d .entries) (keyOf (getD (d .contexts) i 0) m)) (frameAt (d .slots .frames) (d .slots .starts) i) (frameAt (d .links) (d .slots .starts) i)
+    (d .values) (d .slots .count)
+own-linked d h i l = rw (h .context i l) (h .says .linked i l)
+
+-- the same of bytes and links that are known by equations
+pub linked-as : (env : ℕ → Outcome) (s b s′ b′ : List ℕ) (values : List ℤ) (n : ℕ) → s ≡ s′ → b ≡ b′ → Linked env s′ b′ values n → Linked env s b values n
+linked-as env s b s′ b′ values n p q h = rw (p, q) h

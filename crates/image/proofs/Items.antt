@@ -16,13 +16,14 @@ use Rattle.rules.specs.Values.{below, nat}
 use Rattle.rules.specs.Names.{Entry}
 use Rattle.rules.specs.Judging.{valueAt, worth, items}
 use Rattle.rules.proofs.Laws.{then-ok, require-ok}
-use Rattle.encoding.specs.Operands.{ranged}
+use Rattle.encoding.specs.declared.operands.Field.{Field}
+use Rattle.encoding.specs.Operands.{fieldAs, ranged}
 use Rattle.encoding.proofs.Ranges.{below-lt}
 use Rattle.slots.specs.Slots.{DataIn}
 use Rattle.slots.proofs.Frames.{Left, Frame, ofInstr, ofLabel, ofVariable, ofComment, ofOrg, ofBytes, ofWords, ofPad, was-read, frame-read}
 use Rattle.slots.proofs.Operands.{readIn}
 use Rattle.slots.proofs.Items.{ItemsRead, items-read}
-use Rattle.image.specs.Encoding.{itemsOf, itemsIn, itemOf}
+use Rattle.image.specs.Encoding.{itemsOf, itemsIn, itemOf, SmallField}
 
 -- ---- of a frame
 
@@ -45,6 +46,18 @@ data-in i s h = on (frame-read i s (readIn i s) (was-read (readFrame i s) (h .re
     on (ofWords f) =
         record { long = f .long; some = f .some; items = rw (ap itemsOf (f .is)) (items-read i s (getD s 1 0) 2 (Left (f .es) []) (f .items)) }
     on (ofPad f) = absurd (omega (arith, f .kind, h .no-pad))
+
+-- a number in its range
+pub ranged-small : (i j bound : ℕ) (v : ℤ) (r : Field) → r ≡ fieldAs (ranged i j bound v) → SmallField bound r
+unfolding ranged
+ranged-small i j bound v r e = rw e (on (ranged i j bound v) refl)
+  where
+    on : (x : Judged ℕ) → ranged i j bound v ≡ x → SmallField bound (fieldAs x)
+    on (ok n) q =
+        let w = require-ok (below bound v) (Range (atPlace i) j v) (ok (nat v)) n q in
+        let z : nat v ≡ n = (let u : ok (nat v) ≡ ok n = w .1 in cc) in
+        rw (← z) (below-lt bound v (w .0))
+    on (no q) w = tt
 
 module _ (names : List Entry) (bound i k : ℕ) where
   -- ---- one item: its value, or 4 or 7

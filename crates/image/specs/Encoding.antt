@@ -1,7 +1,7 @@
 -- The encoding of one slot, and what the code answers of it.
 use mathlib.Core.Bool.{cond}
 use mathlib.Core.List.{List, [], _∷_}
-use Prim.Native.Nat.{ℕ}
+use Prim.Native.Nat.{ℕ, _<_}
 use lib.Dec.{eqb}
 use Rattle.rules.specs.declared.Code.{Code}
 use Rattle.rules.specs.declared.Kind.{Kind}
@@ -13,6 +13,8 @@ use Rattle.rules.specs.Layout.{position}
 use Rattle.rules.specs.Names.{Entry, contextAt, placed}
 use Rattle.rules.specs.Encoding.{field, byte, word}
 use Rattle.rules.specs.Judging.{valueAt, worth, worthOf, encode, encodeAll}
+use Rattle.encoding.specs.declared.operands.Field.{Field}
+use Rattle.encoding.specs.declared.operands.Field.the-variants.{Is as Field·Is, Refused as Field·Refused}
 use Rattle.encoding.specs.Operands.{ranged}
 use Rattle.slots.specs.Slots.{slotAt}
 use Rattle.image.specs.declared.Encoded.{Encoded}
@@ -72,6 +74,11 @@ unfoldable pub itemOf : (names : List Entry) (bound : ℕ) (i : Placeℕ) (k j :
 itemOf names bound i k j e = do
   v ← valueAt i (worth names k e)
   ranged i j bound v
+
+-- what is written for an item is below its bound
+abbrev pub SmallField : (bound : ℕ) → Field → Type 0
+SmallField bound (Field·Is v) = v < bound
+SmallField bound (Field·Refused r) = Unit
 
 -- ---- what only passes or is refused
 

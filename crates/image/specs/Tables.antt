@@ -12,19 +12,24 @@ use Rattle.rules.specs.Listing.{readFrame}
 use Rattle.rules.specs.Programs.{Placeℕ, Operand, register, gone, argsOf, Program}
 use Rattle.rules.specs.Layout.{position}
 use Rattle.rules.specs.Names.{Entry, contextAt}
-use Rattle.expression.specs.Environment.{entriesOf}
+use Rattle.rules.specs.Judging.{namesOf}
 use Rattle.listing.specs.Tables.{Held}
 use Rattle.slots.specs.Slots.{Slots, slots, slotAt, programOf, noOwner, WroteTarget, Sound}
+use Rattle.slots.specs.Links.{contextsRead, Says, Together}
 
 pub record Tables : Type 0 where
   pub slots : Slots
   pub entries : List Entry
   pub contexts : List ℕ
+  pub links : List ℕ
+  pub values : List ℤ
   pub positions : List ℕ
 
-abbrev pub tables : (frames starts : List ℕ) (count : ℕ) (forms carry owners offsets names contexts : List ℕ) (values : List ℤ) (positions : List ℕ) → Tables
-tables fs ss n f c w o names contexts values positions =
-    record { slots = slots fs ss n f c w o; entries = entriesOf names contexts values n; contexts = contexts; positions = positions }
+-- the names and the contexts are those of the program in the slots; the tables have links and values in their place
+abbrev pub tables : (frames starts : List ℕ) (count : ℕ) (forms carry owners offsets links : List ℕ) (values : List ℤ) (positions : List ℕ) → Tables
+tables fs ss n f c w o links values positions =
+    let t : Slots = slots fs ss n f c w o in
+    record { slots = t; entries = namesOf (programOf t); contexts = contextsRead fs ss n; links = links; values = values; positions = positions }
 
 abbrev pub program : Tables → Program
 program d = programOf (d .slots)
@@ -51,10 +56,13 @@ pub record Aims (t : Slots) (positions : List ℕ) (c : Placeℕ) : Type 0 where
   pub wrote : WroteTarget t c
   pub low : getD (t .owners) c 0 < noOwner → getD positions (getD (t .owners) c 0) 0 ≤ 65536
 
--- what is known before the encoding: the tables hold each statement's context and position, and where the last one ends; "an org below the
+-- what is known before the encoding: links and values say what the names mean, the tables hold each statement's context and position, and where
+-- the last one ends; "an org below the
 -- position is refused. Positions reach at most 65,536."
 pub record Ready (d : Tables) : Type 0 where
   pub sound : Sound (d .slots)
+  pub says : Says (d .slots) (d .entries) (d .links) (d .values)
+  pub together : Together (d .slots)
   pub context : (i : Placeℕ) → i < d .slots .count → getD (d .contexts) i 0 ≡ contextAt (program d) i
   pub position : (i : Placeℕ) → i ≤ d .slots .count → getD (d .positions) i 0 ≡ position (program d) i
   pub rises : (i : Placeℕ) → i < d .slots .count → getD (d .positions) i 0 ≤ getD (d .positions) (suc i) 0

@@ -7,10 +7,11 @@ use rules::Place;
 use slots::frame_at;
 use slots::is_data;
 use slots::kind_at;
+use slots::links_at;
 ghost use mathlib.Core.Path.{_≡_};
 ghost use Prim.Native.Nat.{_<_};
 ghost use Rattle.rules.specs.Answers.{isOk};
-ghost use Rattle.image.specs.Tables.{tables, Ready};
+ghost use Rattle.image.specs.Tables.{Tables, tables, Ready};
 ghost use Rattle.image.specs.Encoding.{encodeAt, encodeSlots, checkedAs, checkOf};
 
 // An instruction's answer without its bytes.
@@ -32,14 +33,17 @@ fn check_at(
     carry: &[u16; 1024],
     owners: &[u16; 1024],
     offsets: &[u16; 1024],
-    names: &[u32; 1024],
-    contexts: &[u16; 1024],
-    values: &[i32; 1024],
+    links: &[u16; 28672],
+    values: &[i64; 1024],
     positions: &[u32; 1025],
     at: Place,
 ) -> Checked
-    requires { ⌜ Ready (tables (now frames) (now starts) count (now forms) (now carry) (now owners) (now offsets) (now names) (now contexts) (now values) (now positions)) × (at .0 < count) ⌝ }
-    ensures { λ r. ⌜ r ≡ checkedAs (encodeAt (tables (now (frames .entry)) (now (starts .entry)) count (now (forms .entry)) (now (carry .entry)) (now (owners .entry)) (now (offsets .entry)) (now (names .entry)) (now (contexts .entry)) (now (values .entry)) (now (positions .entry))) (at .0)) ⌝ }
+    requires { let d : Tables = tables (now frames) (now starts) count (now forms) (now carry) (now owners) (now offsets)
+        (now links) (now values) (now positions) in
+        ⌜ Ready d × (at .0 < count) ⌝ }
+    ensures { λ r. let d : Tables = tables (now (frames .entry)) (now (starts .entry)) count (now (forms .entry)) (now (carry .entry))
+        (now (owners .entry)) (now (offsets .entry)) (now (links .entry)) (now (values .entry)) (now (positions .entry)) in
+        ⌜ r ≡ checkedAs (encodeAt d (at .0)) ⌝ }
 {
     let kind = kind_at(frames, starts, count, forms, at);
     if kind == 1 {
@@ -51,17 +55,16 @@ fn check_at(
             carry,
             owners,
             offsets,
-            names,
-            contexts,
+            links,
             values,
             positions,
             at,
         ));
     }
     if is_data(kind) {
-        let i = at.0;
         let frame = frame_at(frames, starts, count, at);
-        return check_items(frame, at, names, contexts, values, count, contexts[i]);
+        let beside = links_at(links, starts, at);
+        return check_items(frame, at, beside, values, count);
     }
     Checked::Passes
 }
@@ -75,14 +78,17 @@ pub fn encodes_at(
     carry: &[u16; 1024],
     owners: &[u16; 1024],
     offsets: &[u16; 1024],
-    names: &[u32; 1024],
-    contexts: &[u16; 1024],
-    values: &[i32; 1024],
+    links: &[u16; 28672],
+    values: &[i64; 1024],
     positions: &[u32; 1025],
     at: Place,
 ) -> bool
-    requires { ⌜ Ready (tables (now frames) (now starts) count (now forms) (now carry) (now owners) (now offsets) (now names) (now contexts) (now values) (now positions)) × (at .0 < count) ⌝ }
-    ensures { λ r. ⌜ r ≡ isOk (encodeAt (tables (now (frames .entry)) (now (starts .entry)) count (now (forms .entry)) (now (carry .entry)) (now (owners .entry)) (now (offsets .entry)) (now (names .entry)) (now (contexts .entry)) (now (values .entry)) (now (positions .entry))) (at .0)) ⌝ }
+    requires { let d : Tables = tables (now frames) (now starts) count (now forms) (now carry) (now owners) (now offsets)
+        (now links) (now values) (now positions) in
+        ⌜ Ready d × (at .0 < count) ⌝ }
+    ensures { λ r. let d : Tables = tables (now (frames .entry)) (now (starts .entry)) count (now (forms .entry)) (now (carry .entry))
+        (now (owners .entry)) (now (offsets .entry)) (now (links .entry)) (now (values .entry)) (now (positions .entry)) in
+        ⌜ r ≡ isOk (encodeAt d (at .0)) ⌝ }
 {
     match check_at(
         frames,
@@ -92,8 +98,7 @@ pub fn encodes_at(
         carry,
         owners,
         offsets,
-        names,
-        contexts,
+        links,
         values,
         positions,
         at,
@@ -112,13 +117,16 @@ pub fn encode_all(
     carry: &[u16; 1024],
     owners: &[u16; 1024],
     offsets: &[u16; 1024],
-    names: &[u32; 1024],
-    contexts: &[u16; 1024],
-    values: &[i32; 1024],
+    links: &[u16; 28672],
+    values: &[i64; 1024],
     positions: &[u32; 1025],
 ) -> Checked
-    requires { ⌜ Ready (tables (now frames) (now starts) count (now forms) (now carry) (now owners) (now offsets) (now names) (now contexts) (now values) (now positions)) ⌝ }
-    ensures { λ r. ⌜ r ≡ checkedAs (encodeSlots (tables (now (frames .entry)) (now (starts .entry)) count (now (forms .entry)) (now (carry .entry)) (now (owners .entry)) (now (offsets .entry)) (now (names .entry)) (now (contexts .entry)) (now (values .entry)) (now (positions .entry)))) ⌝ }
+    requires { let d : Tables = tables (now frames) (now starts) count (now forms) (now carry) (now owners) (now offsets)
+        (now links) (now values) (now positions) in
+        ⌜ Ready d ⌝ }
+    ensures { λ r. let d : Tables = tables (now (frames .entry)) (now (starts .entry)) count (now (forms .entry)) (now (carry .entry))
+        (now (owners .entry)) (now (offsets .entry)) (now (links .entry)) (now (values .entry)) (now (positions .entry)) in
+        ⌜ r ≡ checkedAs (encodeSlots d) ⌝ }
 {
     let mut i = 0;
     while i < count {
@@ -130,8 +138,7 @@ pub fn encode_all(
             carry,
             owners,
             offsets,
-            names,
-            contexts,
+            links,
             values,
             positions,
             Place(i),

@@ -21,7 +21,7 @@ ghost use Rattle.rules.specs.Names.{contextAt};
 ghost use Rattle.encoding.specs.Operands.{fieldAs};
 ghost use Rattle.rules.specs.Programs.{kindOf};
 ghost use Rattle.slots.specs.Slots.{slotAt};
-ghost use Rattle.image.specs.Tables.{tables, program, operandAt, Ready};
+ghost use Rattle.image.specs.Tables.{Tables, tables, program, operandAt, Ready};
 ghost use Rattle.image.specs.Encoding.{fieldOf, encodeAt, encodedAs};
 
 // The address after an instruction.
@@ -41,17 +41,21 @@ fn field_at(
     carry: &[u16; 1024],
     owners: &[u16; 1024],
     offsets: &[u16; 1024],
-    names: &[u32; 1024],
-    contexts: &[u16; 1024],
-    values: &[i32; 1024],
+    links: &[u16; 28672],
+    values: &[i64; 1024],
     positions: &[u32; 1025],
     at: Place,
     j: usize,
     n: Address,
 ) -> Field
-    requires { ⌜ Ready (tables (now frames) (now starts) count (now forms) (now carry) (now owners) (now offsets) (now names) (now contexts) (now values) (now positions)) × (at .0 < count) × (kindOf (slotAt ((tables (now frames) (now starts) count (now forms) (now carry) (now owners) (now offsets) (now names) (now contexts) (now values) (now positions)) .slots) (at .0)) ≡ 1) ⌝ }
+    requires { let d : Tables = tables (now frames) (now starts) count (now forms) (now carry) (now owners) (now offsets)
+        (now links) (now values) (now positions) in
+        ⌜ Ready d × (at .0 < count) × (kindOf (slotAt (d .slots) (at .0)) ≡ 1) ⌝ }
     requires { ⌜ (j < length (operandsAt (getD (now forms) (at .0) 0))) × (n .0 ≤ 65536) ⌝ }
-    ensures { λ r. ⌜ (let d = tables (now (frames .entry)) (now (starts .entry)) count (now (forms .entry)) (now (carry .entry)) (now (owners .entry)) (now (offsets .entry)) (now (names .entry)) (now (contexts .entry)) (now (values .entry)) (now (positions .entry)) in r ≡ fieldAs (fieldOf (d .entries) (program d) (at .0) (contextAt (program d) (at .0)) (n .0) j (getD (operandsAt (getD (now (forms .entry)) (at .0) 0)) j Reg) (operandAt (d .slots) (at .0) j))) ⌝ }
+    ensures { λ r. let d : Tables = tables (now (frames .entry)) (now (starts .entry)) count (now (forms .entry)) (now (carry .entry))
+        (now (owners .entry)) (now (offsets .entry)) (now (links .entry)) (now (values .entry)) (now (positions .entry)) in
+        ⌜ r ≡ fieldAs (fieldOf (d .entries) (program d) (at .0) (contextAt (program d) (at .0)) (n .0) j
+        (getD (operandsAt (getD (now (forms .entry)) (at .0) 0)) j Reg) (operandAt (d .slots) (at .0) j)) ⌝ }
 {
     let i = at.0;
     match operand_kind(forms[i], j) {
@@ -63,8 +67,7 @@ fn field_at(
             carry,
             owners,
             offsets,
-            names,
-            contexts,
+            links,
             values,
             positions,
             at,
@@ -87,14 +90,17 @@ pub fn encode_at(
     carry: &[u16; 1024],
     owners: &[u16; 1024],
     offsets: &[u16; 1024],
-    names: &[u32; 1024],
-    contexts: &[u16; 1024],
-    values: &[i32; 1024],
+    links: &[u16; 28672],
+    values: &[i64; 1024],
     positions: &[u32; 1025],
     at: Place,
 ) -> Encoded
-    requires { ⌜ Ready (tables (now frames) (now starts) count (now forms) (now carry) (now owners) (now offsets) (now names) (now contexts) (now values) (now positions)) × (at .0 < count) × (kindOf (slotAt ((tables (now frames) (now starts) count (now forms) (now carry) (now owners) (now offsets) (now names) (now contexts) (now values) (now positions)) .slots) (at .0)) ≡ 1) ⌝ }
-    ensures { λ r. ⌜ r ≡ encodedAs (encodeAt (tables (now (frames .entry)) (now (starts .entry)) count (now (forms .entry)) (now (carry .entry)) (now (owners .entry)) (now (offsets .entry)) (now (names .entry)) (now (contexts .entry)) (now (values .entry)) (now (positions .entry))) (at .0)) ⌝ }
+    requires { let d : Tables = tables (now frames) (now starts) count (now forms) (now carry) (now owners) (now offsets)
+        (now links) (now values) (now positions) in
+        ⌜ Ready d × (at .0 < count) × (kindOf (slotAt (d .slots) (at .0)) ≡ 1) ⌝ }
+    ensures { λ r. let d : Tables = tables (now (frames .entry)) (now (starts .entry)) count (now (forms .entry)) (now (carry .entry))
+        (now (owners .entry)) (now (offsets .entry)) (now (links .entry)) (now (values .entry)) (now (positions .entry)) in
+        ⌜ r ≡ encodedAs (encodeAt d (at .0)) ⌝ }
 {
     let i = at.0;
     let form = forms[i];
@@ -110,8 +116,7 @@ pub fn encode_at(
             carry,
             owners,
             offsets,
-            names,
-            contexts,
+            links,
             values,
             positions,
             at,

@@ -3,7 +3,7 @@ use crate::Checked;
 use encoding::operands::Field;
 use encoding::operands::byte_item;
 use encoding::operands::word_item;
-use expression::worth_of;
+use expression::linked_worth;
 use rules::Outcome;
 use rules::Place;
 use rules::Refusal;
@@ -13,13 +13,14 @@ ghost use mathlib.Core.Path.{_≡_};
 ghost use mathlib.Core.List.{List};
 ghost use Prim.Native.Nat.{ℕ, _<_, _≤_};
 ghost use lib.IntN.{pos};
-ghost use lib.ListN.{getD};
+ghost use lib.ListN.{getD, length};
 ghost use Rattle.rules.specs.Expressions.{num};
 ghost use Rattle.rules.specs.Judging.{items};
-ghost use Rattle.expression.specs.Environment.{entriesOf};
+ghost use Rattle.rules.specs.Names.{Entry, keyOf, lookup};
+ghost use Rattle.expression.specs.Linked.{Linked};
 ghost use Rattle.encoding.specs.Operands.{fieldAs, ranged};
 ghost use Rattle.slots.specs.Slots.{DataIn};
-ghost use Rattle.image.specs.Encoding.{itemsIn, boundOf, itemOf, checkedAs};
+ghost use Rattle.image.specs.Encoding.{itemsIn, boundOf, itemOf, SmallField, checkedAs};
 
 // The first byte of a frame of bytes; that of words is one more.
 pub const BYTES: u8 = 6;
@@ -35,22 +36,24 @@ fn item_range(kind: u8, at: Place, j: usize, v: i32) -> Field
     }
 }
 
-// What is written for item j of the data in a frame. `at` is the frame's place.
+// What is written for item j of the data in a frame, with the links beside it. `at` is the frame's place.
 pub fn item_field(
     frame: &[u8],
     at: Place,
     j: usize,
-    names: &[u32; 1024],
-    contexts: &[u16; 1024],
-    values: &[i32; 1024],
+    links: &[u16],
+    values: &[i64; 1024],
     count: usize,
-    context: u16,
 ) -> Field
-    requires { ⌜ DataIn (at .0) (now frame) × (j < getD (now frame) 1 0) × (count ≤ 1024) ⌝ }
-    ensures { λ r. ⌜ r ≡ fieldAs (itemOf (entriesOf (now (names .entry)) (now (contexts .entry)) (now (values .entry)) count) (boundOf (getD (now (frame .entry)) 0 0)) (at .0) context j (getD (itemsIn (at .0) (now (frame .entry))) j (num (pos 0)))) ⌝ }
+    requires { ⌜ DataIn (at .0) (now frame) × (j < getD (now frame) 1 0) × (count ≤ 1024) × (length (now links) ≡ length (now frame)) ⌝ }
+    ensures small { λ r. ⌜ SmallField (boundOf (getD (now (frame .entry)) 0 0)) r ⌝ }
+    ensures { λ r. ⌜ ((names : List Entry) (k : ℕ)
+        → Linked (λ m. lookup names (keyOf k m)) (now (frame .entry)) (now (links .entry)) (now (values .entry)) count
+        → r ≡ fieldAs (itemOf names (boundOf (getD (now (frame .entry)) 0 0)) (at .0) k j
+        (getD (itemsIn (at .0) (now (frame .entry))) j (num (pos 0))))) ⌝ }
 {
     let a = item_in(frame, at, j);
-    match worth_of(&frame[a..], names, contexts, values, count, context) {
+    match linked_worth(&frame[a..], &links[a..], values, count) {
         Outcome::Is(v) => item_range(frame[0], at, j, v),
         Outcome::Unknown => Field::Refused(Refusal::NoName(at)),
         Outcome::Nothing => Field::Refused(Refusal::NoValue(at)),
@@ -61,19 +64,20 @@ pub fn item_field(
 pub fn check_items(
     frame: &[u8],
     at: Place,
-    names: &[u32; 1024],
-    contexts: &[u16; 1024],
-    values: &[i32; 1024],
+    links: &[u16],
+    values: &[i64; 1024],
     count: usize,
-    context: u16,
 ) -> Checked
-    requires { ⌜ DataIn (at .0) (now frame) × (count ≤ 1024) ⌝ }
-    ensures { λ r. ⌜ ((write : ℕ → List ℕ) → r ≡ checkedAs (items (entriesOf (now (names .entry)) (now (contexts .entry)) (now (values .entry)) count) (boundOf (getD (now (frame .entry)) 0 0)) write (at .0) context 0 (itemsIn (at .0) (now (frame .entry))))) ⌝ }
+    requires { ⌜ DataIn (at .0) (now frame) × (count ≤ 1024) × (length (now links) ≡ length (now frame)) ⌝ }
+    ensures { λ r. ⌜ ((names : List Entry) (k : ℕ)
+        → Linked (λ m. lookup names (keyOf k m)) (now (frame .entry)) (now (links .entry)) (now (values .entry)) count
+        → (write : ℕ → List ℕ) → r ≡ checkedAs (items names (boundOf (getD (now (frame .entry)) 0 0)) write (at .0) k 0
+        (itemsIn (at .0) (now (frame .entry))))) ⌝ }
 {
     let n = items_in(frame);
     let mut j = 0;
     while j < n {
-        match item_field(frame, at, j, names, contexts, values, count, context) {
+        match item_field(frame, at, j, links, values, count) {
             Field::Is(_) => {}
             Field::Refused(r) => {
                 return Checked::Refused(r);

@@ -1,5 +1,5 @@
 // What the operands of a slot's instruction are worth: a register, an expression, or an inner label, which is worth its byte's address.
-use expression::worth_of;
+use expression::linked_worth;
 use instruction::tables::Target;
 use instruction::tables::control_flow_target;
 use instruction::tables::operand_count;
@@ -8,16 +8,19 @@ use rules::Place;
 use slots::argument_in;
 use slots::frame_at;
 use slots::is_register;
+use slots::links_at;
 ghost use mathlib.Core.Path.{_≡_};
 ghost use mathlib.Core.List.{List, []};
 ghost use Prim.Native.Nat.{ℕ, _+_, _<_, _≤_};
 ghost use lib.IntN.{pos};
 ghost use lib.ListN.{length, getD};
 ghost use Rattle.rules.specs.Forms.{operandsAt};
-ghost use Rattle.expression.specs.Environment.{entriesOf};
+ghost use Rattle.rules.specs.Names.{Entry, keyOf, lookup};
+ghost use Rattle.expression.specs.Linked.{Linked};
+ghost use Rattle.listing.specs.Tables.{frameAt};
 ghost use Rattle.rules.specs.Programs.{kindOf};
-ghost use Rattle.slots.specs.Slots.{slots, slotAt, targetOf, worthIn, InstrIn, Sound};
-ghost use Rattle.image.specs.Tables.{isTarget, operandIn, operandAt, Low, Aims};
+ghost use Rattle.slots.specs.Slots.{slots, slotAt, targetOf, worthIn, InstrIn};
+ghost use Rattle.image.specs.Tables.{Tables, tables, isTarget, operandIn, operandAt, Aims, Ready};
 
 // A number of a table, as a place.
 fn wide(x: u16) -> usize
@@ -40,44 +43,48 @@ fn inner_worth(position: u32, offset: u16) -> Outcome
     Outcome::Is((position + offset as u32) as i32)
 }
 
-// Argument j of an instruction's own frame. `at` is the frame's place.
+// Argument j of an instruction's own frame, with the links beside it. `at` is the frame's place.
 pub fn own_worth(
     frame: &[u8],
     at: Place,
     j: usize,
-    names: &[u32; 1024],
-    contexts: &[u16; 1024],
-    values: &[i32; 1024],
+    links: &[u16],
+    values: &[i64; 1024],
     count: usize,
-    context: u16,
 ) -> Outcome
-    requires { ⌜ InstrIn (at .0) (now frame) × (j < length (operandsAt (getD (now frame) 1 0))) × (count ≤ 1024) ⌝ }
-    ensures { λ r. ⌜ ((positions : List ℕ) → r ≡ worthIn (entriesOf (now (names .entry)) (now (contexts .entry)) (now (values .entry)) count) positions context (operandIn (at .0) (now (frame .entry)) j)) ⌝ }
+    requires { ⌜ InstrIn (at .0) (now frame) × (j < length (operandsAt (getD (now frame) 1 0))) × (count ≤ 1024)
+        × (length (now links) ≡ length (now frame)) ⌝ }
+    ensures { λ r. ⌜ ((names : List Entry) (k : ℕ)
+        → Linked (λ m. lookup names (keyOf k m)) (now (frame .entry)) (now (links .entry)) (now (values .entry)) count
+        → (positions : List ℕ) → r ≡ worthIn names positions k (operandIn (at .0) (now (frame .entry)) j)) ⌝ }
 {
     let a = argument_in(frame, at, j);
     if is_register(frame[1], j) {
         return register_worth(frame[a]);
     }
-    worth_of(&frame[a..], names, contexts, values, count, context)
+    linked_worth(&frame[a..], &links[a..], values, count)
 }
 
-// The target that was written at place c, in the context of the instruction that carries it now: an inner label that it became, or the
-// last argument of its frame.
+// The target that was written at place c: an inner label that it became, or the last argument of its frame.
 pub fn target_worth(
     frames: &[u8],
     starts: &[u16; 1025],
     count: usize,
     owners: &[u16; 1024],
     offsets: &[u16; 1024],
-    names: &[u32; 1024],
-    contexts: &[u16; 1024],
-    values: &[i32; 1024],
+    links: &[u16; 28672],
+    values: &[i64; 1024],
     positions: &[u32; 1025],
     c: Place,
-    context: u16,
 ) -> Outcome
-    requires { ⌜ Aims (slots (now frames) (now starts) count [] [] (now owners) (now offsets)) (now positions) (c .0) ⌝ }
-    ensures { λ r. ⌜ ((forms carry : List ℕ) → r ≡ worthIn (entriesOf (now (names .entry)) (now (contexts .entry)) (now (values .entry)) count) (now (positions .entry)) context (targetOf (slots (now (frames .entry)) (now (starts .entry)) count forms carry (now (owners .entry)) (now (offsets .entry))) (c .0))) ⌝ }
+    requires { ⌜ Aims (slots (now frames) (now starts) count [] [] (now owners) (now offsets)) (now positions) (c .0)
+        × (length (now links) ≡ 28672) ⌝ }
+    ensures { λ r. ⌜ ((names : List Entry) (k : ℕ)
+        → Linked (λ m. lookup names (keyOf k m)) (frameAt (now (frames .entry)) (now (starts .entry)) (c .0))
+        (frameAt (now (links .entry)) (now (starts .entry)) (c .0)) (now (values .entry)) count
+        → (forms carry : List ℕ) → r ≡ worthIn names (now (positions .entry)) k
+        (targetOf (slots (now (frames .entry)) (now (starts .entry)) count forms carry (now (owners .entry)) (now (offsets .entry)))
+        (c .0))) ⌝ }
 {
     let i = c.0;
     let owner = wide(owners[i]);
@@ -85,8 +92,9 @@ pub fn target_worth(
         return inner_worth(positions[owner], offsets[i]);
     }
     let frame = frame_at(frames, starts, count, c);
+    let beside = links_at(links, starts, c);
     let last = operand_count(frame[1]) - 1;
-    own_worth(frame, c, last, names, contexts, values, count, context)
+    own_worth(frame, c, last, beside, values, count)
 }
 
 // The place whose target stands in a slot.
@@ -117,16 +125,18 @@ pub fn argument_worth(
     carry: &[u16; 1024],
     owners: &[u16; 1024],
     offsets: &[u16; 1024],
-    names: &[u32; 1024],
-    contexts: &[u16; 1024],
-    values: &[i32; 1024],
+    links: &[u16; 28672],
+    values: &[i64; 1024],
     positions: &[u32; 1025],
     at: Place,
     j: usize,
 ) -> Outcome
-    requires { ⌜ Sound (slots (now frames) (now starts) count (now forms) (now carry) (now owners) (now offsets)) × Low (now positions) count × (at .0 < count) ⌝ }
-    requires { ⌜ (kindOf (slotAt (slots (now frames) (now starts) count (now forms) (now carry) (now owners) (now offsets)) (at .0)) ≡ 1) × (j < length (operandsAt (getD (now forms) (at .0) 0))) ⌝ }
-    ensures { λ r. ⌜ r ≡ worthIn (entriesOf (now (names .entry)) (now (contexts .entry)) (now (values .entry)) count) (now (positions .entry)) (getD (now (contexts .entry)) (at .0) 0) (operandAt (slots (now (frames .entry)) (now (starts .entry)) count (now (forms .entry)) (now (carry .entry)) (now (owners .entry)) (now (offsets .entry))) (at .0) j) ⌝ }
+    requires { let d : Tables = tables (now frames) (now starts) count (now forms) (now carry) (now owners) (now offsets)
+        (now links) (now values) (now positions) in
+        ⌜ Ready d × (at .0 < count) × (kindOf (slotAt (d .slots) (at .0)) ≡ 1) × (j < length (operandsAt (getD (now forms) (at .0) 0))) ⌝ }
+    ensures { λ r. let d : Tables = tables (now (frames .entry)) (now (starts .entry)) count (now (forms .entry)) (now (carry .entry))
+        (now (owners .entry)) (now (offsets .entry)) (now (links .entry)) (now (values .entry)) (now (positions .entry)) in
+        ⌜ r ≡ worthIn (d .entries) (d .positions) (getD (d .contexts) (at .0) 0) (operandAt (d .slots) (at .0) j) ⌝ }
 {
     let i = at.0;
     let form = forms[i];
@@ -138,14 +148,13 @@ pub fn argument_worth(
             count,
             owners,
             offsets,
-            names,
-            contexts,
+            links,
             values,
             positions,
             c,
-            contexts[i],
         );
     }
     let frame = frame_at(frames, starts, count, at);
-    own_worth(frame, at, j, names, contexts, values, count, contexts[i])
+    let beside = links_at(links, starts, at);
+    own_worth(frame, at, j, beside, values, count)
 }

@@ -11,6 +11,7 @@ use slots::frame_at;
 use slots::is_data;
 use slots::items_in;
 use slots::kind_at;
+use slots::links_at;
 use slots::size_at;
 ghost use mathlib.Core.Path.{_≡_};
 ghost use mathlib.Core.Bool.{true};
@@ -20,11 +21,12 @@ ghost use lib.IntN.{ℤ};
 ghost use lib.ListN.{length, getD, drop, replicate};
 ghost use Rattle.rules.specs.Answers.{ok, isOk};
 ghost use Rattle.rules.specs.Judging.{items};
-ghost use Rattle.expression.specs.Environment.{entriesOf};
+ghost use Rattle.rules.specs.Names.{Entry, keyOf, lookup};
+ghost use Rattle.expression.specs.Linked.{Linked};
 ghost use Rattle.encoding.specs.Encode.{bytesOfCode};
 ghost use Rattle.listing.specs.Tables.{Held};
 ghost use Rattle.slots.specs.Slots.{DataIn};
-ghost use Rattle.image.specs.Tables.{tables, Ready};
+ghost use Rattle.image.specs.Tables.{Tables, tables, Ready};
 ghost use Rattle.image.specs.Encoding.{encodeAt, encodeSlots, itemsIn, boundOf, writeOf};
 ghost use Rattle.image.specs.Image.{imageOf, put, widthOf, sizeOf};
 
@@ -44,7 +46,9 @@ pub fn image_length(
     positions: &[u32; 1025],
 ) -> usize
     requires { ⌜ Held (now frames) (now starts) count ⌝ }
-    ensures { λ r. ⌜ ((carry owners offsets names contexts : List ℕ) (values : List ℤ) → (let d = tables (now (frames .entry)) (now (starts .entry)) count (now (forms .entry)) carry owners offsets names contexts values (now (positions .entry)) in Ready d → isOk (encodeSlots d) ≡ true → r ≡ length (imageOf d))) ⌝ }
+    ensures { λ r. ⌜ ((carry owners offsets links : List ℕ) (values : List ℤ) →
+        (let d = tables (now (frames .entry)) (now (starts .entry)) count (now (forms .entry)) carry owners offsets links values
+        (now (positions .entry)) in Ready d → isOk (encodeSlots d) ≡ true → r ≡ length (imageOf d))) ⌝ }
 {
     let mut i = count;
     while 0 < i {
@@ -117,27 +121,29 @@ fn write_item(image: &mut [u8], q: usize, kind: u8, v: u16)
     image[q + 1] = second;
 }
 
-// The items of the data in a frame, from q on.
+// The items of the data in a frame, with the links beside it, from q on.
 fn write_items(
     frame: &[u8],
     at: Place,
-    names: &[u32; 1024],
-    contexts: &[u16; 1024],
-    values: &[i32; 1024],
+    links: &[u16],
+    values: &[i64; 1024],
     count: usize,
-    context: u16,
     q: usize,
     image: &mut [u8],
 )
-    requires { ⌜ DataIn (at .0) (now frame) × (count ≤ 1024) × (q + widthOf (getD (now frame) 0 0) * getD (now frame) 1 0 ≤ length (now image)) ⌝ }
-    ensures { λ r. ⌜ ((b : List ℕ) → items (entriesOf (now (names .entry)) (now (contexts .entry)) (now (values .entry)) count) (boundOf (getD (now (frame .entry)) 0 0)) (writeOf (getD (now (frame .entry)) 0 0)) (at .0) context 0 (itemsIn (at .0) (now (frame .entry))) ≡ ok b → now (image .exit) ≡ put (now (image .entry)) q b) ⌝ }
+    requires { ⌜ DataIn (at .0) (now frame) × (count ≤ 1024) × (length (now links) ≡ length (now frame))
+        × (q + widthOf (getD (now frame) 0 0) * getD (now frame) 1 0 ≤ length (now image)) ⌝ }
+    ensures { λ r. ⌜ ((names : List Entry) (k : ℕ)
+        → Linked (λ m. lookup names (keyOf k m)) (now (frame .entry)) (now (links .entry)) (now (values .entry)) count
+        → (b : List ℕ) → items names (boundOf (getD (now (frame .entry)) 0 0)) (writeOf (getD (now (frame .entry)) 0 0)) (at .0) k 0
+        (itemsIn (at .0) (now (frame .entry))) ≡ ok b → now (image .exit) ≡ put (now (image .entry)) q b) ⌝ }
 {
     let kind = frame[0];
     let width = item_width(kind);
     let n = items_in(frame);
     let mut j = 0;
     while j < n {
-        let Field::Is(v) = item_field(frame, at, j, names, contexts, values, count, context) else {
+        let Field::Is(v) = item_field(frame, at, j, links, values, count) else {
             return;
         };
         write_item(image, q + width * j, kind, v);
@@ -154,17 +160,19 @@ fn write_at(
     carry: &[u16; 1024],
     owners: &[u16; 1024],
     offsets: &[u16; 1024],
-    names: &[u32; 1024],
-    contexts: &[u16; 1024],
-    values: &[i32; 1024],
+    links: &[u16; 28672],
+    values: &[i64; 1024],
     positions: &[u32; 1025],
     at: Place,
     image: &mut [u8],
 )
     requires { ⌜ (let d = tables (now frames) (now starts) count (now forms) (now carry) (now owners) (now offsets)
-        (now names) (now contexts) (now values) (now positions) in
+        (now links) (now values) (now positions) in
         Ready d × (at .0 < count) × (0 < sizeOf d (at .0) → getD (now positions) (at .0) 0 + sizeOf d (at .0) ≤ length (now image))) ⌝ }
-    ensures { λ r. ⌜ ((b : List ℕ) → encodeAt (tables (now (frames .entry)) (now (starts .entry)) count (now (forms .entry)) (now (carry .entry)) (now (owners .entry)) (now (offsets .entry)) (now (names .entry)) (now (contexts .entry)) (now (values .entry)) (now (positions .entry))) (at .0) ≡ ok b → now (image .exit) ≡ put (now (image .entry)) (getD (now (positions .entry)) (at .0) 0) b) ⌝ }
+    ensures { λ r. let d : Tables = tables (now (frames .entry)) (now (starts .entry)) count (now (forms .entry)) (now (carry .entry))
+        (now (owners .entry)) (now (offsets .entry)) (now (links .entry)) (now (values .entry)) (now (positions .entry)) in
+        ⌜ ((b : List ℕ) → encodeAt d (at .0) ≡ ok b
+        → now (image .exit) ≡ put (now (image .entry)) (getD (now (positions .entry)) (at .0) 0) b) ⌝ }
 {
     let i = at.0;
     let q = address(positions[i]);
@@ -178,8 +186,7 @@ fn write_at(
             carry,
             owners,
             offsets,
-            names,
-            contexts,
+            links,
             values,
             positions,
             at,
@@ -191,17 +198,8 @@ fn write_at(
     }
     if is_data(kind) {
         let frame = frame_at(frames, starts, count, at);
-        write_items(
-            frame,
-            at,
-            names,
-            contexts,
-            values,
-            count,
-            contexts[i],
-            q,
-            image,
-        );
+        let beside = links_at(links, starts, at);
+        write_items(frame, at, beside, values, count, q, image);
         return;
     }
     let n = size_at(frames, starts, count, forms, at, Address(q));
@@ -217,14 +215,17 @@ pub fn write_image(
     carry: &[u16; 1024],
     owners: &[u16; 1024],
     offsets: &[u16; 1024],
-    names: &[u32; 1024],
-    contexts: &[u16; 1024],
-    values: &[i32; 1024],
+    links: &[u16; 28672],
+    values: &[i64; 1024],
     positions: &[u32; 1025],
     image: &mut [u8],
 )
-    requires { ⌜ Ready (tables (now frames) (now starts) count (now forms) (now carry) (now owners) (now offsets) (now names) (now contexts) (now values) (now positions)) × (isOk (encodeSlots (tables (now frames) (now starts) count (now forms) (now carry) (now owners) (now offsets) (now names) (now contexts) (now values) (now positions))) ≡ true) × (length (imageOf (tables (now frames) (now starts) count (now forms) (now carry) (now owners) (now offsets) (now names) (now contexts) (now values) (now positions))) ≤ length (now image)) ⌝ }
-    ensures { λ r. ⌜ (let bytes = imageOf (tables (now (frames .entry)) (now (starts .entry)) count (now (forms .entry)) (now (carry .entry)) (now (owners .entry)) (now (offsets .entry)) (now (names .entry)) (now (contexts .entry)) (now (values .entry)) (now (positions .entry))) in now (image .exit) ≡ bytes ++ drop (length bytes) (now (image .entry))) ⌝ }
+    requires { let d : Tables = tables (now frames) (now starts) count (now forms) (now carry) (now owners) (now offsets)
+        (now links) (now values) (now positions) in
+        ⌜ Ready d × (isOk (encodeSlots d) ≡ true) × (length (imageOf d) ≤ length (now image)) ⌝ }
+    ensures { λ r. let d : Tables = tables (now (frames .entry)) (now (starts .entry)) count (now (forms .entry)) (now (carry .entry))
+        (now (owners .entry)) (now (offsets .entry)) (now (links .entry)) (now (values .entry)) (now (positions .entry)) in
+        ⌜ (let bytes = imageOf d in now (image .exit) ≡ bytes ++ drop (length bytes) (now (image .entry))) ⌝ }
 {
     clear(
         image,
@@ -242,8 +243,7 @@ pub fn write_image(
             carry,
             owners,
             offsets,
-            names,
-            contexts,
+            links,
             values,
             positions,
             Place(i),

@@ -1,6 +1,5 @@
 -- Rewriting until no rewrite remains: the chain goes on from where it stands, and it is short, because each rewrite drops a byte.
 use mathlib.Core.Path.{_≡_, refl, sym, ap, ap₂, _∙_}
-use mathlib.Core.List.{List}
 use mathlib.Core.Option.{Option, none, some}
 use mathlib.Core.Bool.{Bool, true, false}
 use Prim.Native.Nat.{ℕ, zero, suc, _+_, _-_, _≤_, _<_}
@@ -39,7 +38,7 @@ bytes-bound (words es) = omega arith
 bytes-bound (pad add m) = omega arith
 
 -- at most 1,024 statements
-pub few-bytes : {contexts : List ℕ} (t : Slots) → Standing t contexts → total instrBytes (programOf t) ≤ 3072
+pub few-bytes : (t : Slots) → Standing t → total instrBytes (programOf t) ≤ 3072
 few-bytes t s = omega (arith, total-bound instrBytes 3 (programOf t) bytes-bound, length-program t, s .sound .held .few)
 
 -- ---- the chain
@@ -84,7 +83,7 @@ unfolding chain
 chain-end asked zero p e = refl
 chain-end asked (suc n) p e = chain-stop asked n p e
 
-module _ {asked : Settings} {contexts : List ℕ} (t₀ t u : Slots) (r : ℕ) {s : Bool} (h : Led asked (programOf t₀) (programOf t) r) (d : Tried (step asked (programOf t)) contexts t u s) where
+module _ {asked : Settings} (t₀ t u : Slots) (r : ℕ) {s : Bool} (h : Led asked (programOf t₀) (programOf t) r) (d : Tried (step asked (programOf t)) t u s) where
   pub record Went : Type 0 where
     pub less : total instrBytes (programOf u) < total instrBytes (programOf t)
     pub led : Led asked (programOf t₀) (programOf u) (r + 1)
@@ -96,7 +95,7 @@ module _ {asked : Settings} {contexts : List ℕ} (t₀ t u : Slots) (r : ℕ) {
       let rewritten : step asked p ≡ some q = said-some (step asked p) p (sym (d .says) ∙ e) ∙ ap some (sym (d .leaves)) in
       record { less = step-shorter asked p q rewritten; led = led-more asked (programOf t₀) p q r h rewritten }
 
-  pub stopped : Standing t₀ contexts → s ≡ false → Optimized asked t₀ u contexts r
+  pub stopped : Standing t₀ → s ≡ false → Optimized asked t₀ u r
   stopped start e =
       let p = programOf t in
       let stays = tried-missed (step asked p) d e in

@@ -19,64 +19,63 @@ pub same-slots : (frames starts : List ℕ) (n : ℕ) (owners offsets : List ℕ
     → slots frames starts n f c owners offsets ≡ slots frames starts n g d owners offsets
 same-slots frames starts n owners offsets e h = ap₂ (λ (x y : List ℕ). slots frames starts n x y owners offsets) e h
 
-module _ {contexts : List ℕ} where
-  -- the same program under another name
-  pub tried-as : (x y : Option Program) {t u : Slots} {r : Bool} → x ≡ y → Tried x contexts t u r → Tried y contexts t u r
-  tried-as x y {t} {u} {r} e h = subst (λ (z : Option Program). Tried z contexts t u r) e h
+-- the same program under another name
+pub tried-as : (x y : Option Program) {t u : Slots} {r : Bool} → x ≡ y → Tried x t u r → Tried y t u r
+tried-as x y {t} {u} {r} e h = subst (λ (z : Option Program). Tried z t u r) e h
 
-  -- nothing is tried
-  pub tried-none : (x : Option Program) {t : Slots} → x ≡ none → Standing t contexts → Tried x contexts t t false
-  tried-none x {t} e s =
-      record {
-        says = sym (ap isSome e);
-        leaves = sym (ap (λ (o : Option Program). getOr o (programOf t)) e);
-        forms-kept = λ z. refl;
-        carry-kept = λ z. refl;
-        stands = s;
-      }
+-- nothing is tried
+pub tried-none : (x : Option Program) {t : Slots} → x ≡ none → Standing t → Tried x t t false
+tried-none x {t} e s =
+    record {
+      says = sym (ap isSome e);
+      leaves = sym (ap (λ (o : Option Program). getOr o (programOf t)) e);
+      forms-kept = λ z. refl;
+      carry-kept = λ z. refl;
+      stands = s;
+    }
 
-  -- what counts is what another name stands for
-  pub tried-found : (x y : Option Program) {t t₀ u : Slots} {r : Bool} → Tried x contexts t u r → r ≡ true → ((q : Program) → x ≡ some q → y ≡ some q)
-      → Tried y contexts t₀ u true
-  tried-found none y h e f = true-false (sym e ∙ h .says)
-  tried-found (some q) y {t} {t₀} h e f =
-      let w = f q refl in
-      record {
-        says = sym (ap isSome w);
-        leaves = h .leaves ∙ sym (ap (λ (o : Option Program). getOr o (programOf t₀)) w);
-        forms-kept = λ z. true-false z;
-        carry-kept = λ z. true-false z;
-        stands = h .stands;
-      }
+-- what counts is what another name stands for
+pub tried-found : (x y : Option Program) {t t₀ u : Slots} {r : Bool} → Tried x t u r → r ≡ true → ((q : Program) → x ≡ some q → y ≡ some q)
+    → Tried y t₀ u true
+tried-found none y h e f = true-false (sym e ∙ h .says)
+tried-found (some q) y {t} {t₀} h e f =
+    let w = f q refl in
+    record {
+      says = sym (ap isSome w);
+      leaves = h .leaves ∙ sym (ap (λ (o : Option Program). getOr o (programOf t₀)) w);
+      forms-kept = λ z. true-false z;
+      carry-kept = λ z. true-false z;
+      stands = h .stands;
+    }
 
-  pub tried-missed : (x : Option Program) {t u : Slots} {r : Bool} → Tried x contexts t u r → r ≡ false → x ≡ none
-  tried-missed x h e = said-none x (sym (h .says) ∙ e)
+pub tried-missed : (x : Option Program) {t u : Slots} {r : Bool} → Tried x t u r → r ≡ false → x ≡ none
+tried-missed x h e = said-none x (sym (h .says) ∙ e)
 
-  -- ---- the first of two
+-- ---- the first of two
 
-  pub tried-first : (x y : Option Program) {t u : Slots} {r : Bool} → Tried x contexts t u r → r ≡ true → Tried (orElse x y) contexts t u true
-  tried-first x y h e = tried-found x (orElse x y) h e (λ q d. orElse-first x y q d)
+pub tried-first : (x y : Option Program) {t u : Slots} {r : Bool} → Tried x t u r → r ≡ true → Tried (orElse x y) t u true
+tried-first x y h e = tried-found x (orElse x y) h e (λ q d. orElse-first x y q d)
 
-  -- the second, over tables that are what they were
-  pub tried-second : (x : Option Program) (F : Slots → Option Program) {t u v : Slots} {r : Bool} → x ≡ none → u ≡ t → Tried (F u) contexts u v r
-      → Tried (orElse x (F t)) contexts t v r
-  tried-second x F {t} {u} {v} {r} e same h =
-      tried-as (F t) (orElse x (F t)) (sym (orElse-second x (F t) e)) (subst (λ (s : Slots). Tried (F s) contexts s v r) same h)
+-- the second, over tables that are what they were
+pub tried-second : (x : Option Program) (F : Slots → Option Program) {t u v : Slots} {r : Bool} → x ≡ none → u ≡ t → Tried (F u) u v r
+    → Tried (orElse x (F t)) t v r
+tried-second x F {t} {u} {v} {r} e same h =
+    tried-as (F t) (orElse x (F t)) (sym (orElse-second x (F t) e)) (subst (λ (s : Slots). Tried (F s) s v r) same h)
 
-  -- ---- the first place of n: the search stands at i, and the tables are what they were
+-- ---- the first place of n: the search stands at i, and the tables are what they were
 
-  module _ (F : Slots → (i : Placeℕ) → Option Program) (n i : ℕ) {t₀ t : Slots} (same : t ≡ t₀)
-      (left : firstFrom (F t₀) n 0 ≡ firstFrom (F t₀) (n - i) i) where
-    pub found : {u : Slots} {r : Bool} → i < n → Tried (F t i) contexts t u r → r ≡ true → Tried (firstFrom (F t₀) n 0) contexts t₀ u true
-    found l h e = tried-found (F t i) (firstFrom (F t₀) n 0) h e (λ q d. left ∙ first-hit (F t₀) n i q l (ap (λ (s : Slots). F s i) (sym same) ∙ d))
+module _ (F : Slots → (i : Placeℕ) → Option Program) (n i : ℕ) {t₀ t : Slots} (same : t ≡ t₀)
+    (left : firstFrom (F t₀) n 0 ≡ firstFrom (F t₀) (n - i) i) where
+  pub found : {u : Slots} {r : Bool} → i < n → Tried (F t i) t u r → r ≡ true → Tried (firstFrom (F t₀) n 0) t₀ u true
+  found l h e = tried-found (F t i) (firstFrom (F t₀) n 0) h e (λ q d. left ∙ first-hit (F t₀) n i q l (ap (λ (s : Slots). F s i) (sym same) ∙ d))
 
-    pub missed : {u : Slots} {r : Bool} → i < n → Tried (F t i) contexts t u r → r ≡ false → firstFrom (F t₀) n 0 ≡ firstFrom (F t₀) (n - (i + 1)) (i + 1)
-    missed l h e = left ∙ first-miss (F t₀) n i l (ap (λ (s : Slots). F s i) (sym same) ∙ tried-missed (F t i) h e)
+  pub missed : {u : Slots} {r : Bool} → i < n → Tried (F t i) t u r → r ≡ false → firstFrom (F t₀) n 0 ≡ firstFrom (F t₀) (n - (i + 1)) (i + 1)
+  missed l h e = left ∙ first-miss (F t₀) n i l (ap (λ (s : Slots). F s i) (sym same) ∙ tried-missed (F t i) h e)
 
-    pub ended : n ≤ i → Standing t₀ contexts → Tried (firstFrom (F t₀) n 0) contexts t₀ t false
-    ended l s =
-        subst (λ (z : Slots). Tried (firstFrom (F t₀) n 0) contexts t₀ z false) (sym same)
-        (tried-none (firstFrom (F t₀) n 0) (left ∙ first-end (F t₀) n i l) s)
+  pub ended : n ≤ i → Standing t₀ → Tried (firstFrom (F t₀) n 0) t₀ t false
+  ended l s =
+      subst (λ (z : Slots). Tried (firstFrom (F t₀) n 0) t₀ z false) (sym same)
+      (tried-none (firstFrom (F t₀) n 0) (left ∙ first-end (F t₀) n i l) s)
 
 -- anywhere in the program that the tables hold
 pub anywhere-is : (f : Placeℕ → Option Program) (t : Slots) → firstFrom f (t .count) 0 ≡ anywhere f (programOf t)
@@ -84,8 +83,8 @@ unfolding anywhere
 anywhere-is f t = sym (ap (λ (n : ℕ). firstFrom f n 0) (length-program t))
 
 -- the same tables stand
-pub still-stands : {contexts : List ℕ} {t₀ t : Slots} → t ≡ t₀ → Standing t₀ contexts → Standing t contexts
-still-stands {contexts} same s = subst (λ (z : Slots). Standing z contexts) (sym same) s
+pub still-stands : {t₀ t : Slots} → t ≡ t₀ → Standing t₀ → Standing t
+still-stands same s = subst (λ (z : Slots). Standing z) (sym same) s
 
 -- and their inner labels reach as deep
 pub still-deep : {deepest : List ℕ} {t₀ t : Slots} → t ≡ t₀ → Deepest t₀ deepest → Deepest t deepest

@@ -6,7 +6,8 @@ ghost use mathlib.Core.Path.{_≡_};
 ghost use mathlib.Core.Bool.{true};
 ghost use Rattle.rules.specs.Judging.{assembles};
 ghost use Rattle.rules.specs.Rewriting.{step};
-ghost use Rattle.slots.specs.Slots.{slots, programOf};
+ghost use Rattle.slots.specs.Slots.{Slots, slots, programOf};
+ghost use Rattle.slots.specs.Links.{Beside};
 ghost use Rattle.attempts.specs.Standing.{Standing, Tried};
 ghost use Rattle.optimize.specs.Optimized.{Optimized};
 
@@ -20,10 +21,15 @@ fn rewrite(
     carry: &mut [u16; 1024],
     owners: &[u16; 1024],
     offsets: &[u16; 1024],
-    contexts: &[u16; 1024],
+    links: &[u16; 28672],
 ) -> bool
-    requires { ⌜ Standing (slots (now frames) (now starts) count (now forms) (now carry) (now owners) (now offsets)) (now contexts) × (assembles (programOf (slots (now frames) (now starts) count (now forms) (now carry) (now owners) (now offsets))) ≡ true) ⌝ }
-    ensures { λ r. ⌜ Tried (step asked (programOf (slots (now (frames .entry)) (now (starts .entry)) count (now (forms .entry)) (now (carry .entry)) (now (owners .entry)) (now (offsets .entry))))) (now (contexts .entry)) (slots (now (frames .entry)) (now (starts .entry)) count (now (forms .entry)) (now (carry .entry)) (now (owners .entry)) (now (offsets .entry))) (slots (now (frames .entry)) (now (starts .entry)) count (now (forms .exit)) (now (carry .exit)) (now (owners .entry)) (now (offsets .entry))) r ⌝ }
+    requires { let t : Slots = slots (now frames) (now starts) count (now forms) (now carry) (now owners) (now offsets) in
+        ⌜ Standing t × (assembles (programOf t) ≡ true) × Beside (now frames) (now starts) count (now links) ⌝ }
+    ensures { λ r. let t : Slots = slots (now (frames .entry)) (now (starts .entry)) count (now (forms .entry)) (now (carry .entry))
+        (now (owners .entry)) (now (offsets .entry)) in
+        let u : Slots = slots (now (frames .entry)) (now (starts .entry)) count (now (forms .exit)) (now (carry .exit))
+        (now (owners .entry)) (now (offsets .entry)) in
+        ⌜ Tried (step asked (programOf t)) t u r ⌝ }
 {
     if fold_asked(
         asked,
@@ -34,7 +40,7 @@ fn rewrite(
         carry,
         owners,
         offsets,
-        contexts,
+        links,
     ) {
         return true;
     }
@@ -47,7 +53,7 @@ fn rewrite(
         carry,
         owners,
         offsets,
-        contexts,
+        links,
     )
 }
 
@@ -61,10 +67,15 @@ pub fn optimize(
     carry: &mut [u16; 1024],
     owners: &[u16; 1024],
     offsets: &[u16; 1024],
-    contexts: &[u16; 1024],
+    links: &[u16; 28672],
 ) -> usize
-    requires { ⌜ Standing (slots (now frames) (now starts) count (now forms) (now carry) (now owners) (now offsets)) (now contexts) × (assembles (programOf (slots (now frames) (now starts) count (now forms) (now carry) (now owners) (now offsets))) ≡ true) ⌝ }
-    ensures { λ r. ⌜ Optimized asked (slots (now (frames .entry)) (now (starts .entry)) count (now (forms .entry)) (now (carry .entry)) (now (owners .entry)) (now (offsets .entry))) (slots (now (frames .entry)) (now (starts .entry)) count (now (forms .exit)) (now (carry .exit)) (now (owners .entry)) (now (offsets .entry))) (now (contexts .entry)) r ⌝ }
+    requires { let t : Slots = slots (now frames) (now starts) count (now forms) (now carry) (now owners) (now offsets) in
+        ⌜ Standing t × (assembles (programOf t) ≡ true) × Beside (now frames) (now starts) count (now links) ⌝ }
+    ensures { λ r. let t : Slots = slots (now (frames .entry)) (now (starts .entry)) count (now (forms .entry)) (now (carry .entry))
+        (now (owners .entry)) (now (offsets .entry)) in
+        let u : Slots = slots (now (frames .entry)) (now (starts .entry)) count (now (forms .exit)) (now (carry .exit))
+        (now (owners .entry)) (now (offsets .entry)) in
+        ⌜ Optimized asked t u r ⌝ }
 {
     let mut rewrites = 0;
     loop {
@@ -77,7 +88,7 @@ pub fn optimize(
             carry,
             owners,
             offsets,
-            contexts,
+            links,
         ) {
             rewrites += 1;
         } else {

@@ -8,11 +8,12 @@ use rules::Settings;
 ghost use Prim.Native.Nat.{_<_};
 ghost use Rattle.laws.specs.Options.{firstOf};
 ghost use Rattle.rules.specs.Rewriting.{patterns, patternsFor, patternAt, anywhere};
-ghost use Rattle.slots.specs.Slots.{slots, programOf};
-ghost use Rattle.patterns.specs.Order.{patternAt as nth};
+ghost use Rattle.slots.specs.Slots.{Slots, slots, programOf};
+ghost use Rattle.slots.specs.Links.{Beside};
+ghost use Rattle.patterns.specs.Order.{patternOf, Known};
 ghost use Rattle.attempts.specs.Standing.{Standing, Tried};
 
-// Pattern k at a place.
+// A pattern at a place.
 fn try_pattern(
     frames: &[u8],
     starts: &[u16; 1025],
@@ -21,14 +22,19 @@ fn try_pattern(
     carry: &mut [u16; 1024],
     owners: &[u16; 1024],
     offsets: &[u16; 1024],
-    contexts: &[u16; 1024],
-    k: usize,
+    links: &[u16; 28672],
+    p: Pattern,
     at: Place,
 ) -> bool
-    requires { ⌜ Standing (slots (now frames) (now starts) count (now forms) (now carry) (now owners) (now offsets)) (now contexts) × (k < 23) × (at .0 < count) ⌝ }
-    ensures { λ r. ⌜ Tried (patternAt (programOf (slots (now (frames .entry)) (now (starts .entry)) count (now (forms .entry)) (now (carry .entry)) (now (owners .entry)) (now (offsets .entry)))) (nth k) (at .0)) (now (contexts .entry)) (slots (now (frames .entry)) (now (starts .entry)) count (now (forms .entry)) (now (carry .entry)) (now (owners .entry)) (now (offsets .entry))) (slots (now (frames .entry)) (now (starts .entry)) count (now (forms .exit)) (now (carry .exit)) (now (owners .entry)) (now (offsets .entry))) r ⌝ }
+    requires { let t : Slots = slots (now frames) (now starts) count (now forms) (now carry) (now owners) (now offsets) in
+        ⌜ Standing t × Known (patternOf p) × (at .0 < count) × Beside (now frames) (now starts) count (now links) ⌝ }
+    ensures { λ r. let t : Slots = slots (now (frames .entry)) (now (starts .entry)) count (now (forms .entry)) (now (carry .entry))
+        (now (owners .entry)) (now (offsets .entry)) in
+        let u : Slots = slots (now (frames .entry)) (now (starts .entry)) count (now (forms .exit)) (now (carry .exit))
+        (now (owners .entry)) (now (offsets .entry)) in
+        ⌜ Tried (patternAt (programOf t) (patternOf p) (at .0)) t u r ⌝ }
 {
-    match pattern(k) {
+    match p {
         Pattern::Inverted(from, to) => try_inverted(
             frames,
             starts,
@@ -37,7 +43,7 @@ fn try_pattern(
             carry,
             owners,
             offsets,
-            contexts,
+            links,
             from,
             to,
             at,
@@ -50,14 +56,14 @@ fn try_pattern(
             carry,
             owners,
             offsets,
-            contexts,
+            links,
             form,
             at,
         ),
     }
 }
 
-// Pattern k at the first place where it counts.
+// A pattern at the first place where it counts.
 fn fold_with(
     frames: &[u8],
     starts: &[u16; 1025],
@@ -66,11 +72,16 @@ fn fold_with(
     carry: &mut [u16; 1024],
     owners: &[u16; 1024],
     offsets: &[u16; 1024],
-    contexts: &[u16; 1024],
-    k: usize,
+    links: &[u16; 28672],
+    p: Pattern,
 ) -> bool
-    requires { ⌜ Standing (slots (now frames) (now starts) count (now forms) (now carry) (now owners) (now offsets)) (now contexts) × (k < 23) ⌝ }
-    ensures { λ r. ⌜ Tried (anywhere (patternAt (programOf (slots (now (frames .entry)) (now (starts .entry)) count (now (forms .entry)) (now (carry .entry)) (now (owners .entry)) (now (offsets .entry)))) (nth k)) (programOf (slots (now (frames .entry)) (now (starts .entry)) count (now (forms .entry)) (now (carry .entry)) (now (owners .entry)) (now (offsets .entry))))) (now (contexts .entry)) (slots (now (frames .entry)) (now (starts .entry)) count (now (forms .entry)) (now (carry .entry)) (now (owners .entry)) (now (offsets .entry))) (slots (now (frames .entry)) (now (starts .entry)) count (now (forms .exit)) (now (carry .exit)) (now (owners .entry)) (now (offsets .entry))) r ⌝ }
+    requires { let t : Slots = slots (now frames) (now starts) count (now forms) (now carry) (now owners) (now offsets) in
+        ⌜ Standing t × Known (patternOf p) × Beside (now frames) (now starts) count (now links) ⌝ }
+    ensures { λ r. let t : Slots = slots (now (frames .entry)) (now (starts .entry)) count (now (forms .entry)) (now (carry .entry))
+        (now (owners .entry)) (now (offsets .entry)) in
+        let u : Slots = slots (now (frames .entry)) (now (starts .entry)) count (now (forms .exit)) (now (carry .exit))
+        (now (owners .entry)) (now (offsets .entry)) in
+        ⌜ Tried (anywhere (patternAt (programOf t) (patternOf p)) (programOf t)) t u r ⌝ }
 {
     let mut i = 0;
     while i < count {
@@ -82,8 +93,8 @@ fn fold_with(
             carry,
             owners,
             offsets,
-            contexts,
-            k,
+            links,
+            p,
             Place(i),
         ) {
             return true;
@@ -102,10 +113,15 @@ fn fold(
     carry: &mut [u16; 1024],
     owners: &[u16; 1024],
     offsets: &[u16; 1024],
-    contexts: &[u16; 1024],
+    links: &[u16; 28672],
 ) -> bool
-    requires { ⌜ Standing (slots (now frames) (now starts) count (now forms) (now carry) (now owners) (now offsets)) (now contexts) ⌝ }
-    ensures { λ r. ⌜ Tried (firstOf (λ x. anywhere (patternAt (programOf (slots (now (frames .entry)) (now (starts .entry)) count (now (forms .entry)) (now (carry .entry)) (now (owners .entry)) (now (offsets .entry)))) x) (programOf (slots (now (frames .entry)) (now (starts .entry)) count (now (forms .entry)) (now (carry .entry)) (now (owners .entry)) (now (offsets .entry))))) patterns) (now (contexts .entry)) (slots (now (frames .entry)) (now (starts .entry)) count (now (forms .entry)) (now (carry .entry)) (now (owners .entry)) (now (offsets .entry))) (slots (now (frames .entry)) (now (starts .entry)) count (now (forms .exit)) (now (carry .exit)) (now (owners .entry)) (now (offsets .entry))) r ⌝ }
+    requires { let t : Slots = slots (now frames) (now starts) count (now forms) (now carry) (now owners) (now offsets) in
+        ⌜ Standing t × Beside (now frames) (now starts) count (now links) ⌝ }
+    ensures { λ r. let t : Slots = slots (now (frames .entry)) (now (starts .entry)) count (now (forms .entry)) (now (carry .entry))
+        (now (owners .entry)) (now (offsets .entry)) in
+        let u : Slots = slots (now (frames .entry)) (now (starts .entry)) count (now (forms .exit)) (now (carry .exit))
+        (now (owners .entry)) (now (offsets .entry)) in
+        ⌜ Tried (firstOf (λ x. anywhere (patternAt (programOf t) x) (programOf t)) patterns) t u r ⌝ }
 {
     let mut k = 0;
     while k < 23 {
@@ -117,8 +133,8 @@ fn fold(
             carry,
             owners,
             offsets,
-            contexts,
-            k,
+            links,
+            pattern(k),
         ) {
             return true;
         }
@@ -137,22 +153,18 @@ pub fn fold_asked(
     carry: &mut [u16; 1024],
     owners: &[u16; 1024],
     offsets: &[u16; 1024],
-    contexts: &[u16; 1024],
+    links: &[u16; 28672],
 ) -> bool
-    requires { ⌜ Standing (slots (now frames) (now starts) count (now forms) (now carry) (now owners) (now offsets)) (now contexts) ⌝ }
-    ensures { λ r. ⌜ Tried (firstOf (λ x. anywhere (patternAt (programOf (slots (now (frames .entry)) (now (starts .entry)) count (now (forms .entry)) (now (carry .entry)) (now (owners .entry)) (now (offsets .entry)))) x) (programOf (slots (now (frames .entry)) (now (starts .entry)) count (now (forms .entry)) (now (carry .entry)) (now (owners .entry)) (now (offsets .entry))))) (patternsFor asked)) (now (contexts .entry)) (slots (now (frames .entry)) (now (starts .entry)) count (now (forms .entry)) (now (carry .entry)) (now (owners .entry)) (now (offsets .entry))) (slots (now (frames .entry)) (now (starts .entry)) count (now (forms .exit)) (now (carry .exit)) (now (owners .entry)) (now (offsets .entry))) r ⌝ }
+    requires { let t : Slots = slots (now frames) (now starts) count (now forms) (now carry) (now owners) (now offsets) in
+        ⌜ Standing t × Beside (now frames) (now starts) count (now links) ⌝ }
+    ensures { λ r. let t : Slots = slots (now (frames .entry)) (now (starts .entry)) count (now (forms .entry)) (now (carry .entry))
+        (now (owners .entry)) (now (offsets .entry)) in
+        let u : Slots = slots (now (frames .entry)) (now (starts .entry)) count (now (forms .exit)) (now (carry .exit))
+        (now (owners .entry)) (now (offsets .entry)) in
+        ⌜ Tried (firstOf (λ x. anywhere (patternAt (programOf t) x) (programOf t)) (patternsFor asked)) t u r ⌝ }
 {
     if !asked.folds {
         return false;
     }
-    fold(
-        frames,
-        starts,
-        count,
-        forms,
-        carry,
-        owners,
-        offsets,
-        contexts,
-    )
+    fold(frames, starts, count, forms, carry, owners, offsets, links)
 }

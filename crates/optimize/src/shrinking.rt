@@ -1,6 +1,6 @@
 // Shrinks: "first place first: Jmpf not a change jump tries Br, then Jmp; Callf tries Call", if that is asked for.
 use anchors::is_change_jump;
-use asm::name_and_lay;
+use asm::lay_and_define;
 use attempts::fill_deepest;
 use attempts::try_form;
 use env::Checked;
@@ -21,8 +21,9 @@ ghost use Rattle.rules.specs.Forms.{jmpf, br, jmp};
 ghost use Rattle.rules.specs.Judging.{namesOf, assembles};
 ghost use Rattle.rules.specs.Rewriting.{shrinkAt, anywhere};
 ghost use Rattle.rules.specs.Programs.{kindOf};
-ghost use Rattle.slots.specs.Slots.{slots, slotAt, programOf};
-ghost use Rattle.image.specs.Tables.{tables, Ready};
+ghost use Rattle.slots.specs.Slots.{Slots, slots, slotAt, programOf};
+ghost use Rattle.slots.specs.Links.{Beside};
+ghost use Rattle.image.specs.Tables.{Tables, tables, Ready};
 ghost use Rattle.attempts.specs.Standing.{Standing, Tried};
 ghost use Rattle.attempts.specs.Deepest.{Deepest};
 ghost use Rattle.attempts.specs.Shrinks.{shrunk};
@@ -36,12 +37,18 @@ fn try_br_then_jmp(
     carry: &[u16; 1024],
     owners: &[u16; 1024],
     offsets: &[u16; 1024],
-    contexts: &[u16; 1024],
+    links: &[u16; 28672],
     deepest: &[u32; 1024],
     at: Place,
 ) -> bool
-    requires { ⌜ Standing (slots (now frames) (now starts) count (now forms) (now carry) (now owners) (now offsets)) (now contexts) × Deepest (slots (now frames) (now starts) count (now forms) (now carry) (now owners) (now offsets)) (now deepest) × (at .0 < count) × (kindOf (slotAt (slots (now frames) (now starts) count (now forms) (now carry) (now owners) (now offsets)) (at .0)) ≡ 1) × (getD (now forms) (at .0) 0 ≡ jmpf) ⌝ }
-    ensures { λ r. ⌜ Tried (orElse (shrunk (slots (now (frames .entry)) (now (starts .entry)) count (now (forms .entry)) (now (carry .entry)) (now (owners .entry)) (now (offsets .entry))) (at .0) br) (shrunk (slots (now (frames .entry)) (now (starts .entry)) count (now (forms .entry)) (now (carry .entry)) (now (owners .entry)) (now (offsets .entry))) (at .0) jmp)) (now (contexts .entry)) (slots (now (frames .entry)) (now (starts .entry)) count (now (forms .entry)) (now (carry .entry)) (now (owners .entry)) (now (offsets .entry))) (slots (now (frames .entry)) (now (starts .entry)) count (now (forms .exit)) (now (carry .entry)) (now (owners .entry)) (now (offsets .entry))) r ⌝ }
+    requires { let t : Slots = slots (now frames) (now starts) count (now forms) (now carry) (now owners) (now offsets) in
+        ⌜ Standing t × Deepest t (now deepest) × (at .0 < count) × (kindOf (slotAt t (at .0)) ≡ 1) × (getD (now forms) (at .0) 0 ≡ jmpf)
+        × Beside (now frames) (now starts) count (now links) ⌝ }
+    ensures { λ r. let t : Slots = slots (now (frames .entry)) (now (starts .entry)) count (now (forms .entry)) (now (carry .entry))
+        (now (owners .entry)) (now (offsets .entry)) in
+        let u : Slots = slots (now (frames .entry)) (now (starts .entry)) count (now (forms .exit)) (now (carry .entry))
+        (now (owners .entry)) (now (offsets .entry)) in
+        ⌜ Tried (orElse (shrunk t (at .0) br) (shrunk t (at .0) jmp)) t u r ⌝ }
 {
     if try_form(
         frames,
@@ -51,7 +58,7 @@ fn try_br_then_jmp(
         carry,
         owners,
         offsets,
-        contexts,
+        links,
         deepest,
         BR,
         at,
@@ -66,7 +73,7 @@ fn try_br_then_jmp(
         carry,
         owners,
         offsets,
-        contexts,
+        links,
         deepest,
         JMP,
         at,
@@ -83,15 +90,22 @@ fn shrink_jump(
     carry: &[u16; 1024],
     owners: &[u16; 1024],
     offsets: &[u16; 1024],
-    names: &[u32; 1024],
-    contexts: &[u16; 1024],
-    values: &[i32; 1024],
+    links: &[u16; 28672],
+    values: &[i64; 1024],
     positions: &[u32; 1025],
     deepest: &[u32; 1024],
     at: Place,
 ) -> bool
-    requires { ⌜ Standing (slots (now frames) (now starts) count (now forms) (now carry) (now owners) (now offsets)) (now contexts) × Deepest (slots (now frames) (now starts) count (now forms) (now carry) (now owners) (now offsets)) (now deepest) × Ready (tables (now frames) (now starts) count (now forms) (now carry) (now owners) (now offsets) (now names) (now contexts) (now values) (now positions)) × ((tables (now frames) (now starts) count (now forms) (now carry) (now owners) (now offsets) (now names) (now contexts) (now values) (now positions)) .entries ≡ namesOf (programOf (slots (now frames) (now starts) count (now forms) (now carry) (now owners) (now offsets)))) × (at .0 < count) × (kindOf (slotAt (slots (now frames) (now starts) count (now forms) (now carry) (now owners) (now offsets)) (at .0)) ≡ 1) × (getD (now forms) (at .0) 0 ≡ jmpf) ⌝ }
-    ensures { λ r. ⌜ Tried (shrinkAt asked (namesOf (programOf (slots (now (frames .entry)) (now (starts .entry)) count (now (forms .entry)) (now (carry .entry)) (now (owners .entry)) (now (offsets .entry))))) (programOf (slots (now (frames .entry)) (now (starts .entry)) count (now (forms .entry)) (now (carry .entry)) (now (owners .entry)) (now (offsets .entry)))) (at .0)) (now (contexts .entry)) (slots (now (frames .entry)) (now (starts .entry)) count (now (forms .entry)) (now (carry .entry)) (now (owners .entry)) (now (offsets .entry))) (slots (now (frames .entry)) (now (starts .entry)) count (now (forms .exit)) (now (carry .entry)) (now (owners .entry)) (now (offsets .entry))) r ⌝ }
+    requires { let d : Tables = tables (now frames) (now starts) count (now forms) (now carry) (now owners) (now offsets)
+        (now links) (now values) (now positions) in
+        ⌜ Standing (d .slots) × Deepest (d .slots) (now deepest) × Ready d
+        × Beside (now frames) (now starts) count (now links) × (at .0 < count) × (kindOf (slotAt (d .slots) (at .0)) ≡ 1)
+        × (getD (now forms) (at .0) 0 ≡ jmpf) ⌝ }
+    ensures { λ r. let t : Slots = slots (now (frames .entry)) (now (starts .entry)) count (now (forms .entry)) (now (carry .entry))
+        (now (owners .entry)) (now (offsets .entry)) in
+        let u : Slots = slots (now (frames .entry)) (now (starts .entry)) count (now (forms .exit)) (now (carry .entry))
+        (now (owners .entry)) (now (offsets .entry)) in
+        ⌜ Tried (shrinkAt asked (namesOf (programOf t)) (programOf t) (at .0)) t u r ⌝ }
 {
     if is_change_jump(
         frames,
@@ -101,8 +115,7 @@ fn shrink_jump(
         carry,
         owners,
         offsets,
-        names,
-        contexts,
+        links,
         values,
         positions,
         at,
@@ -117,7 +130,7 @@ fn shrink_jump(
         carry,
         owners,
         offsets,
-        contexts,
+        links,
         deepest,
         at,
     )
@@ -133,15 +146,21 @@ fn shrink_at(
     carry: &[u16; 1024],
     owners: &[u16; 1024],
     offsets: &[u16; 1024],
-    names: &[u32; 1024],
-    contexts: &[u16; 1024],
-    values: &[i32; 1024],
+    links: &[u16; 28672],
+    values: &[i64; 1024],
     positions: &[u32; 1025],
     deepest: &[u32; 1024],
     at: Place,
 ) -> bool
-    requires { ⌜ Standing (slots (now frames) (now starts) count (now forms) (now carry) (now owners) (now offsets)) (now contexts) × Deepest (slots (now frames) (now starts) count (now forms) (now carry) (now owners) (now offsets)) (now deepest) × Ready (tables (now frames) (now starts) count (now forms) (now carry) (now owners) (now offsets) (now names) (now contexts) (now values) (now positions)) × ((tables (now frames) (now starts) count (now forms) (now carry) (now owners) (now offsets) (now names) (now contexts) (now values) (now positions)) .entries ≡ namesOf (programOf (slots (now frames) (now starts) count (now forms) (now carry) (now owners) (now offsets)))) × (at .0 < count) ⌝ }
-    ensures { λ r. ⌜ Tried (shrinkAt asked (namesOf (programOf (slots (now (frames .entry)) (now (starts .entry)) count (now (forms .entry)) (now (carry .entry)) (now (owners .entry)) (now (offsets .entry))))) (programOf (slots (now (frames .entry)) (now (starts .entry)) count (now (forms .entry)) (now (carry .entry)) (now (owners .entry)) (now (offsets .entry)))) (at .0)) (now (contexts .entry)) (slots (now (frames .entry)) (now (starts .entry)) count (now (forms .entry)) (now (carry .entry)) (now (owners .entry)) (now (offsets .entry))) (slots (now (frames .entry)) (now (starts .entry)) count (now (forms .exit)) (now (carry .entry)) (now (owners .entry)) (now (offsets .entry))) r ⌝ }
+    requires { let d : Tables = tables (now frames) (now starts) count (now forms) (now carry) (now owners) (now offsets)
+        (now links) (now values) (now positions) in
+        ⌜ Standing (d .slots) × Deepest (d .slots) (now deepest) × Ready d
+        × Beside (now frames) (now starts) count (now links) × (at .0 < count) ⌝ }
+    ensures { λ r. let t : Slots = slots (now (frames .entry)) (now (starts .entry)) count (now (forms .entry)) (now (carry .entry))
+        (now (owners .entry)) (now (offsets .entry)) in
+        let u : Slots = slots (now (frames .entry)) (now (starts .entry)) count (now (forms .exit)) (now (carry .entry))
+        (now (owners .entry)) (now (offsets .entry)) in
+        ⌜ Tried (shrinkAt asked (namesOf (programOf t)) (programOf t) (at .0)) t u r ⌝ }
 {
     if kind_at(frames, starts, count, forms, at) != 1 {
         return false;
@@ -158,8 +177,7 @@ fn shrink_at(
             carry,
             owners,
             offsets,
-            names,
-            contexts,
+            links,
             values,
             positions,
             deepest,
@@ -178,7 +196,7 @@ fn shrink_at(
             carry,
             owners,
             offsets,
-            contexts,
+            links,
             deepest,
             CALL,
             at,
@@ -197,14 +215,19 @@ fn shrink_first(
     carry: &[u16; 1024],
     owners: &[u16; 1024],
     offsets: &[u16; 1024],
-    names: &[u32; 1024],
-    contexts: &[u16; 1024],
-    values: &[i32; 1024],
+    links: &[u16; 28672],
+    values: &[i64; 1024],
     positions: &[u32; 1025],
     deepest: &[u32; 1024],
 ) -> bool
-    requires { ⌜ Standing (slots (now frames) (now starts) count (now forms) (now carry) (now owners) (now offsets)) (now contexts) × Deepest (slots (now frames) (now starts) count (now forms) (now carry) (now owners) (now offsets)) (now deepest) × Ready (tables (now frames) (now starts) count (now forms) (now carry) (now owners) (now offsets) (now names) (now contexts) (now values) (now positions)) × ((tables (now frames) (now starts) count (now forms) (now carry) (now owners) (now offsets) (now names) (now contexts) (now values) (now positions)) .entries ≡ namesOf (programOf (slots (now frames) (now starts) count (now forms) (now carry) (now owners) (now offsets)))) ⌝ }
-    ensures { λ r. ⌜ Tried (anywhere (shrinkAt asked (namesOf (programOf (slots (now (frames .entry)) (now (starts .entry)) count (now (forms .entry)) (now (carry .entry)) (now (owners .entry)) (now (offsets .entry))))) (programOf (slots (now (frames .entry)) (now (starts .entry)) count (now (forms .entry)) (now (carry .entry)) (now (owners .entry)) (now (offsets .entry))))) (programOf (slots (now (frames .entry)) (now (starts .entry)) count (now (forms .entry)) (now (carry .entry)) (now (owners .entry)) (now (offsets .entry))))) (now (contexts .entry)) (slots (now (frames .entry)) (now (starts .entry)) count (now (forms .entry)) (now (carry .entry)) (now (owners .entry)) (now (offsets .entry))) (slots (now (frames .entry)) (now (starts .entry)) count (now (forms .exit)) (now (carry .entry)) (now (owners .entry)) (now (offsets .entry))) r ⌝ }
+    requires { let d : Tables = tables (now frames) (now starts) count (now forms) (now carry) (now owners) (now offsets)
+        (now links) (now values) (now positions) in
+        ⌜ Standing (d .slots) × Deepest (d .slots) (now deepest) × Ready d × Beside (now frames) (now starts) count (now links) ⌝ }
+    ensures { λ r. let t : Slots = slots (now (frames .entry)) (now (starts .entry)) count (now (forms .entry)) (now (carry .entry))
+        (now (owners .entry)) (now (offsets .entry)) in
+        let u : Slots = slots (now (frames .entry)) (now (starts .entry)) count (now (forms .exit)) (now (carry .entry))
+        (now (owners .entry)) (now (offsets .entry)) in
+        ⌜ Tried (anywhere (shrinkAt asked (namesOf (programOf t)) (programOf t)) (programOf t)) t u r ⌝ }
 {
     let mut i = 0;
     while i < count {
@@ -217,8 +240,7 @@ fn shrink_first(
             carry,
             owners,
             offsets,
-            names,
-            contexts,
+            links,
             values,
             positions,
             deepest,
@@ -231,7 +253,7 @@ fn shrink_first(
     false
 }
 
-// The names of a program that assembles are found once, and how deep its inner labels reach: no shrink counts until one is done.
+// What the names of a program that assembles stand for is found once, and how deep its inner labels reach: no shrink counts until one is done.
 pub fn shrink(
     asked: Settings,
     frames: &[u8],
@@ -241,14 +263,18 @@ pub fn shrink(
     carry: &[u16; 1024],
     owners: &[u16; 1024],
     offsets: &[u16; 1024],
-    contexts: &[u16; 1024],
+    links: &[u16; 28672],
 ) -> bool
-    requires { ⌜ Standing (slots (now frames) (now starts) count (now forms) (now carry) (now owners) (now offsets)) (now contexts) × (assembles (programOf (slots (now frames) (now starts) count (now forms) (now carry) (now owners) (now offsets))) ≡ true) ⌝ }
-    ensures { λ r. ⌜ Tried (anywhere (shrinkAt asked (namesOf (programOf (slots (now (frames .entry)) (now (starts .entry)) count (now (forms .entry)) (now (carry .entry)) (now (owners .entry)) (now (offsets .entry))))) (programOf (slots (now (frames .entry)) (now (starts .entry)) count (now (forms .entry)) (now (carry .entry)) (now (owners .entry)) (now (offsets .entry))))) (programOf (slots (now (frames .entry)) (now (starts .entry)) count (now (forms .entry)) (now (carry .entry)) (now (owners .entry)) (now (offsets .entry))))) (now (contexts .entry)) (slots (now (frames .entry)) (now (starts .entry)) count (now (forms .entry)) (now (carry .entry)) (now (owners .entry)) (now (offsets .entry))) (slots (now (frames .entry)) (now (starts .entry)) count (now (forms .exit)) (now (carry .entry)) (now (owners .entry)) (now (offsets .entry))) r ⌝ }
+    requires { let t : Slots = slots (now frames) (now starts) count (now forms) (now carry) (now owners) (now offsets) in
+        ⌜ Standing t × (assembles (programOf t) ≡ true) × Beside (now frames) (now starts) count (now links) ⌝ }
+    ensures { λ r. let t : Slots = slots (now (frames .entry)) (now (starts .entry)) count (now (forms .entry)) (now (carry .entry))
+        (now (owners .entry)) (now (offsets .entry)) in
+        let u : Slots = slots (now (frames .entry)) (now (starts .entry)) count (now (forms .exit)) (now (carry .entry))
+        (now (owners .entry)) (now (offsets .entry)) in
+        ⌜ Tried (anywhere (shrinkAt asked (namesOf (programOf t)) (programOf t)) (programOf t)) t u r ⌝ }
 {
-    let mut names = [65536u32; 1024];
     let mut positions = [0u32; 1025];
-    let mut values = [0i32; 1024];
+    let mut values = [0i64; 1024];
     let mut deepest = [0u32; 1024];
     fill_deepest(
         frames,
@@ -260,13 +286,12 @@ pub fn shrink(
         offsets,
         &mut deepest,
     );
-    match name_and_lay(
+    match lay_and_define(
         frames,
         starts,
         count,
         forms,
-        contexts,
-        &mut names,
+        links,
         &mut positions,
         &mut values,
     ) {
@@ -280,8 +305,7 @@ pub fn shrink(
             carry,
             owners,
             offsets,
-            &names,
-            contexts,
+            links,
             &values,
             &positions,
             &deepest,

@@ -50,7 +50,8 @@ pub fn bits(v: i32) -> u32
 // 7E, the refusal's number, the place in two bytes, the argument's place in one and the signed number at fault in four: 19 characters.
 pub fn refused_line(number: u8, place: usize, argument: usize, amount: i32, out: &mut [u8])
     requires { ⌜ (place < 65536) × (argument < 256) × (19 ≤ length (now out)) ⌝ }
-    ensures { λ _. ⌜ now (out .exit) ≡ front (refusedLine (record { number = number; place = place; argument = argument; amount = amount })) (now (out .entry)) ⌝ }
+    ensures { λ _. ⌜ now (out .exit)
+        ≡ front (refusedLine (record { number = number; place = place; argument = argument; amount = amount })) (now (out .entry)) ⌝ }
 {
     let at = place as u32;
     let of = argument as u32;

@@ -67,7 +67,8 @@ fn instruction_length(
     at: Place,
 ) -> usize
     requires { ⌜ Drawn (now frames) (now starts) count (now forms) (now carry) (at .0) ⌝ }
-    ensures { λ r. ⌜ (r ≤ 57344) × InstrHas (now (frames .entry)) (now (starts .entry)) count (now (forms .entry)) (now (carry .entry)) (now (owners .entry)) (at .0) r ⌝ }
+    ensures { λ r. ⌜ (r ≤ 57344) × InstrHas (now (frames .entry)) (now (starts .entry)) count (now (forms .entry))
+        (now (carry .entry)) (now (owners .entry)) (at .0) r ⌝ }
 {
     let i = at.0;
     let frame = frame_at(frames, starts, count, at);
@@ -92,7 +93,8 @@ pub fn line_length_at(
     at: Place,
 ) -> usize
     requires { ⌜ SoundWithout (now frames) (now starts) count (now forms) (now carry) (now owners) × (at .0 < count) ⌝ }
-    ensures { λ r. ⌜ (r ≤ 114697) × LineHas (formOf marked) (now (frames .entry)) (now (starts .entry)) count (now (forms .entry)) (now (carry .entry)) (now (owners .entry)) (at .0) r ⌝ }
+    ensures { λ r. ⌜ (r ≤ 114697) × LineHas (formOf marked) (now (frames .entry)) (now (starts .entry)) count (now (forms .entry))
+        (now (carry .entry)) (now (owners .entry)) (at .0) r ⌝ }
 {
     let kind = kind_at(frames, starts, count, forms, at);
     if kind == 0 {
@@ -127,7 +129,8 @@ pub fn text_length(
     owners: &[u16; 1024],
 ) -> usize
     requires { ⌜ SoundWithout (now frames) (now starts) count (now forms) (now carry) (now owners) ⌝ }
-    ensures { λ r. ⌜ TextHas (formOf marked) (now (frames .entry)) (now (starts .entry)) count (now (forms .entry)) (now (carry .entry)) (now (owners .entry)) r ⌝ }
+    ensures { λ r. ⌜ TextHas (formOf marked) (now (frames .entry)) (now (starts .entry)) count (now (forms .entry))
+        (now (carry .entry)) (now (owners .entry)) r ⌝ }
 {
     let mut n = mark_length(marked);
     let mut i = 0;

@@ -8,8 +8,8 @@ ghost use mathlib.Core.List.{List};
 ghost use Prim.Native.Nat.{ℕ};
 ghost use lib.ListN.{length};
 ghost use Rattle.listing.specs.Tables.{Held};
-ghost use Rattle.slots.specs.Slots.{slots, Sound};
-ghost use Rattle.output.specs.Showing.{shownForm, Shown};
+ghost use Rattle.slots.specs.Slots.{Slots, slots, Sound};
+ghost use Rattle.output.specs.Showing.{shownForm, formed, Shown};
 
 // A comment's frame begins with this byte.
 const COMMENT: u8 = 4;
@@ -40,7 +40,9 @@ pub fn show(
 )
     requires { ⌜ Held (now frames) (now starts) count × (length (now forms) ≡ 1024) ⌝ }
     ensures room { λ _. ⌜ length (now (forms .exit)) ≡ 1024 ⌝ }
-    ensures shows { λ _. ⌜ ((carry owners offsets : List ℕ) → Sound (slots (now (frames .entry)) (now (starts .entry)) count (now (forms .entry)) carry owners offsets) → Shown asked (slots (now (frames .entry)) (now (starts .entry)) count (now (forms .entry)) carry owners offsets) (slots (now (frames .entry)) (now (starts .entry)) count (now (forms .exit)) carry owners offsets)) ⌝ }
+    ensures shows { λ _. ⌜ ((carry owners offsets : List ℕ) →
+        (let t : Slots = slots (now (frames .entry)) (now (starts .entry)) count (now (forms .entry)) carry owners offsets in
+        Sound t → Shown asked t (formed t (now (forms .exit))))) ⌝ }
 {
     let mut i = 0;
     while i < count {

@@ -13,8 +13,8 @@ use slots::frame_at;
 use slots::kind_at;
 ghost use mathlib.Core.Path.{_≡_};
 ghost use mathlib.Core.Bool.{true};
-ghost use mathlib.Core.List.{_∷_, []};
-ghost use Prim.Native.Nat.{_+_, _*_, _<_, _≤_};
+ghost use mathlib.Core.List.{List, _∷_, []};
+ghost use Prim.Native.Nat.{ℕ, _+_, _*_, _<_, _≤_};
 ghost use lib.ListN.{length, getD};
 ghost use Rattle.rules.specs.Expressions.{four};
 ghost use Rattle.rules.specs.Forms.{isTransfer};
@@ -23,9 +23,10 @@ ghost use Rattle.rules.specs.Output.{markOf};
 ghost use Rattle.rules.specs.Run.{front};
 ghost use Rattle.listing.specs.Form.{formOf};
 ghost use Rattle.listing.specs.Tables.{Held};
-ghost use Rattle.slots.specs.Slots.{slots, InstrIn, Sound};
+ghost use Rattle.slots.specs.Slots.{Slots, slots, InstrIn, Sound};
 ghost use Rattle.output.specs.Digits.{hexOf, laid, Put};
-ghost use Rattle.output.specs.Lines.{lineAt, listingOf, besideIn, sourced, ownEnd, ownBytes, targetBytes, instrBytes, bytesAt, InstrAt, Drawn, NumberLow, Positioned};
+ghost use Rattle.output.specs.Lines.{lineAt, listingOf, besideIn, sourced, ownEnd, ownBytes, targetBytes, instrBytes, bytesAt};
+ghost use Rattle.output.specs.Lines.{InstrAt, Drawn, NumberLow, Positioned};
 
 // A byte, and the four bytes of a number behind it, high byte first.
 fn put_five(out: &mut [u8], at: usize, first: u8, n: u32)
@@ -79,9 +80,12 @@ fn put_target(
     out: &mut [u8],
     at: usize,
 ) -> usize
-    requires { ⌜ Held (now frames) (now starts) count × InstrAt (now frames) (now starts) count (from .0) × NumberLow (now owners) (now positions) (from .0)
-        × (at + 2 * length (targetBytes (now frames) (now starts) (now owners) (now offsets) (now positions) (from .0)) ≤ length (now out)) ⌝ }
-    ensures { λ r. ⌜ Put (now (out .entry)) at (targetBytes (now (frames .entry)) (now (starts .entry)) (now (owners .entry)) (now (offsets .entry)) (now (positions .entry)) (from .0)) (now (out .exit)) r ⌝ }
+    requires { let target : List ℕ = targetBytes (now frames) (now starts) (now owners) (now offsets) (now positions) (from .0) in
+        ⌜ Held (now frames) (now starts) count × InstrAt (now frames) (now starts) count (from .0)
+        × NumberLow (now owners) (now positions) (from .0) × (at + 2 * length target ≤ length (now out)) ⌝ }
+    ensures { λ r. let target : List ℕ = targetBytes (now (frames .entry)) (now (starts .entry)) (now (owners .entry))
+        (now (offsets .entry)) (now (positions .entry)) (from .0) in
+        ⌜ Put (now (out .entry)) at target (now (out .exit)) r ⌝ }
 {
     let c = from.0;
     let owner = owners[c];
@@ -122,9 +126,13 @@ fn put_instruction(
     out: &mut [u8],
     at: usize,
 ) -> usize
-    requires { ⌜ Drawn (now frames) (now starts) count (now forms) (now carry) (place .0) × (isTransfer (getD (now forms) (place .0) 0) ≡ true → NumberLow (now owners) (now positions) (getD (now carry) (place .0) 0))
-        × (at + 2 * length (instrBytes (slots (now frames) (now starts) count (now forms) (now carry) (now owners) (now offsets)) (now positions) (place .0)) ≤ length (now out)) ⌝ }
-    ensures { λ r. ⌜ Put (now (out .entry)) at (instrBytes (slots (now (frames .entry)) (now (starts .entry)) count (now (forms .entry)) (now (carry .entry)) (now (owners .entry)) (now (offsets .entry))) (now (positions .entry)) (place .0)) (now (out .exit)) r ⌝ }
+    requires { let t : Slots = slots (now frames) (now starts) count (now forms) (now carry) (now owners) (now offsets) in
+        ⌜ Drawn (now frames) (now starts) count (now forms) (now carry) (place .0)
+        × (isTransfer (getD (now forms) (place .0) 0) ≡ true → NumberLow (now owners) (now positions) (getD (now carry) (place .0) 0))
+        × (at + 2 * length (instrBytes t (now positions) (place .0)) ≤ length (now out)) ⌝ }
+    ensures { λ r. let t : Slots = slots (now (frames .entry)) (now (starts .entry)) count (now (forms .entry)) (now (carry .entry))
+        (now (owners .entry)) (now (offsets .entry)) in
+        ⌜ Put (now (out .entry)) at (instrBytes t (now (positions .entry)) (place .0)) (now (out .exit)) r ⌝ }
 {
     let i = place.0;
     let form = forms[i];
@@ -161,9 +169,12 @@ fn put_statement(
     out: &mut [u8],
     at: usize,
 ) -> usize
-    requires { ⌜ Sound (slots (now frames) (now starts) count (now forms) (now carry) (now owners) (now offsets)) × Positioned (slots (now frames) (now starts) count (now forms) (now carry) (now owners) (now offsets)) (now positions) × (place .0 < count)
-        × (at + 2 * length (bytesAt (slots (now frames) (now starts) count (now forms) (now carry) (now owners) (now offsets)) (now positions) (place .0)) ≤ length (now out)) ⌝ }
-    ensures { λ r. ⌜ Put (now (out .entry)) at (bytesAt (slots (now (frames .entry)) (now (starts .entry)) count (now (forms .entry)) (now (carry .entry)) (now (owners .entry)) (now (offsets .entry))) (now (positions .entry)) (place .0)) (now (out .exit)) r ⌝ }
+    requires { let t : Slots = slots (now frames) (now starts) count (now forms) (now carry) (now owners) (now offsets) in
+        ⌜ Sound t × Positioned t (now positions) × (place .0 < count)
+        × (at + 2 * length (bytesAt t (now positions) (place .0)) ≤ length (now out)) ⌝ }
+    ensures { λ r. let t : Slots = slots (now (frames .entry)) (now (starts .entry)) count (now (forms .entry)) (now (carry .entry))
+        (now (owners .entry)) (now (offsets .entry)) in
+        ⌜ Put (now (out .entry)) at (bytesAt t (now (positions .entry)) (place .0)) (now (out .exit)) r ⌝ }
 {
     let kind = kind_at(frames, starts, count, forms, place);
     if kind == 1 {
@@ -210,13 +221,13 @@ fn put_line(
     out: &mut [u8],
     at: usize,
 ) -> usize
-    requires { ⌜ Sound (slots (now frames) (now starts) count (now forms) (now carry) (now owners) (now offsets)) × Positioned (slots (now frames) (now starts) count (now forms) (now carry) (now owners) (now offsets)) (now positions) × (place .0 < count)
-        × (at + length (lineAt (formOf marked) (now lines)
-        (slots (now frames) (now starts) count (now forms) (now carry) (now owners) (now offsets)) (place .0)) ≤ length (now out)) ⌝ }
-    ensures { λ r. ⌜ (now (out .exit) ≡ laid (now (out .entry)) at (lineAt (formOf marked) (now (lines .entry))
-        (slots (now (frames .entry)) (now (starts .entry)) count (now (forms .entry)) (now (carry .entry)) (now (owners .entry)) (now (offsets .entry))) (place .0)))
-        × (r ≡ at + length (lineAt (formOf marked) (now (lines .entry))
-        (slots (now (frames .entry)) (now (starts .entry)) count (now (forms .entry)) (now (carry .entry)) (now (owners .entry)) (now (offsets .entry))) (place .0))) ⌝ }
+    requires { let t : Slots = slots (now frames) (now starts) count (now forms) (now carry) (now owners) (now offsets) in
+        ⌜ Sound t × Positioned t (now positions) × (place .0 < count)
+        × (at + length (lineAt (formOf marked) (now lines) t (place .0)) ≤ length (now out)) ⌝ }
+    ensures { λ r. let t : Slots = slots (now (frames .entry)) (now (starts .entry)) count (now (forms .entry)) (now (carry .entry))
+        (now (owners .entry)) (now (offsets .entry)) in
+        ⌜ (now (out .exit) ≡ laid (now (out .entry)) at (lineAt (formOf marked) (now (lines .entry)) t (place .0)))
+        × (r ≡ at + length (lineAt (formOf marked) (now (lines .entry)) t (place .0))) ⌝ }
 {
     let i = place.0;
     if forms[i] == GONE {
@@ -269,9 +280,12 @@ pub fn write_text(
     positions: &[u32; 1025],
     out: &mut [u8],
 )
-    requires { ⌜ Sound (slots (now frames) (now starts) count (now forms) (now carry) (now owners) (now offsets)) × Positioned (slots (now frames) (now starts) count (now forms) (now carry) (now owners) (now offsets)) (now positions)
-        × (length (listingOf (besideIn marked (now lines) count) (slots (now frames) (now starts) count (now forms) (now carry) (now owners) (now offsets))) ≤ length (now out)) ⌝ }
-    ensures { λ _. ⌜ now (out .exit) ≡ front (listingOf (besideIn marked (now (lines .entry)) count) (slots (now (frames .entry)) (now (starts .entry)) count (now (forms .entry)) (now (carry .entry)) (now (owners .entry)) (now (offsets .entry)))) (now (out .entry)) ⌝ }
+    requires { let t : Slots = slots (now frames) (now starts) count (now forms) (now carry) (now owners) (now offsets) in
+        ⌜ Sound t × Positioned t (now positions)
+        × (length (listingOf (besideIn marked (now lines) count) t) ≤ length (now out)) ⌝ }
+    ensures { λ _. let t : Slots = slots (now (frames .entry)) (now (starts .entry)) count (now (forms .entry)) (now (carry .entry))
+        (now (owners .entry)) (now (offsets .entry)) in
+        ⌜ now (out .exit) ≡ front (listingOf (besideIn marked (now (lines .entry)) count) t) (now (out .entry)) ⌝ }
 {
     let first = put_mark(marked, out);
     let mut at = first;

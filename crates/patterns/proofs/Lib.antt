@@ -5,3 +5,5 @@ pub mod InnerLabels
 pub mod Mentions
 pub mod Folds
 pub mod Order
+pub mod Naming
+pub mod Contexts

@@ -1,25 +1,25 @@
--- How often a name is referred to: no more often than an expression has bytes, by operand, by item, and by statement.
-use mathlib.Core.Path.{_≡_, refl, sym, ap, ap₂, _∙_}
+-- How often a name is referred to: by operand, by item, and by statement, for any number that is summed over expressions.
+use mathlib.Core.Path.{_≡_, refl, sym, ap, _∙_}
 use mathlib.Core.List.{List, [], _∷_}
-use mathlib.Core.Bool.{Bool, true, false, cond}
-use Prim.Native.Nat.{ℕ, zero, suc, _+_, _-_, _≤_, _<_}
+use mathlib.Core.Bool.{Bool, true, false, _&&_, cond}
+use Prim.Native.Nat.{ℕ, suc, _+_, _-_, _≤_, _<_}
 use native.Mathlib.Omega.{arith}
 use lib.Dec.{eqb}
+use lib.IntN.{pos}
 use lib.ListN.{length, getD, drop, take}
 use lib.Seq.{take-length}
 use Rattle.laws.specs.Counts.{sumTo}
 use Rattle.laws.specs.Lists.{total}
-use Rattle.laws.proofs.Tests.{false-true, true-false, cond-le}
+use Rattle.laws.proofs.Tests.{false-true, true-false}
+use Rattle.laws.proofs.Lists.{total-none}
 use Rattle.laws.proofs.Counts.{total-by, sum-ext}
 use Rattle.rules.specs.declared.Kind.{Kind}
 use Rattle.rules.specs.declared.Kind.the-variants.{Reg, I8, D9, Bit, Rel8, A12, A16, Rel16}
-use Rattle.rules.specs.declared.Tag.{Tag}
-use Rattle.rules.specs.declared.Tag.the-variants.{Number, Name, Two, One, Bad}
-use Rattle.rules.specs.Expressions.{Expr, readExpr, parse, byTag, tagOf, mentions, nameOf}
+use Rattle.rules.specs.Expressions.{Expr, num, name, two, one, mentions}
 use Rattle.rules.specs.Forms.{isTransfer, operandsAt}
 use Rattle.rules.specs.Listing.{readFrame}
 use Rattle.rules.specs.Names.{Placed, placed, contextAt}
-use Rattle.rules.specs.Programs.{Operand, register, Stmt, Program, gone, instr, label, variable, comment, org, bytes, words, pad, argsOf, onLast, inOperand, overExprs, at, kindOf}
+use Rattle.rules.specs.Programs.{Operand, register, value, inner, Stmt, Program, gone, instr, label, variable, comment, org, bytes, words, pad, argsOf, onLast, inOperand, overExprs, at, kindOf}
 use Rattle.rules.specs.Rewriting.{references}
 use Rattle.rules.specs.Statements.{argAt, argumentAt, exprAt, operandAt}
 use Rattle.rules.proofs.Laws.{length-placed, placed-at}
@@ -30,36 +30,9 @@ use Rattle.slots.proofs.Operands.{OperandRead, instr-in, operands-in}
 use Rattle.slots.proofs.Tables.{frame-is}
 use Rattle.slots.proofs.Slots.{kind-read, kind-kept, not-gone}
 use Rattle.slots.proofs.Items.{ItemsRead, items-read}
-use Rattle.expression.proofs.Trees.{Said, heard, step-said, number-said, name-said, bad-said, one-said, two-said}
 use Rattle.patterns.specs.Mentions.{times, readAs, itemsOf, VariableIn}
 use Rattle.patterns.proofs.Programs.{length-program, at-program}
 use Rattle.patterns.proofs.Instructions.{value-at, read-operands, own, own-some, args-own, args-aimed}
-
--- ---- an expression holds no more names than it has bytes
-
-module _ (f : ℕ → Bool) where
-  abbrev Few : (room : ℕ) → Expr → ℕ → Type 0
-  Few room e k = (mentions f e ≤ k) × (k ≤ room)
-
-  by-tag : (g room : ℕ) (s : List ℕ) → ((m : ℕ) (r : List ℕ) → Said (Few m) (parse g m r)) → 1 ≤ room → (t : Tag) → Said (Few room) (byTag t (parse g) room s)
-  unfolding mentions
-  by-tag g room s below l Number = number-said (Few room) (parse g) room s (λ h k. (omega arith, h))
-  by-tag g room s below l Name = name-said (Few room) (parse g) room s (λ h k. (cond-le (f (nameOf s)) 1 0 3 (omega arith) (omega arith), h))
-  by-tag g room s below l Bad = bad-said (Few room) (parse g) room s
-  by-tag g room s below l (One o) =
-      one-said (Few room) (parse g) room s o (Few (room - 1)) (below (room - 1) (drop 1 s)) (λ e n a. (omega (arith, a .0), omega (arith, a .1)))
-  by-tag g room s below l (Two o) =
-      two-said (Few room) (parse g) room s o (Few (room - 1)) (λ n. Few (room - (1 + n))) (below (room - 1) (drop 1 s))
-      (λ e n a. below (room - (1 + n)) (drop (1 + n) s)) (λ e d n m a b. (omega (arith, a .0, b .0), omega (arith, a .1, b .1)))
-
-  few-said : (g room : ℕ) (s : List ℕ) → Said (Few room) (parse g room s)
-  unfolding parse
-  few-said zero room s = tt
-  few-said (suc g) room s = step-said (Few room) g room s (λ h k. by-tag g room s (few-said g) h (tagOf (getD s 0 0)))
-
-pub times-few : (n : ℕ) (s : List ℕ) (e : Expr) → Reads s e → times n e ≤ 32
-unfolding readExpr
-times-few n s e r = let h = heard (Few (λ m. eqb m n) 32) (parse 32 32 s) (few-said (λ m. eqb m n) 32 32 s) e (r .width) (r .reads) in omega (arith, h .0, h .1)
 
 -- ---- arguments as they were read
 
@@ -69,7 +42,7 @@ args-in i s h = ap argsOf (instr-in i s h .is)
 pub args-count : (i : ℕ) (s : List ℕ) → InstrIn i s → length (argsOf (readAs i s)) ≡ length (operandsAt (getD s 1 0))
 args-count i s h = ap length (args-in i s h) ∙ operands-in i s h .count
 
-module _ (i : ℕ) (s : List ℕ) (h : InstrIn i s) (n j : ℕ) (l : j < length (operandsAt (getD s 1 0))) where
+module _ (i : ℕ) (s : List ℕ) (h : InstrIn i s) (j : ℕ) (l : j < length (operandsAt (getD s 1 0))) where
   abbrev kind : Kind
   kind = getD (operandsAt (getD s 1 0)) j Reg
 
@@ -82,24 +55,25 @@ module _ (i : ℕ) (s : List ℕ) (h : InstrIn i s) (n j : ℕ) (l : j < length 
   is-argument : getD (argsOf (readAs i s)) j (register 0) ≡ operandAt s kind (argAt place)
   is-argument = ap (λ xs. getD xs j (register 0)) (args-in i s h) ∙ argument .is
 
-  pub in-register : isReg kind ≡ true → inOperand (times n) (getD (argsOf (readAs i s)) j (register 0)) ≡ 0
-  in-register e = ap (inOperand (times n)) is-argument ∙ register-holds kind e
-    where
-      register-holds : (k : Kind) → isReg k ≡ true → inOperand (times n) (operandAt s k (argAt place)) ≡ 0
-      register-holds Reg e = refl
-      register-holds I8 e = false-true e
-      register-holds D9 e = false-true e
-      register-holds Bit e = false-true e
-      register-holds Rel8 e = false-true e
-      register-holds A12 e = false-true e
-      register-holds A16 e = false-true e
-      register-holds Rel16 e = false-true e
-
-  pub in-value : isReg kind ≡ false → Reads (drop place s) (exprAt s (argAt place)) × (inOperand (times n) (getD (argsOf (readAs i s)) j (register 0)) ≡ times n (exprAt s (argAt place)))
-  in-value e = (argument .reads e, ap (inOperand (times n)) (is-argument ∙ value-at s kind place e))
-
   pub argument-inside : place < length s
   argument-inside = argument .inside
+
+  module _ (w : Expr → ℕ) where
+    pub in-register : isReg kind ≡ true → inOperand w (getD (argsOf (readAs i s)) j (register 0)) ≡ 0
+    in-register e = ap (inOperand w) is-argument ∙ register-holds kind e
+      where
+        register-holds : (k : Kind) → isReg k ≡ true → inOperand w (operandAt s k (argAt place)) ≡ 0
+        register-holds Reg e = refl
+        register-holds I8 e = false-true e
+        register-holds D9 e = false-true e
+        register-holds Bit e = false-true e
+        register-holds Rel8 e = false-true e
+        register-holds A12 e = false-true e
+        register-holds A16 e = false-true e
+        register-holds Rel16 e = false-true e
+
+    pub in-value : isReg kind ≡ false → Reads (drop place s) (exprAt s (argAt place)) × (inOperand w (getD (argsOf (readAs i s)) j (register 0)) ≡ w (exprAt s (argAt place)))
+    in-value e = (argument .reads e, ap (inOperand w) (is-argument ∙ value-at s kind place e))
 
 -- ---- an instruction: its operands as read, but for the target that a transfer carries
 
@@ -122,7 +96,7 @@ over-args w (bytes es) e = absurd (omega arith)
 over-args w (words es) e = absurd (omega arith)
 over-args w (pad add m) e = absurd (omega arith)
 
-module _ (t : Slots) (s : Sound t) (n i : ℕ) (l : i < t .count) (e : kindOf (slotAt t i) ≡ 1) where
+module _ (t : Slots) (s : Sound t) (i : ℕ) (l : i < t .count) (e : kindOf (slotAt t i) ≡ 1) where
   abbrev frame : List ℕ
   frame = frameAt (t .frames) (t .starts) i
 
@@ -137,19 +111,20 @@ module _ (t : Slots) (s : Sound t) (n i : ℕ) (l : i < t .count) (e : kindOf (s
   pub instr-here : InstrIn i frame
   instr-here = record { reads = s .held .reads i l; kind = own t (s .held) i l e .kind }
 
-  pub in-own : isTransfer (getD (t .forms) i 0) ≡ false → overExprs (times n) (slotAt t i) ≡ total (inOperand (times n)) (take (length (operandsAt (getD frame 1 0))) (argsOf (readAs i frame)))
-  in-own m =
-      over-args (times n) (slotAt t i) e ∙ ap (total (inOperand (times n))) (args-own t (s .held) i l e m ∙ own-args)
-      ∙ ap (total (inOperand (times n))) (sym (take-length (argsOf (readAs i frame))) ∙ ap (λ k. take k (argsOf (readAs i frame))) own-length)
+  module _ (w : Expr → ℕ) where
+    pub in-own : isTransfer (getD (t .forms) i 0) ≡ false → overExprs w (slotAt t i) ≡ total (inOperand w) (take (length (operandsAt (getD frame 1 0))) (argsOf (readAs i frame)))
+    in-own m =
+        over-args w (slotAt t i) e ∙ ap (total (inOperand w)) (args-own t (s .held) i l e m ∙ own-args)
+        ∙ ap (total (inOperand w)) (sym (take-length (argsOf (readAs i frame))) ∙ ap (λ k. take k (argsOf (readAs i frame))) own-length)
 
-  pub in-aimed : isTransfer (getD (t .forms) i 0) ≡ true
-      → overExprs (times n) (slotAt t i) ≡ total (inOperand (times n)) (take (length (operandsAt (getD frame 1 0)) - 1) (argsOf (readAs i frame))) + inOperand (times n) (targetOf t (getD (t .carry) i 0))
-  in-aimed m =
-      let x = targetOf t (getD (t .carry) i 0) in
-      let some : 1 ≤ length (argsOf (readAs i frame)) = omega (arith, own-some t s i l e m, ap length own-args) in
-      over-args (times n) (slotAt t i) e ∙ ap (total (inOperand (times n))) (args-aimed t (s .held) i l e m ∙ ap (onLast (λ old. x)) own-args)
-      ∙ total-aimed (inOperand (times n)) x (argsOf (readAs i frame)) some
-      ∙ ap (λ k. total (inOperand (times n)) (take (k - 1) (argsOf (readAs i frame))) + inOperand (times n) x) own-length
+    pub in-aimed : isTransfer (getD (t .forms) i 0) ≡ true
+        → overExprs w (slotAt t i) ≡ total (inOperand w) (take (length (operandsAt (getD frame 1 0)) - 1) (argsOf (readAs i frame))) + inOperand w (targetOf t (getD (t .carry) i 0))
+    in-aimed m =
+        let x = targetOf t (getD (t .carry) i 0) in
+        let some : 1 ≤ length (argsOf (readAs i frame)) = omega (arith, own-some t s i l e m, ap length own-args) in
+        over-args w (slotAt t i) e ∙ ap (total (inOperand w)) (args-aimed t (s .held) i l e m ∙ ap (onLast (λ old. x)) own-args)
+        ∙ total-aimed (inOperand w) x (argsOf (readAs i frame)) some
+        ∙ ap (λ k. total (inOperand w) (take (k - 1) (argsOf (readAs i frame))) + inOperand w x) own-length
 
 -- ---- a variable, and data
 
@@ -209,8 +184,42 @@ references-places k n p =
     ∙ ap (sumTo (λ j. weigh k n (getD (placed p) j nowhere))) (length-placed 0 0 0 p)
     ∙ sum-ext _ _ (length p) (λ j l. ap (weigh k n) (placed-at p j nowhere l))
 
-pub references-by : (t : Slots) (contexts : List ℕ) (k n : ℕ) → ((i : ℕ) → i < t .count → getD contexts i 0 ≡ contextAt (programOf t) i)
-    → references k n (programOf t) ≡ sumTo (λ j. cond (eqb (getD contexts j 0) k) (overExprs (times n) (slotAt t j)) 0) (t .count)
-references-by t contexts k n c =
+-- where no name counts, none is counted
+mentions-none : (e : Expr) → mentions (λ m. false) e ≡ 0
+unfolding mentions
+mentions-none (num z) = refl
+mentions-none (name n) = refl
+mentions-none (two o e d) = omega (arith, mentions-none e, mentions-none d)
+mentions-none (one o e) = mentions-none e
+
+operand-none : (x : Operand) → inOperand (mentions (λ m. false)) x ≡ 0
+operand-none (register r) = refl
+operand-none (value e) = mentions-none e
+operand-none (inner i o) = refl
+
+over-none : (s : Stmt) → overExprs (mentions (λ m. false)) s ≡ 0
+over-none gone = refl
+over-none (instr f xs c) = total-none (inOperand (mentions (λ m. false))) xs (register 0) (λ j l. operand-none (getD xs j (register 0)))
+over-none (label n) = refl
+over-none (variable n e) = mentions-none e
+over-none (comment x) = refl
+over-none (org l) = refl
+over-none (bytes es) = total-none (mentions (λ m. false)) es (num (pos 0)) (λ j l. mentions-none (getD es j (num (pos 0))))
+over-none (words es) = total-none (mentions (λ m. false)) es (num (pos 0)) (λ j l. mentions-none (getD es j (num (pos 0))))
+over-none (pad add m) = refl
+
+-- "a name of another context is another name"
+in-context : (b : Bool) (n : ℕ) (s : Stmt) → overExprs (mentions (λ m. b && eqb m n)) s ≡ cond b (overExprs (times n) s) 0
+in-context true n s = refl
+in-context false n s = over-none s
+
+-- the name n as the statement at place j means it
+abbrev pub means : (t : Slots) (k n j : ℕ) → ℕ → Bool
+means t k n j m = eqb (contextAt (programOf t) j) k && eqb m n
+
+pub references-by : (t : Slots) (k n : ℕ) → references k n (programOf t) ≡ sumTo (λ j. overExprs (mentions (means t k n j)) (slotAt t j)) (t .count)
+references-by t k n =
     references-places k n (programOf t) ∙ ap (sumTo _) (length-program t)
-    ∙ sum-ext _ _ (t .count) (λ j l. ap₂ (λ (m : ℕ) (x : Stmt). cond (eqb m k) (overExprs (times n) x) 0) (sym (c j l)) (at-program t j l))
+    ∙ sum-ext _ _ (t .count) (λ j l.
+    ap (λ (x : Stmt). cond (eqb (contextAt (programOf t) j) k) (overExprs (times n) x) 0) (at-program t j l)
+    ∙ sym (in-context (eqb (contextAt (programOf t) j) k) n (slotAt t j)))

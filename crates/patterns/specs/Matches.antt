@@ -7,6 +7,7 @@ use Prim.Native.Nat.{ℕ, suc, _<_}
 use lib.ListN.{getD, set}
 use Rattle.laws.specs.Options.{isSome}
 use Rattle.rules.specs.Forms.{isTransfer}
+use Rattle.rules.specs.Names.{contextAt}
 use Rattle.rules.specs.Programs.{Placeℕ, kindOf}
 use Rattle.rules.specs.Rewriting.{next, branch, unconditional, localLabel, aimed, candidate, dropAll, invertedAt, trampolineAt}
 use Rattle.slots.specs.Slots.{Slots, slotAt, programOf}
@@ -67,7 +68,7 @@ OpeningIs t f i Opening·Nothing = ((to : ℕ) → invertedAt f to (programOf t)
 
 -- ---- the two shapes
 
--- the branch is at i, the unconditional at j, the label at m
+-- the branch is at i, the unconditional at j, the label at m; what the unconditional names means at the branch the same
 pub record InvertedFound (t : Slots) (from : ℕ) (i j m : Placeℕ) : Type 0 where
   pub jump-rises : i < j
   pub label-rises : j < m
@@ -75,6 +76,7 @@ pub record InvertedFound (t : Slots) (from : ℕ) (i j m : Placeℕ) : Type 0 wh
   pub branches : Moves t i
   pub form : getD (t .forms) i 0 ≡ from
   pub jumps : Moves t j
+  pub together : contextAt (programOf t) j ≡ contextAt (programOf t) i
   pub fold : (to : ℕ) → invertedAt from to (programOf t) i ≡ candidate (dropAll (j ∷ []) (set (programOf t) i (aimed to (instrAt t i) (instrAt t j))))
 
 abbrev pub InvertedIs : Slots → (from : ℕ) (i : Placeℕ) → Inverted → Type 0
@@ -93,6 +95,7 @@ pub record TrampolineFound (t : Slots) (f : ℕ) (i skip target last label : Pla
   pub skips : Moves t skip
   pub lands : isSome (localLabel (standsAt t target)) ≡ true
   pub jumps : Moves t last
+  pub together : contextAt (programOf t) last ≡ contextAt (programOf t) i
   pub fold : trampolineAt f (programOf t) i ≡ candidate (dropAll (skip ∷ target ∷ last ∷ []) (set (programOf t) i (aimed f (instrAt t i) (instrAt t last))))
 
 abbrev pub TrampolineIs : Slots → (f : ℕ) (i : Placeℕ) → Trampoline → Type 0

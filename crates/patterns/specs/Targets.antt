@@ -39,3 +39,7 @@ pub record TargetIn (frames starts : List ℕ) (count : ℕ) (c : Placeℕ) : Ty
 -- the bytes of a frame from the last argument on
 unfoldable pub lastBytes : (s : List ℕ) → List ℕ
 lastBytes s = let kinds = operandsAt (getD s 1 0) in drop (argumentAt s kinds 2 (length kinds - 1)) s
+
+-- and the links beside them: those of the frame s from its last argument on
+unfoldable pub lastLinks : (s links : List ℕ) → List ℕ
+lastLinks s links = let kinds = operandsAt (getD s 1 0) in drop (argumentAt s kinds 2 (length kinds - 1)) links

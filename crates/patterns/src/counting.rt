@@ -1,8 +1,9 @@
-// References to a name: "in instructions, data and variables", of one context.
+// References to a statement: "in instructions, data and variables", the links to its place.
 use crate::targets::NO_OWNER;
 use crate::targets::number_at;
 use crate::targets::target_in;
-use expression::count_name;
+use crate::targets::target_links;
+use expression::count_links;
 use instruction::tables::is_transfer;
 use instruction::tables::operand_count;
 use rules::Place;
@@ -13,64 +14,86 @@ use slots::is_register;
 use slots::item_in;
 use slots::items_in;
 use slots::kind_at;
+use slots::links_at;
 ghost use mathlib.Core.Path.{_≡_};
-ghost use mathlib.Core.Bool.{cond};
+ghost use mathlib.Core.Bool.{Bool};
 ghost use mathlib.Core.List.{List};
 ghost use Prim.Native.Nat.{ℕ, _*_, _<_, _≤_};
-ghost use lib.Dec.{eqb};
 ghost use lib.IntN.{pos};
-ghost use lib.ListN.{length, getD, take};
+ghost use lib.ListN.{length, getD, take, drop};
+ghost use Rattle.laws.specs.Counts.{sumTo};
 ghost use Rattle.laws.specs.Lists.{total};
-ghost use Rattle.rules.specs.Expressions.{num};
+ghost use Rattle.rules.specs.Expressions.{Expr, num, mentions, readExpr, got};
 ghost use Rattle.rules.specs.Forms.{operandsAt};
-ghost use Rattle.rules.specs.Names.{contextAt};
 ghost use Rattle.rules.specs.Programs.{register, argsOf, inOperand, overExprs, kindOf};
-ghost use Rattle.rules.specs.Rewriting.{references as referencesOf};
-ghost use Rattle.listing.specs.Tables.{Held};
-ghost use Rattle.slots.specs.Slots.{slots, slotAt, targetOf, programOf, InstrIn, DataIn, Sound};
+ghost use Rattle.expression.specs.Naming.{Referred};
+ghost use Rattle.listing.specs.Tables.{frameAt, Held};
+ghost use Rattle.slots.specs.Slots.{slots, slotAt, targetOf, InstrIn, DataIn, Sound};
 ghost use Rattle.patterns.specs.Targets.{TargetIn};
-ghost use Rattle.patterns.specs.Mentions.{times, readAs, itemsOf, VariableIn};
+ghost use Rattle.patterns.specs.Mentions.{readAs, itemsOf, VariableIn, Short, Refers, RefersAll};
 
-// In the target that was written at a place; one that became an inner label holds no name. An expression has at most 32 bytes, so no more
-// names than that.
+// In the target that was written at a place; one that became an inner label holds no name. A frame has at most 120 bytes, so no more names
+// than that.
 fn in_target(
     frames: &[u8],
     starts: &[u16; 1025],
     count: usize,
     owners: &[u16; 1024],
+    links: &[u16; 28672],
     at: Place,
-    n: u16,
+    place: usize,
 ) -> usize
-    requires { ⌜ Held (now frames) (now starts) count × TargetIn (now frames) (now starts) count (at .0) ⌝ }
-    ensures { λ r. ⌜ ((forms carry offsets : List ℕ) → r ≡ inOperand (times n) (targetOf (slots (now (frames .entry)) (now (starts .entry)) count forms carry (now (owners .entry)) offsets) (at .0))) × (r ≤ 32) ⌝ }
+    requires { ⌜ Held (now frames) (now starts) count × TargetIn (now frames) (now starts) count (at .0) × (length (now links) ≡ 28672) ⌝ }
+    ensures few { λ r. ⌜ r ≤ 120 ⌝ }
+    ensures { λ r. ⌜ ((f : ℕ → Bool) → Referred f (frameAt (now (frames .entry)) (now (starts .entry)) (at .0))
+        (frameAt (now (links .entry)) (now (starts .entry)) (at .0)) place
+        → (forms carry offsets : List ℕ) → r ≡ inOperand (mentions f)
+        (targetOf (slots (now (frames .entry)) (now (starts .entry)) count forms carry (now (owners .entry)) offsets) (at .0))) ⌝ }
 {
     if number_at(owners, at) < NO_OWNER {
         return 0;
     }
-    count_name(target_in(frames, starts, count, at), n)
+    count_links(
+        target_in(frames, starts, count, at),
+        target_links(frames, starts, count, links, at),
+        place,
+    )
 }
 
-// In argument j of an instruction as it was read.
-fn in_argument(frame: &[u8], at: Place, j: usize, n: u16) -> usize
-    requires { ⌜ InstrIn (at .0) (now frame) × (j < length (operandsAt (getD (now frame) 1 0))) ⌝ }
-    ensures { λ r. ⌜ (r ≡ inOperand (times n) (getD (argsOf (readAs (at .0) (now (frame .entry)))) j (register 0))) × (r ≤ 32) ⌝ }
+// In the expression that begins at byte a of a frame.
+fn in_part(frame: &[u8], links: &[u16], a: usize, place: usize) -> usize
+    requires { ⌜ (a ≤ length (now frame)) × Short (now frame) (now links) ⌝ }
+    ensures few { λ r. ⌜ r ≤ 120 ⌝ }
+    ensures { λ r. ⌜ ((f : ℕ → Bool) → Referred f (now (frame .entry)) (now (links .entry)) place
+        → (e : Expr) (k : ℕ) → readExpr (drop a (now (frame .entry))) ≡ got e k → r ≡ mentions f e) ⌝ }
+{
+    count_links(&frame[a..], &links[a..], place)
+}
+
+// In argument j of an instruction as it was read, with the links beside it.
+fn in_argument(frame: &[u8], links: &[u16], at: Place, j: usize, place: usize) -> usize
+    requires { ⌜ InstrIn (at .0) (now frame) × (j < length (operandsAt (getD (now frame) 1 0))) × Short (now frame) (now links) ⌝ }
+    ensures few { λ r. ⌜ r ≤ 120 ⌝ }
+    ensures { λ r. ⌜ ((f : ℕ → Bool) → Referred f (now (frame .entry)) (now (links .entry)) place
+        → r ≡ inOperand (mentions f) (getD (argsOf (readAs (at .0) (now (frame .entry)))) j (register 0))) ⌝ }
 {
     if is_register(frame[1], j) {
         return 0;
     }
-    let a = argument_in(frame, at, j);
-    count_name(&frame[a..], n)
+    in_part(frame, links, argument_in(frame, at, j), place)
 }
 
 // In the first m arguments.
-fn in_arguments(frame: &[u8], at: Place, m: usize, n: u16) -> usize
-    requires { ⌜ InstrIn (at .0) (now frame) × (m ≤ length (operandsAt (getD (now frame) 1 0))) ⌝ }
-    ensures { λ r. ⌜ (r ≡ total (inOperand (times n)) (take m (argsOf (readAs (at .0) (now (frame .entry)))))) × (r ≤ 32 * m) ⌝ }
+fn in_arguments(frame: &[u8], links: &[u16], at: Place, m: usize, place: usize) -> usize
+    requires { ⌜ InstrIn (at .0) (now frame) × (m ≤ length (operandsAt (getD (now frame) 1 0))) × Short (now frame) (now links) ⌝ }
+    ensures few { λ r. ⌜ r ≤ 120 * m ⌝ }
+    ensures { λ r. ⌜ ((f : ℕ → Bool) → Referred f (now (frame .entry)) (now (links .entry)) place
+        → r ≡ total (inOperand (mentions f)) (take m (argsOf (readAs (at .0) (now (frame .entry)))))) ⌝ }
 {
     let mut found = 0;
     let mut j = 0;
     while j < m {
-        found += in_argument(frame, at, j, n);
+        found += in_argument(frame, links, at, j, place);
         j += 1;
     }
     found
@@ -84,50 +107,63 @@ fn in_instruction(
     forms: &[u8; 1024],
     carry: &[u16; 1024],
     owners: &[u16; 1024],
+    links: &[u16; 28672],
     at: Place,
-    n: u16,
+    place: usize,
 ) -> usize
-    requires { ⌜ (at .0 < count) × ((offsets : List ℕ) → Sound (slots (now frames) (now starts) count (now forms) (now carry) (now owners) offsets) × (kindOf (slotAt (slots (now frames) (now starts) count (now forms) (now carry) (now owners) offsets) (at .0)) ≡ 1)) ⌝ }
-    ensures { λ r. ⌜ ((offsets : List ℕ) → r ≡ overExprs (times n) (slotAt (slots (now (frames .entry)) (now (starts .entry)) count (now (forms .entry)) (now (carry .entry)) (now (owners .entry)) offsets) (at .0))) × (r ≤ 512) ⌝ }
+    requires { ⌜ (at .0 < count) × (length (now links) ≡ 28672) × ((offsets : List ℕ) →
+        (let t = slots (now frames) (now starts) count (now forms) (now carry) (now owners) offsets in
+        Sound t × (kindOf (slotAt t (at .0)) ≡ 1))) ⌝ }
+    ensures few { λ r. ⌜ r ≤ 2048 ⌝ }
+    ensures { λ r. ⌜ ((f : ℕ → Bool) (offsets : List ℕ) →
+        (let t = slots (now (frames .entry)) (now (starts .entry)) count (now (forms .entry)) (now (carry .entry))
+        (now (owners .entry)) offsets in
+        Refers f t (now (links .entry)) (at .0) place → r ≡ overExprs (mentions f) (slotAt t (at .0)))) ⌝ }
 {
     let i = at.0;
     let frame = frame_at(frames, starts, count, at);
+    let beside = links_at(links, starts, at);
     let own = operand_count(frame[1]);
     if is_transfer(forms[i]) {
         let written = Place(number_at(carry, at));
-        let carried = in_target(frames, starts, count, owners, written, n);
-        return in_arguments(frame, at, own - 1, n) + carried;
+        let carried = in_target(frames, starts, count, owners, links, written, place);
+        return in_arguments(frame, beside, at, own - 1, place) + carried;
     }
-    in_arguments(frame, at, own, n)
+    in_arguments(frame, beside, at, own, place)
 }
 
 // In the value of a variable.
-fn in_variable(frame: &[u8], at: Place, n: u16) -> usize
-    requires { ⌜ VariableIn (at .0) (now frame) ⌝ }
-    ensures { λ r. ⌜ (r ≡ overExprs (times n) (readAs (at .0) (now (frame .entry)))) × (r ≤ 512) ⌝ }
+fn in_variable(frame: &[u8], links: &[u16], at: Place, place: usize) -> usize
+    requires { ⌜ VariableIn (at .0) (now frame) × Short (now frame) (now links) ⌝ }
+    ensures few { λ r. ⌜ r ≤ 2048 ⌝ }
+    ensures { λ r. ⌜ ((f : ℕ → Bool) → Referred f (now (frame .entry)) (now (links .entry)) place
+        → r ≡ overExprs (mentions f) (readAs (at .0) (now (frame .entry)))) ⌝ }
 {
-    count_name(&frame[3..], n)
+    in_part(frame, links, 3, place)
 }
 
 // In item j of data.
-fn in_item(frame: &[u8], at: Place, j: usize, n: u16) -> usize
-    requires { ⌜ DataIn (at .0) (now frame) × (j < getD (now frame) 1 0) ⌝ }
-    ensures { λ r. ⌜ (r ≡ times n (getD (itemsOf (readAs (at .0) (now (frame .entry)))) j (num (pos 0)))) × (r ≤ 32) ⌝ }
+fn in_item(frame: &[u8], links: &[u16], at: Place, j: usize, place: usize) -> usize
+    requires { ⌜ DataIn (at .0) (now frame) × (j < getD (now frame) 1 0) × Short (now frame) (now links) ⌝ }
+    ensures few { λ r. ⌜ r ≤ 120 ⌝ }
+    ensures { λ r. ⌜ ((f : ℕ → Bool) → Referred f (now (frame .entry)) (now (links .entry)) place
+        → r ≡ mentions f (getD (itemsOf (readAs (at .0) (now (frame .entry)))) j (num (pos 0)))) ⌝ }
 {
-    let a = item_in(frame, at, j);
-    count_name(&frame[a..], n)
+    in_part(frame, links, item_in(frame, at, j), place)
 }
 
 // In data.
-fn in_items(frame: &[u8], at: Place, n: u16) -> usize
-    requires { ⌜ DataIn (at .0) (now frame) ⌝ }
-    ensures { λ r. ⌜ (r ≡ overExprs (times n) (readAs (at .0) (now (frame .entry)))) × (r ≤ 512) ⌝ }
+fn in_items(frame: &[u8], links: &[u16], at: Place, place: usize) -> usize
+    requires { ⌜ DataIn (at .0) (now frame) × Short (now frame) (now links) ⌝ }
+    ensures few { λ r. ⌜ r ≤ 2048 ⌝ }
+    ensures { λ r. ⌜ ((f : ℕ → Bool) → Referred f (now (frame .entry)) (now (links .entry)) place
+        → r ≡ overExprs (mentions f) (readAs (at .0) (now (frame .entry)))) ⌝ }
 {
     let m = items_in(frame);
     let mut found = 0;
     let mut j = 0;
     while j < m {
-        found += in_item(frame, at, j, n);
+        found += in_item(frame, links, at, j, place);
         j += 1;
     }
     found
@@ -141,51 +177,45 @@ fn in_statement(
     forms: &[u8; 1024],
     carry: &[u16; 1024],
     owners: &[u16; 1024],
+    links: &[u16; 28672],
     at: Place,
-    n: u16,
+    place: usize,
 ) -> usize
-    requires { ⌜ (at .0 < count) × ((offsets : List ℕ) → Sound (slots (now frames) (now starts) count (now forms) (now carry) (now owners) offsets)) ⌝ }
-    ensures { λ r. ⌜ ((offsets : List ℕ) → r ≡ overExprs (times n) (slotAt (slots (now (frames .entry)) (now (starts .entry)) count (now (forms .entry)) (now (carry .entry)) (now (owners .entry)) offsets) (at .0))) × (r ≤ 512) ⌝ }
+    requires { ⌜ (at .0 < count) × (length (now links) ≡ 28672)
+        × ((offsets : List ℕ) → Sound (slots (now frames) (now starts) count (now forms) (now carry) (now owners) offsets)) ⌝ }
+    ensures few { λ r. ⌜ r ≤ 2048 ⌝ }
+    ensures { λ r. ⌜ ((f : ℕ → Bool) (offsets : List ℕ) →
+        (let t = slots (now (frames .entry)) (now (starts .entry)) count (now (forms .entry)) (now (carry .entry))
+        (now (owners .entry)) offsets in
+        Refers f t (now (links .entry)) (at .0) place → r ≡ overExprs (mentions f) (slotAt t (at .0)))) ⌝ }
 {
     let kind = kind_at(frames, starts, count, forms, at);
     if kind == 1 {
-        return in_instruction(frames, starts, count, forms, carry, owners, at, n);
+        return in_instruction(
+            frames,
+            starts,
+            count,
+            forms,
+            carry,
+            owners,
+            links,
+            at,
+            place,
+        );
     }
     let frame = frame_at(frames, starts, count, at);
+    let beside = links_at(links, starts, at);
     if kind == 3 {
-        return in_variable(frame, at, n);
+        return in_variable(frame, beside, at, place);
     }
     if is_data(kind) {
-        return in_items(frame, at, n);
+        return in_items(frame, beside, at, place);
     }
     0
 }
 
-// In the statement at a place, if it is of the context: "a name of another context is another name".
-fn in_context(
-    frames: &[u8],
-    starts: &[u16; 1025],
-    count: usize,
-    forms: &[u8; 1024],
-    carry: &[u16; 1024],
-    owners: &[u16; 1024],
-    contexts: &[u16; 1024],
-    context: u16,
-    at: Place,
-    n: u16,
-) -> usize
-    requires { ⌜ (at .0 < count) × ((offsets : List ℕ) → Sound (slots (now frames) (now starts) count (now forms) (now carry) (now owners) offsets)) ⌝ }
-    ensures { λ r. ⌜ ((offsets : List ℕ) → r ≡ cond (eqb (getD (now (contexts .entry)) (at .0) 0) context) (overExprs (times n) (slotAt (slots (now (frames .entry)) (now (starts .entry)) count (now (forms .entry)) (now (carry .entry)) (now (owners .entry)) offsets) (at .0))) 0) × (r ≤ 512) ⌝ }
-{
-    let i = at.0;
-    if contexts[i] == context {
-        return in_statement(frames, starts, count, forms, carry, owners, at, n);
-    }
-    0
-}
-
-// How often the statements of a context hold the name n. There are at most 1,024 statements, and each has at most 16 expressions of 32 bytes: the
-// sum fits.
+// How often the statements refer to the one at `place`. There are at most 1,024 statements, and each has at most 16 expressions of its
+// frame's 120 bytes: the sum fits.
 pub fn references(
     frames: &[u8],
     starts: &[u16; 1025],
@@ -193,28 +223,29 @@ pub fn references(
     forms: &[u8; 1024],
     carry: &[u16; 1024],
     owners: &[u16; 1024],
-    contexts: &[u16; 1024],
-    context: u16,
-    n: u16,
+    links: &[u16; 28672],
+    place: usize,
 ) -> usize
-    requires { ⌜ ((offsets : List ℕ) → Sound (slots (now frames) (now starts) count (now forms) (now carry) (now owners) offsets)) ⌝ }
-    ensures { λ r. ⌜ ((offsets : List ℕ) → ((i : ℕ) → i < count → getD (now (contexts .entry)) i 0 ≡ contextAt (programOf (slots (now (frames .entry)) (now (starts .entry)) count (now (forms .entry)) (now (carry .entry)) (now (owners .entry)) offsets)) i) → r ≡ referencesOf context n (programOf (slots (now (frames .entry)) (now (starts .entry)) count (now (forms .entry)) (now (carry .entry)) (now (owners .entry)) offsets))) ⌝ }
+    requires { ⌜ (length (now links) ≡ 28672)
+        × ((offsets : List ℕ) → Sound (slots (now frames) (now starts) count (now forms) (now carry) (now owners) offsets)) ⌝ }
+    ensures { λ r. ⌜ ((F : ℕ → ℕ → Bool) (offsets : List ℕ) →
+        (let t = slots (now (frames .entry)) (now (starts .entry)) count (now (forms .entry)) (now (carry .entry))
+        (now (owners .entry)) offsets in
+        RefersAll F t (now (links .entry)) place → r ≡ sumTo (λ j. overExprs (mentions (F j)) (slotAt t j)) count)) ⌝ }
 {
     let mut found = 0;
     let mut j = 0;
     while j < count {
-        let at = Place(j);
-        found += in_context(
+        found += in_statement(
             frames,
             starts,
             count,
             forms,
             carry,
             owners,
-            contexts,
-            context,
-            at,
-            n,
+            links,
+            Place(j),
+            place,
         );
         j += 1;
     }

@@ -30,7 +30,9 @@ pub fn inner_label_at(
     at: Place,
 ) -> InnerLabel
     requires { ⌜ Sound (slots (now frames) (now starts) count (now forms) (now carry) (now owners) (now offsets)) × (at .0 < count) ⌝ }
-    ensures { λ r. ⌜ (r ≡ labelAt (slots (now (frames .entry)) (now (starts .entry)) count (now (forms .entry)) (now (carry .entry)) (now (owners .entry)) (now (offsets .entry))) (at .0)) × OwnerIn count r ⌝ }
+    ensures { λ r. ⌜ (let t = slots (now (frames .entry)) (now (starts .entry)) count (now (forms .entry)) (now (carry .entry))
+        (now (owners .entry)) (now (offsets .entry)) in
+        (r ≡ labelAt t (at .0)) × OwnerIn count r) ⌝ }
 {
     if !is_transfer(form_at(frames, starts, count, forms, at)) {
         return InnerLabel::Nothing;
@@ -66,7 +68,9 @@ pub fn no_inner_label_between(
     m: Place,
 ) -> bool
     requires { ⌜ Sound (slots (now frames) (now starts) count (now forms) (now carry) (now owners) (now offsets)) ⌝ }
-    ensures { λ r. ⌜ r ≡ noInnerLabelBetween (programOf (slots (now (frames .entry)) (now (starts .entry)) count (now (forms .entry)) (now (carry .entry)) (now (owners .entry)) (now (offsets .entry)))) (i .0) (m .0) ⌝ }
+    ensures { λ r. ⌜ (let p = programOf (slots (now (frames .entry)) (now (starts .entry)) count (now (forms .entry))
+        (now (carry .entry)) (now (owners .entry)) (now (offsets .entry))) in
+        r ≡ noInnerLabelBetween p (i .0) (m .0)) ⌝ }
 {
     let mut j = 0;
     while j < count {
@@ -110,7 +114,9 @@ pub fn no_interior_label_at(
     at: Place,
 ) -> bool
     requires { ⌜ Sound (slots (now frames) (now starts) count (now forms) (now carry) (now owners) (now offsets)) ⌝ }
-    ensures { λ r. ⌜ r ≡ noInteriorLabelAt (programOf (slots (now (frames .entry)) (now (starts .entry)) count (now (forms .entry)) (now (carry .entry)) (now (owners .entry)) (now (offsets .entry)))) (at .0) ⌝ }
+    ensures { λ r. ⌜ (let p = programOf (slots (now (frames .entry)) (now (starts .entry)) count (now (forms .entry))
+        (now (carry .entry)) (now (owners .entry)) (now (offsets .entry))) in
+        r ≡ noInteriorLabelAt p (at .0)) ⌝ }
 {
     let mut j = 0;
     while j < count {

@@ -15,14 +15,11 @@ ghost use mathlib.Core.Path.{_≡_};
 ghost use mathlib.Core.Bool.{true, _&&_};
 ghost use mathlib.Core.List.{List};
 ghost use Prim.Native.Nat.{ℕ, _<_};
-ghost use lib.Dec.{eqb};
-ghost use lib.ListN.{getD};
 ghost use Rattle.rules.specs.Forms.{isTransfer};
-ghost use Rattle.rules.specs.Names.{contextAt};
 ghost use Rattle.rules.specs.Rewriting.{noInnerLabelBetween, noInteriorLabelAt};
-ghost use Rattle.rules.specs.Rewriting.{references as referencesOf};
 ghost use Rattle.listing.specs.Tables.{Held};
-ghost use Rattle.slots.specs.Slots.{slots, programOf, Sound};
+ghost use Rattle.slots.specs.Slots.{Slots, slots, programOf, Sound};
+ghost use Rattle.patterns.specs.Mentions.{Told};
 ghost use Rattle.patterns.specs.Matches.{JumpAfter, LandingAfter, OpeningIs, InvertedIs, TrampolineIs};
 
 // The place of an unconditional.
@@ -52,7 +49,9 @@ fn jump_after(
     at: Place,
 ) -> Jump
     requires { ⌜ Held (now frames) (now starts) count × (at .0 < count) ⌝ }
-    ensures { λ r. ⌜ ((carry owners offsets : List ℕ) → JumpAfter (slots (now (frames .entry)) (now (starts .entry)) count (now (forms .entry)) carry owners offsets) (at .0) r) ⌝ }
+    ensures { λ r. ⌜ ((carry owners offsets : List ℕ) →
+        (let t = slots (now (frames .entry)) (now (starts .entry)) count (now (forms .entry)) carry owners offsets in
+        JumpAfter t (at .0) r)) ⌝ }
 {
     let jump = next(frames, starts, count, forms, Place(at.0 + 1));
     if unconditional_at(frames, starts, count, forms, jump) {
@@ -70,7 +69,9 @@ fn landing_after(
     at: Place,
 ) -> Landing
     requires { ⌜ Held (now frames) (now starts) count × (at .0 < count) ⌝ }
-    ensures { λ r. ⌜ ((carry owners offsets : List ℕ) → LandingAfter (slots (now (frames .entry)) (now (starts .entry)) count (now (forms .entry)) carry owners offsets) (at .0) r) ⌝ }
+    ensures { λ r. ⌜ ((carry owners offsets : List ℕ) →
+        (let t = slots (now (frames .entry)) (now (starts .entry)) count (now (forms .entry)) carry owners offsets in
+        LandingAfter t (at .0) r)) ⌝ }
 {
     let label = next(frames, starts, count, forms, Place(at.0 + 1));
     match local_label_at(frames, starts, count, forms, label) {
@@ -89,7 +90,9 @@ fn opening_at(
     at: Place,
 ) -> Opening
     requires { ⌜ Held (now frames) (now starts) count × (at .0 < count) × (isTransfer form ≡ true) ⌝ }
-    ensures { λ r. ⌜ ((carry owners offsets : List ℕ) → OpeningIs (slots (now (frames .entry)) (now (starts .entry)) count (now (forms .entry)) carry owners offsets) form (at .0) r) ⌝ }
+    ensures { λ r. ⌜ ((carry owners offsets : List ℕ) →
+        (let t = slots (now (frames .entry)) (now (starts .entry)) count (now (forms .entry)) carry owners offsets in
+        OpeningIs t form (at .0) r)) ⌝ }
 {
     if !branch_at(frames, starts, count, forms, form, at) {
         return Opening::Nothing;
@@ -116,7 +119,9 @@ fn is_free(
     m: Place,
 ) -> bool
     requires { ⌜ Sound (slots (now frames) (now starts) count (now forms) (now carry) (now owners) (now offsets)) ⌝ }
-    ensures { λ r. ⌜ r ≡ noInnerLabelBetween (programOf (slots (now (frames .entry)) (now (starts .entry)) count (now (forms .entry)) (now (carry .entry)) (now (owners .entry)) (now (offsets .entry)))) (at .0) (m .0) && noInteriorLabelAt (programOf (slots (now (frames .entry)) (now (starts .entry)) count (now (forms .entry)) (now (carry .entry)) (now (owners .entry)) (now (offsets .entry)))) (at .0) ⌝ }
+    ensures { λ r. ⌜ (let p = programOf (slots (now (frames .entry)) (now (starts .entry)) count (now (forms .entry))
+        (now (carry .entry)) (now (owners .entry)) (now (offsets .entry))) in
+        r ≡ noInnerLabelBetween p (at .0) (m .0) && noInteriorLabelAt p (at .0)) ⌝ }
 {
     if no_inner_label_between(frames, starts, count, forms, carry, owners, offsets, at, m) {
         return no_interior_label_at(frames, starts, count, forms, carry, owners, offsets, at);
@@ -124,8 +129,7 @@ fn is_free(
     false
 }
 
-// "Inverted: branch, unconditional, local label that the branch names bare." `from` is the form of the branch; m is the place
-// of the label, n its name.
+// "Inverted: branch, unconditional, local label that the branch names bare." `from` is the form of the branch; m is the place of the label.
 pub fn inverted_at(
     frames: &[u8],
     starts: &[u16; 1025],
@@ -134,16 +138,20 @@ pub fn inverted_at(
     carry: &[u16; 1024],
     owners: &[u16; 1024],
     offsets: &[u16; 1024],
+    links: &[u16; 28672],
     from: u8,
     at: Place,
 ) -> Inverted
-    requires { ⌜ Sound (slots (now frames) (now starts) count (now forms) (now carry) (now owners) (now offsets)) × (at .0 < count) × (isTransfer from ≡ true) ⌝ }
-    ensures { λ r. ⌜ InvertedIs (slots (now (frames .entry)) (now (starts .entry)) count (now (forms .entry)) (now (carry .entry)) (now (owners .entry)) (now (offsets .entry))) from (at .0) r ⌝ }
+    requires { let t : Slots = slots (now frames) (now starts) count (now forms) (now carry) (now owners) (now offsets) in
+        ⌜ Sound t × Told t (now links) × (at .0 < count) × (isTransfer from ≡ true) ⌝ }
+    ensures { λ r. let t : Slots = slots (now (frames .entry)) (now (starts .entry)) count (now (forms .entry)) (now (carry .entry))
+        (now (owners .entry)) (now (offsets .entry)) in
+        ⌜ InvertedIs t from (at .0) r ⌝ }
 {
-    let Opening::At(jump, m, n) = opening_at(frames, starts, count, forms, from, at) else {
+    let Opening::At(jump, m, _) = opening_at(frames, starts, count, forms, from, at) else {
         return Inverted::Nothing;
     };
-    if !names_bare(frames, starts, count, carry, owners, at, n) {
+    if !names_bare(frames, starts, count, carry, owners, links, at, m.0) {
         return Inverted::Nothing;
     }
     if is_free(frames, starts, count, forms, carry, owners, offsets, at, m) {
@@ -152,28 +160,8 @@ pub fn inverted_at(
     Inverted::Nothing
 }
 
-// "T has exactly one reference in the whole listing": the label n at a place.
-fn referred_once(
-    frames: &[u8],
-    starts: &[u16; 1025],
-    count: usize,
-    forms: &[u8; 1024],
-    carry: &[u16; 1024],
-    owners: &[u16; 1024],
-    contexts: &[u16; 1024],
-    at: Place,
-    n: u16,
-) -> bool
-    requires { ⌜ (at .0 < count) × ((offsets : List ℕ) → Sound (slots (now frames) (now starts) count (now forms) (now carry) (now owners) offsets)) ⌝ }
-    ensures { λ r. ⌜ ((offsets : List ℕ) → ((i : ℕ) → i < count → getD (now (contexts .entry)) i 0 ≡ contextAt (programOf (slots (now (frames .entry)) (now (starts .entry)) count (now (forms .entry)) (now (carry .entry)) (now (owners .entry)) offsets)) i) → r ≡ eqb (referencesOf (contextAt (programOf (slots (now (frames .entry)) (now (starts .entry)) count (now (forms .entry)) (now (carry .entry)) (now (owners .entry)) offsets)) (at .0)) n (programOf (slots (now (frames .entry)) (now (starts .entry)) count (now (forms .entry)) (now (carry .entry)) (now (owners .entry)) offsets))) 1) ⌝ }
-{
-    let i = at.0;
-    let k = contexts[i];
-    references(frames, starts, count, forms, carry, owners, contexts, k, n) == 1
-}
-
 // "Trampoline: branch to bare local T, unconditional to bare local S, T, unconditional, S". `form` is that of the branch; t and s are
-// the places of T and S, n and m their names.
+// the places of T and S. "T has exactly one reference in the whole listing".
 pub fn trampoline_at(
     frames: &[u8],
     starts: &[u16; 1025],
@@ -182,29 +170,32 @@ pub fn trampoline_at(
     carry: &[u16; 1024],
     owners: &[u16; 1024],
     offsets: &[u16; 1024],
-    contexts: &[u16; 1024],
+    links: &[u16; 28672],
     form: u8,
     at: Place,
 ) -> Trampoline
-    requires { ⌜ Sound (slots (now frames) (now starts) count (now forms) (now carry) (now owners) (now offsets)) × ((i : ℕ) → i < count → getD (now contexts) i 0 ≡ contextAt (programOf (slots (now frames) (now starts) count (now forms) (now carry) (now owners) (now offsets))) i) × (at .0 < count) × (isTransfer form ≡ true) ⌝ }
-    ensures { λ r. ⌜ TrampolineIs (slots (now (frames .entry)) (now (starts .entry)) count (now (forms .entry)) (now (carry .entry)) (now (owners .entry)) (now (offsets .entry))) form (at .0) r ⌝ }
+    requires { let t : Slots = slots (now frames) (now starts) count (now forms) (now carry) (now owners) (now offsets) in
+        ⌜ Sound t × Told t (now links) × (at .0 < count) × (isTransfer form ≡ true) ⌝ }
+    ensures { λ r. let t : Slots = slots (now (frames .entry)) (now (starts .entry)) count (now (forms .entry)) (now (carry .entry))
+        (now (owners .entry)) (now (offsets .entry)) in
+        ⌜ TrampolineIs t form (at .0) r ⌝ }
 {
-    let Opening::At(skip, t, n) = opening_at(frames, starts, count, forms, form, at) else {
+    let Opening::At(skip, t, _) = opening_at(frames, starts, count, forms, form, at) else {
         return Trampoline::Nothing;
     };
     let Jump::At(last) = jump_after(frames, starts, count, forms, t) else {
         return Trampoline::Nothing;
     };
-    let Landing::At(s, m) = landing_after(frames, starts, count, forms, last) else {
+    let Landing::At(s, _) = landing_after(frames, starts, count, forms, last) else {
         return Trampoline::Nothing;
     };
-    if !names_bare(frames, starts, count, carry, owners, at, n) {
+    if !names_bare(frames, starts, count, carry, owners, links, at, t.0) {
         return Trampoline::Nothing;
     }
-    if !names_bare(frames, starts, count, carry, owners, skip, m) {
+    if !names_bare(frames, starts, count, carry, owners, links, skip, s.0) {
         return Trampoline::Nothing;
     }
-    if !referred_once(frames, starts, count, forms, carry, owners, contexts, t, n) {
+    if references(frames, starts, count, forms, carry, owners, links, t.0) != 1 {
         return Trampoline::Nothing;
     }
     if is_free(frames, starts, count, forms, carry, owners, offsets, at, s) {

@@ -19,7 +19,9 @@ fn significant_at(
     at: Place,
 ) -> bool
     requires { ⌜ Held (now frames) (now starts) count × (at .0 < count) ⌝ }
-    ensures { λ r. ⌜ ((carry owners offsets : List ℕ) → r ≡ not (insignificant (slotAt (slots (now (frames .entry)) (now (starts .entry)) count (now (forms .entry)) carry owners offsets) (at .0)))) ⌝ }
+    ensures { λ r. ⌜ ((carry owners offsets : List ℕ) →
+        (let t = slots (now (frames .entry)) (now (starts .entry)) count (now (forms .entry)) carry owners offsets in
+        r ≡ not (insignificant (slotAt t (at .0))))) ⌝ }
 {
     let kind = kind_at(frames, starts, count, forms, at);
     if kind == 0 {
@@ -37,7 +39,9 @@ pub fn next(
     from: Place,
 ) -> Place
     requires { ⌜ Held (now frames) (now starts) count ⌝ }
-    ensures { λ r. ⌜ ((carry owners offsets : List ℕ) → r .0 ≡ nextPlace (programOf (slots (now (frames .entry)) (now (starts .entry)) count (now (forms .entry)) carry owners offsets)) (from .0)) ⌝ }
+    ensures { λ r. ⌜ ((carry owners offsets : List ℕ) →
+        (let t = slots (now (frames .entry)) (now (starts .entry)) count (now (forms .entry)) carry owners offsets in
+        r .0 ≡ nextPlace (programOf t) (from .0))) ⌝ }
 {
     let mut j = from.0;
     while j < count {

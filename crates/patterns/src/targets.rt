@@ -8,19 +8,22 @@ use slots::GONE;
 use slots::argument_in;
 use slots::frame_at;
 use slots::kind_at;
+use slots::links_at;
 use slots::pair_in;
 ghost use mathlib.Core.Path.{_≡_};
 ghost use mathlib.Core.Bool.{true};
 ghost use mathlib.Core.List.{List};
 ghost use Prim.Native.Nat.{ℕ, _<_};
-ghost use lib.ListN.{getD};
+ghost use lib.Dec.{eqb};
+ghost use lib.ListN.{length, getD};
+ghost use Rattle.expression.specs.Naming.{Referred};
 ghost use Rattle.laws.specs.Options.{isSome};
 ghost use Rattle.rules.specs.Forms.{isTransfer};
 ghost use Rattle.rules.specs.Rewriting.{branch, unconditional, localLabel, bareIn, namesBare};
 ghost use Rattle.listing.specs.Tables.{frameAt, Held};
 ghost use Rattle.rules.specs.Programs.{kindOf};
 ghost use Rattle.slots.specs.Slots.{slots, slotAt, targetOf, Sound};
-ghost use Rattle.patterns.specs.Targets.{standsAt, formIn, instrAt, labelAs, TargetIn, lastBytes};
+ghost use Rattle.patterns.specs.Targets.{standsAt, formIn, instrAt, labelAs, TargetIn, lastBytes, lastLinks};
 
 // An owner from here on is none.
 pub const NO_OWNER: usize = 1024;
@@ -49,7 +52,9 @@ pub fn form_at(
     at: Place,
 ) -> u8
     requires { ⌜ Held (now frames) (now starts) count ⌝ }
-    ensures { λ r. ⌜ ((carry owners offsets : List ℕ) → r ≡ formIn (standsAt (slots (now (frames .entry)) (now (starts .entry)) count (now (forms .entry)) carry owners offsets) (at .0))) ⌝ }
+    ensures { λ r. ⌜ ((carry owners offsets : List ℕ) →
+        (let t = slots (now (frames .entry)) (now (starts .entry)) count (now (forms .entry)) carry owners offsets in
+        r ≡ formIn (standsAt t (at .0)))) ⌝ }
 {
     let i = at.0;
     if count <= i {
@@ -70,7 +75,9 @@ pub fn branch_at(
     at: Place,
 ) -> bool
     requires { ⌜ Held (now frames) (now starts) count × (form < 70) ⌝ }
-    ensures { λ r. ⌜ ((carry owners offsets : List ℕ) → r ≡ isSome (branch form (standsAt (slots (now (frames .entry)) (now (starts .entry)) count (now (forms .entry)) carry owners offsets) (at .0)))) ⌝ }
+    ensures { λ r. ⌜ ((carry owners offsets : List ℕ) →
+        (let t = slots (now (frames .entry)) (now (starts .entry)) count (now (forms .entry)) carry owners offsets in
+        r ≡ isSome (branch form (standsAt t (at .0))))) ⌝ }
 {
     form_at(frames, starts, count, forms, at) == form
 }
@@ -83,7 +90,9 @@ pub fn unconditional_at(
     at: Place,
 ) -> bool
     requires { ⌜ Held (now frames) (now starts) count ⌝ }
-    ensures { λ r. ⌜ ((carry owners offsets : List ℕ) → r ≡ isSome (unconditional (standsAt (slots (now (frames .entry)) (now (starts .entry)) count (now (forms .entry)) carry owners offsets) (at .0)))) ⌝ }
+    ensures { λ r. ⌜ ((carry owners offsets : List ℕ) →
+        (let t = slots (now (frames .entry)) (now (starts .entry)) count (now (forms .entry)) carry owners offsets in
+        r ≡ isSome (unconditional (standsAt t (at .0))))) ⌝ }
 {
     is_unconditional(form_at(frames, starts, count, forms, at))
 }
@@ -96,7 +105,9 @@ pub fn local_label_at(
     at: Place,
 ) -> LocalLabel
     requires { ⌜ Held (now frames) (now starts) count ⌝ }
-    ensures { λ r. ⌜ ((carry owners offsets : List ℕ) → r ≡ labelAs (localLabel (standsAt (slots (now (frames .entry)) (now (starts .entry)) count (now (forms .entry)) carry owners offsets) (at .0)))) ⌝ }
+    ensures { λ r. ⌜ ((carry owners offsets : List ℕ) →
+        (let t = slots (now (frames .entry)) (now (starts .entry)) count (now (forms .entry)) carry owners offsets in
+        r ≡ labelAs (localLabel (standsAt t (at .0))))) ⌝ }
 {
     let i = at.0;
     if count <= i {
@@ -122,37 +133,70 @@ pub fn target_in<'a>(frames: &'a [u8], starts: &[u16; 1025], count: usize, at: P
     &frame[a..]
 }
 
-// The target that was written at a place is the bare name n. One that became an inner label is not.
+// The links beside them.
+pub fn target_links<'a>(
+    frames: &[u8],
+    starts: &[u16; 1025],
+    count: usize,
+    links: &'a [u16],
+    at: Place,
+) -> &'a [u16]
+    requires { ⌜ Held (now frames) (now starts) count × TargetIn (now frames) (now starts) count (at .0) × (length (now links) ≡ 28672) ⌝ }
+    ensures { λ r. ⌜ now r ≡ lastLinks (frameAt (now (frames .entry)) (now (starts .entry)) (at .0))
+        (frameAt (now (links .entry)) (now (starts .entry)) (at .0)) ⌝ }
+{
+    let frame = frame_at(frames, starts, count, at);
+    let beside = links_at(links, starts, at);
+    let a = argument_in(frame, at, operand_count(frame[1]) - 1);
+    &beside[a..]
+}
+
+// The target that was written at a place is one name, which the statement at `place` defines. One that became an inner label is not.
 fn is_bare_target(
     frames: &[u8],
     starts: &[u16; 1025],
     count: usize,
     owners: &[u16; 1024],
+    links: &[u16; 28672],
     at: Place,
-    n: u16,
+    place: usize,
 ) -> bool
-    requires { ⌜ Held (now frames) (now starts) count × TargetIn (now frames) (now starts) count (at .0) ⌝ }
-    ensures { λ r. ⌜ ((forms carry offsets : List ℕ) → r ≡ bareIn n (targetOf (slots (now (frames .entry)) (now (starts .entry)) count forms carry (now (owners .entry)) offsets) (at .0))) ⌝ }
+    requires { ⌜ Held (now frames) (now starts) count × TargetIn (now frames) (now starts) count (at .0) × (length (now links) ≡ 28672) ⌝ }
+    ensures { λ r. ⌜ ((n : ℕ) → Referred (λ m. eqb m n) (frameAt (now (frames .entry)) (now (starts .entry)) (at .0))
+        (frameAt (now (links .entry)) (now (starts .entry)) (at .0)) place → (forms carry offsets : List ℕ)
+        → (let t = slots (now (frames .entry)) (now (starts .entry)) count forms carry (now (owners .entry)) offsets in
+        r ≡ bareIn n (targetOf t (at .0)))) ⌝ }
 {
     if number_at(owners, at) < NO_OWNER {
         return false;
     }
-    is_bare(target_in(frames, starts, count, at), n)
+    is_bare(
+        target_in(frames, starts, count, at),
+        target_links(frames, starts, count, links, at),
+        place,
+    )
 }
 
-// The target that the transfer at a place carries is the bare name n.
+// The target that the transfer at a place carries is one name, which the statement at `place` defines.
 pub fn names_bare(
     frames: &[u8],
     starts: &[u16; 1025],
     count: usize,
     carry: &[u16; 1024],
     owners: &[u16; 1024],
+    links: &[u16; 28672],
     at: Place,
-    n: u16,
+    place: usize,
 ) -> bool
-    requires { ⌜ Held (now frames) (now starts) count × (at .0 < count) × TargetIn (now frames) (now starts) count (getD (now carry) (at .0) 0) ⌝ }
-    ensures { λ r. ⌜ ((forms offsets : List ℕ) → Sound (slots (now (frames .entry)) (now (starts .entry)) count forms (now (carry .entry)) (now (owners .entry)) offsets) → kindOf (slotAt (slots (now (frames .entry)) (now (starts .entry)) count forms (now (carry .entry)) (now (owners .entry)) offsets) (at .0)) ≡ 1 → isTransfer (getD forms (at .0) 0) ≡ true → r ≡ namesBare n (instrAt (slots (now (frames .entry)) (now (starts .entry)) count forms (now (carry .entry)) (now (owners .entry)) offsets) (at .0))) ⌝ }
+    requires { ⌜ Held (now frames) (now starts) count × (at .0 < count)
+        × TargetIn (now frames) (now starts) count (getD (now carry) (at .0) 0) × (length (now links) ≡ 28672) ⌝ }
+    ensures { λ r. ⌜ (let c = getD (now (carry .entry)) (at .0) 0 in
+        (n : ℕ) → Referred (λ m. eqb m n) (frameAt (now (frames .entry)) (now (starts .entry)) c)
+        (frameAt (now (links .entry)) (now (starts .entry)) c) place → (forms offsets : List ℕ) →
+        (let t = slots (now (frames .entry)) (now (starts .entry)) count forms (now (carry .entry)) (now (owners .entry)) offsets in
+        Sound t → kindOf (slotAt t (at .0)) ≡ 1 → isTransfer (getD forms (at .0) 0) ≡ true
+        → r ≡ namesBare n (instrAt t (at .0)))) ⌝ }
 {
     let written = Place(number_at(carry, at));
-    is_bare_target(frames, starts, count, owners, written, n)
+    is_bare_target(frames, starts, count, owners, links, written, place)
 }

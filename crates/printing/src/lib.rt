@@ -40,7 +40,8 @@ pub fn print_run(
     page: &mut [u8; 62482],
     image: &mut [u8; 65536],
 ) -> Answer
-    ensures { λ r. ⌜ PrintedRun asked (now (listing .entry)) (now (page .entry)) (now (image .entry)) r (now (page .exit)) (now (image .exit)) ⌝ }
+    ensures { λ r. ⌜ PrintedRun asked (now (listing .entry)) (now (page .entry)) (now (image .entry)) r
+        (now (page .exit)) (now (image .exit)) ⌝ }
 {
     let answer = run_into(asked, listing, page, image);
     end_page(answer, page);

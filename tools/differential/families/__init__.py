@@ -4,7 +4,7 @@ import random
 from . import code, lines, names, places, texts, values
 
 EVERYDAY = code.FAMILIES + names.FAMILIES + places.FAMILIES + values.FAMILIES + texts.FAMILIES + lines.FAMILIES
-LARGE = texts.LARGE + lines.LARGE
+LARGE = texts.LARGE + names.LARGE + lines.LARGE
 BY_NAME = {family.__name__: family for family in EVERYDAY + LARGE}
 
 

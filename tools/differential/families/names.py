@@ -1,7 +1,7 @@
 """Families about names: contexts, variables, constants as targets, names defined again, data that name labels."""
 from .build import (address, branch, comment, data, filler, instr, jump, label, name, number, one_of, size_of, text_of, tree, variable,
                     with_target)
-from .code import TRANSFERS, shuffled
+from .code import TRANSFERS, inverted, shuffled, tramp
 
 
 def contexts(rng):
@@ -117,4 +117,24 @@ def data_with_labels(rng):
     return text_of(result + rng.choice([[], [comment()]]))
 
 
+def many_names(rng):
+    """C-14: hundreds of names in many contexts, the same locals in each; a context names its own, the globals and the variables above it."""
+    result, globals_, known = [], [1 + i for i in range(rng.randint(20, 50))], []
+    for g in globals_:
+        here = [0x8000 + i for i in range(rng.randint(3, 7))]
+        parts = [[label(k)] for k in here[2:]]
+        for _ in range(rng.randint(1, 4)):
+            near, far = name(rng.choice(here)), name(rng.choice(here + globals_ + known))
+            parts.append(one_of(rng, lambda: [jump(rng, near)], lambda: [branch(rng, near)], lambda: [instr("Jmpf", far)], lambda: [instr("Callf", far)],
+                                lambda: [data("words", far)], lambda: filler(rng, 2)))
+        parts.append(one_of(rng, lambda: inverted(rng, here[0], here) + [label(here[1])], lambda: tramp(rng, here[0], here[1], here),
+                            lambda: [label(here[0]), label(here[1])]))
+        result += [label(g)] + shuffled(rng, parts)
+        if rng.random() < 0.3:
+            result.append(variable(0x5000 + g, rng.choice([name(g), number(g), ("plus", name(rng.choice(known or [g])), number(1))])))
+            known.append(0x5000 + g)
+    return text_of(result[:1024])
+
+
 FAMILIES = [contexts, variables, constants, again, data_with_labels]
+LARGE = [many_names]

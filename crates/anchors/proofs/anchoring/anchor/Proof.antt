@@ -11,7 +11,7 @@ fill-moving-requires c κs =
       search needs,
       λ carry owners offsets.
           placed-any (s .args .frames .now) (s .args .starts .now) (s .args .count) (s .args .forms .now) (s .args .carry .now) (s .args .bare .now) (s .args .none .now)
-          (s .args .contexts .now) (record { context = s .pre .0 .0 .context }) carry owners offsets .context,
+          (s .args .contexts .now) (s .pre .0 .2) carry owners offsets .context,
     )
 
 anchor-targets-requires : tie.Need-anchor-targets-requires

@@ -34,16 +34,16 @@ pub record Filling (d : Tables) (moving : List Key) (i : ℕ) (owners₀ offsets
   pub offset-room : length offsets ≡ 1024
 
 abbrev Inv-loop : tie.InvT-loop
-Inv-loop frames starts count forms carry bare none names contexts values positions moving owners₀ offsets₀ i₀ owners offsets i =
-    Filling (tables frames starts count forms carry bare none names contexts values positions) (keysOf moving contexts count) i owners₀ offsets₀ owners offsets
+Inv-loop frames starts count forms carry bare none contexts links values positions moving owners₀ offsets₀ i₀ owners offsets i =
+    Filling (tables frames starts count forms carry bare none links values positions) (keysOf moving contexts count) i owners₀ offsets₀ owners offsets
 
 abbrev μ-loop : tie.MeasureT-loop
-μ-loop frames starts count forms carry bare none names contexts values positions moving owners₀ offsets₀ i₀ owners offsets i = count - i
+μ-loop frames starts count forms carry bare none contexts links values positions moving owners₀ offsets₀ i₀ owners offsets i = count - i
 
 abbrev here : tie.Start Inv-loop μ-loop → Tables
 here s =
     tables (s .args .frames .now) (s .args .starts .now) (s .args .count) (s .args .forms .now) (s .args .carry .now) (s .args .bare .now) (s .args .none .now)
-    (s .args .names .now) (s .args .contexts .now) (s .args .values .now) (s .args .positions .now)
+    (s .args .links .now) (s .args .values .now) (s .args .positions .now)
 
 abbrev movingKeys : tie.Start Inv-loop μ-loop → List Key
 movingKeys s = keysOf (s .args .moving .now) (s .args .contexts .now) (s .args .count)
@@ -55,7 +55,7 @@ loop-holds c =
     record { low = omega arith; owner = refl; offset = refl; owner-room = s .pre .1 .0; offset-room = s .pre .1 .1 }
 
 origin-at-requires : tie.Need-origin-at-requires Inv-loop μ-loop
-origin-at-requires c κs = let s = c .before .before .before in (s .pre .0 .0, s .pre .0 .1, c .loop-test .taken)
+origin-at-requires c κs = let s = c .before .before .before in (s .pre .0 .0, s .pre .0 .1, s .pre .0 .2, c .loop-test .taken)
 
 small-in : (t : Slots) (o : Origin) → t .count ≤ 1024 → OriginIn t o → Small o
 small-in t (At i o) l h = (omega (arith, h .0), omega (arith, h .2))
@@ -120,10 +120,9 @@ returns c =
     let d = here s in
     let n = d .slots .count in
     let all : (k : ℕ) → k < n → k < l .i = λ k m. omega (arith, c .loop-test .left) in (
-      tables-anchored (d .slots) (s .pre .0 .0 .sound) (s .pre .0 .1) _ _ (d .entries) (movingKeys s)
+      tables-anchored (d .slots) (s .pre .0 .0 .sound) (s .pre .0 .1) _ _ (movingKeys s)
           (λ k m. get-filled (ownerAt d (movingKeys s)) (l .i) _ _ k 0 (l .inv .owner) (all k m))
           (λ k m. get-filled (offsetAt d (movingKeys s)) (l .i) _ _ k 0 (l .inv .offset) (all k m))
-          (s .pre .0 .2)
           (s .pre .1 .2),
       (l .inv .owner-room, l .inv .offset-room),
     )

@@ -24,7 +24,7 @@ module _ (s : tie.Start) where
   abbrev here : Tables
   here =
       tables (s .args .frames .now) (s .args .starts .now) (s .args .count) (s .args .forms .now) (s .args .carry .now) (s .args .bare .now) (s .args .none .now)
-      (s .args .names .now) (s .args .contexts .now) (s .args .values .now) (s .args .positions .now)
+      (s .args .links .now) (s .args .values .now) (s .args .positions .now)
 
   abbrev place : ℕ
   place = s .args .at .0
@@ -49,7 +49,7 @@ returns c =
     record { answer = sym (ap originAs (origin-other (d .entries) (moving s) (program d) (place s) (sym (tested k) ∙ not-true _ (c .if1 .taken)))); inside = tt }
 
 is-change-jump-requires : tie.Need-is-change-jump-requires
-is-change-jump-requires c κs = let s = c .before .before .before .before in (s .pre .0, s .pre .2)
+is-change-jump-requires c κs = let s = c .before .before .before .before in (s .pre .0, s .pre .3)
 
 returns-2 : tie.Need-returns-2
 returns-2 c =
@@ -66,7 +66,7 @@ target-value-requires : tie.Need-target-value-requires
 target-value-requires c κs =
     let m = c .before .before in
     let s = m .before .before .before .before in
-    (s .pre .0 .sound .held, own-target (here s .slots) (s .pre .0 .sound) (s .pre .1) (place s) (s .pre .2) (moves m))
+    (s .pre .0 .sound .held, own-target (here s .slots) (s .pre .0 .sound) (s .pre .1) (place s) (s .pre .3) (moves m), s .pre .0 .says .full)
 
 value-origin-requires : tie.Need-value-origin-requires
 value-origin-requires c κs =
@@ -88,11 +88,11 @@ returns-3 c =
       answer =
           f .answer
           ∙ ap (λ x. originAs (origin (program d) x))
-          (v .target-value .ensures
-          ∙ ap (λ (k : ℕ). constantValue (d .entries) (moving s) k (lastOf (argsOf (written (d .slots) (place s))))) (s .pre .0 .context (place s) (s .pre .2)))
+          (v .target-value .ensures (d .entries) (rw (s .pre .2 .context (place s) (s .pre .3)) (s .pre .0 .says .linked (place s) (s .pre .3)))
+          ∙ ap (λ (k : ℕ). constantValue (d .entries) (moving s) k (lastOf (argsOf (written (d .slots) (place s))))) (s .pre .2 .context (place s) (s .pre .3)))
           ∙ sym
           (ap originAs
-          (origin-target (d .slots) (s .pre .0 .sound) (s .pre .1) (place s) (s .pre .2) (moves m) (d .entries) (moving s) (sym (j .is-change-jump .ensures) ∙ v .before .if2 .left)));
+          (origin-target (d .slots) (s .pre .0 .sound) (s .pre .1) (place s) (s .pre .3) (moves m) (d .entries) (moving s) (sym (j .is-change-jump .ensures) ∙ v .before .if2 .left)));
       inside = f .inside;
     }
 

@@ -18,7 +18,7 @@ module _ (s : tie.Start) where
   abbrev here : Tables
   here =
       tables (s .args .frames .now) (s .args .starts .now) (s .args .count) (s .args .forms .now) (s .args .carry .now) (s .args .owners .now) (s .args .offsets .now)
-      (s .args .names .now) (s .args .contexts .now) (s .args .values .now) (s .args .positions .now)
+      (s .args .links .now) (s .args .values .now) (s .args .positions .now)
 
   abbrev place : ℕ
   place = s .args .at .0

@@ -16,7 +16,7 @@ module _ (s : tie.Start) where
   abbrev here : Tables
   here =
       tables (s .args .frames .now) (s .args .starts .now) (s .args .count) (s .args .forms .now) (s .args .carry .now) (s .args .owners .now) (s .args .offsets .now)
-      (s .args .names .now) (s .args .contexts .now) (s .args .values .now) (s .args .positions .now)
+      (s .args .links .now) (s .args .values .now) (s .args .positions .now)
 
   abbrev place : ℕ
   place = s .args .j .0
@@ -30,10 +30,8 @@ module _ (s : tie.Start) where
 argument-worth-requires : tie.Need-argument-worth-requires
 argument-worth-requires c κs =
     let s = c .before in
-    let r = s .pre .0 in (
-      (r .sound, λ k l. r .low k (omega arith), s .pre .1),
-      (not1-kind (here s) r (place s) (s .pre .1) (s .pre .2), omega (arith, not1-operands (here s) r (place s) (s .pre .1) (s .pre .2))),
-    )
+    let r = s .pre .0 in
+    (r, s .pre .1, not1-kind (here s) r (place s) (s .pre .1) (s .pre .2), omega (arith, not1-operands (here s) r (place s) (s .pre .1) (s .pre .2)))
 
 first-is : (c : tie.After-is-number) → c .is-number .result ≡ first (c .before .before .before)
 first-is c = c .is-number .ensures ∙ ap (isNumber 0x10D) (c .before .argument-worth .ensures)
@@ -47,10 +45,8 @@ returns c =
 argument-worth-requires-2 : tie.Need-argument-worth-requires-2
 argument-worth-requires-2 c κs =
     let s = c .before .before .before .before in
-    let r = s .pre .0 in (
-      (r .sound, λ k l. r .low k (omega arith), s .pre .1),
-      (not1-kind (here s) r (place s) (s .pre .1) (s .pre .2), omega (arith, not1-operands (here s) r (place s) (s .pre .1) (s .pre .2))),
-    )
+    let r = s .pre .0 in
+    (r, s .pre .1, not1-kind (here s) r (place s) (s .pre .1) (s .pre .2), omega (arith, not1-operands (here s) r (place s) (s .pre .1) (s .pre .2)))
 
 returns-2 : tie.Need-returns-2
 returns-2 c =

@@ -4,8 +4,8 @@ use Prim.Native.Nat.{ℕ}
 use borrow.Author.Needs.{needs}
 use Rattle.laws.proofs.Tests.{false-true}
 use Rattle.slots.specs.Slots.{Slots, slots}
+use Rattle.slots.specs.Links.{contextsRead}
 use Rattle.asm.proofs.Carrying.{placed-any}
-use Rattle.asm.proofs.Passing.{named-of}
 use Rattle.asm.proofs.Ending.{ready-of, fails-refused, assembles-last}
 use Rattle.asm.proofs.candidates.assembles.Statement.{statement}
 use Rattle.asm.proofs.candidates.assembles.Tie as tie
@@ -16,62 +16,51 @@ over c carry owners offsets = slots (c .args .frames .now) (c .args .starts .now
 abbrev here : (c : tie.Start) → Slots
 here c = over c (c .args .carry .now) (c .args .owners .now) (c .args .offsets .now)
 
-fill-names-requires : tie.Need-fill-names-requires
-fill-names-requires c κs = let s = c .before .before in (s .pre .0 .held, search needs)
-
 lay-and-define-requires : tie.Need-lay-and-define-requires
 lay-and-define-requires c κs =
-    let f = c .before .before .before in
-    let s = f .before .before .before in (
+    let s = c .before .before .before in (
       s .pre .0 .held,
-      s .pre .4,
+      s .pre .6,
       search needs,
-      λ carry owners offsets.
-          named-of (over s carry owners offsets) _ _ _ (f .fill-names .ensures .1 carry owners offsets)
-          (placed-any (s .args .frames .now) (s .args .starts .now) (s .args .count) (s .args .forms .now) (s .args .carry .now) (s .args .owners .now) (s .args .offsets .now) (s .args .contexts .now) (s .pre .1) carry owners offsets),
+      s .pre .4,
+      placed-any (s .args .frames .now) (s .args .starts .now) (s .args .count) (s .args .forms .now) (s .args .carry .now) (s .args .owners .now) (s .args .offsets .now)
+          (contextsRead (s .args .frames .now) (s .args .starts .now) (s .args .count)) (s .pre .1),
     )
-
-enum-told : tie.Need-enum-told
-enum-told c = search needs
-
-enum-told-2 : tie.Need-enum-told-2
-enum-told-2 c = search needs
 
 encodes-all-requires : tie.Need-encodes-all-requires
 encodes-all-requires c κs =
-    let e = c .before .before .before in
+    let e = c .before .before in
     let n = e .before .before in
-    let s = n .before .before .before .before .before .before .before in (
-      ready-of (here s) _ _ _ _ (s .pre .0) (s .pre .1)
-          (n .lay-and-define .ensures (s .args .carry .now) (s .args .owners .now) (s .args .offsets .now) (s .pre .2) .filled (e .enum-told2 .given .1)),
-      s .pre .3,
+    let s = n .before .before .before .before in (
+      ready-of (here s) _ _ _ (s .pre .0) (s .pre .2) (s .pre .1)
+          (n .lay-and-define .ensures (s .args .carry .now) (s .args .owners .now) (s .args .offsets .now) (s .pre .3) .filled (e .enum-told2 .given .1)),
+      s .pre .5,
     )
 
 returns : tie.Need-returns
 returns c =
     let n = c .before .before in
-    let s = n .before .before .before .before .before .before .before in (
-      fails-refused (here s) _ _ _ _ _ (c .enum-told .given .0 .0)
-          (n .lay-and-define .ensures (s .args .carry .now) (s .args .owners .now) (s .args .offsets .now) (s .pre .2)) (c .enum-told .given .1),
+    let s = n .before .before .before .before in (
+      fails-refused (here s) _ _ _ _ (c .enum-told .given .0 .0)
+          (n .lay-and-define .ensures (s .args .carry .now) (s .args .owners .now) (s .args .offsets .now) (s .pre .3)) (c .enum-told .given .1),
       λ e. false-true e,
     )
 
 returns-2 : tie.Need-returns-2
 returns-2 c =
-    let e = c .before .before .before .before in
+    let e = c .before .before .before in
     let n = e .before .before in
-    let s = n .before .before .before .before .before .before .before in
-    let filled = n .lay-and-define .ensures (s .args .carry .now) (s .args .owners .now) (s .args .offsets .now) (s .pre .2) .filled (e .enum-told2 .given .1) in
-    (assembles-last (here s) _ _ _ _ _ filled (c .encodes-all .ensures), λ d. filled .place)
+    let s = n .before .before .before .before in
+    let filled = n .lay-and-define .ensures (s .args .carry .now) (s .args .owners .now) (s .args .offsets .now) (s .pre .3) .filled (e .enum-told2 .given .1) in
+    (assembles-last (here s) _ _ _ _ filled (c .encodes-all .ensures), λ d. filled .place)
 
 pub assembles-spec : {M : Type 1} → statement M
 assembles-spec =
     tie.close
     (tie.spec
-    fill-names-requires
     lay-and-define-requires
-    enum-told
-    enum-told-2
+    (λ c. search needs)
+    (λ c. search needs)
     encodes-all-requires
     returns
     returns-2)

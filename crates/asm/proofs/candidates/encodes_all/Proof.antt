@@ -11,7 +11,7 @@ use Rattle.asm.proofs.candidates.encodes_all.Tie as tie
 abbrev here : tie.Start → Tables
 here s =
     tables (s .args .frames .now) (s .args .starts .now) (s .args .count) (s .args .forms .now) (s .args .carry .now) (s .args .owners .now) (s .args .offsets .now)
-    (s .args .names .now) (s .args .contexts .now) (s .args .values .now) (s .args .positions .now)
+    (s .args .links .now) (s .args .values .now) (s .args .positions .now)
 
 encodes-at-requires : tie.Need-encodes-at-requires
 encodes-at-requires c κs = search needs

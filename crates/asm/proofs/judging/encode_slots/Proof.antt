@@ -14,7 +14,7 @@ abbrev asked : (c : tie.Start) → Judged (List ℕ)
 asked c =
     encodeSlots
     (tables (c .args .frames .now) (c .args .starts .now) (c .args .count) (c .args .forms .now) (c .args .carry .now) (c .args .owners .now) (c .args .offsets .now)
-    (c .args .names .now) (c .args .contexts .now) (c .args .values .now) (c .args .positions .now))
+    (c .args .links .now) (c .args .values .now) (c .args .positions .now))
 
 encode-all-requires : tie.Need-encode-all-requires
 encode-all-requires c κs = search needs

@@ -1,47 +1,53 @@
--- `asm::judging::judge` meets its contract: the names' refusal, or the encoding's verdict over the tables that they filled.
+-- `asm::judging::judge` meets its contract: 3 comes before all else.
+use mathlib.Core.Path.{_≡_, refl, sym, _∙_}
+use mathlib.Core.List.{List}
+use Prim.Native.Nat.{ℕ}
+use native.Mathlib.Omega.{arith}
 use borrow.Author.Needs.{needs}
-use Rattle.slots.specs.Slots.{Slots, slots}
-use Rattle.asm.proofs.Ending.{ready-of, judged-refused, judged-last}
+use Rattle.slots.specs.Slots.{Slots, slots, programOf}
+use Rattle.asm.proofs.Finds.{whole-placed}
+use Rattle.asm.proofs.Passing.{twice-refused, once-passes, prepared-refused}
+use Rattle.asm.proofs.Ending.{judged-refused}
 use Rattle.asm.proofs.judging.judge.Statement.{statement}
 use Rattle.asm.proofs.judging.judge.Tie as tie
 
+abbrev over : (c : tie.Start) → (carry owners offsets : List ℕ) → Slots
+over c carry owners offsets = slots (c .args .frames .now) (c .args .starts .now) (c .args .count) (c .args .forms .now) carry owners offsets
+
 abbrev here : (c : tie.Start) → Slots
-here c =
-    slots (c .args .frames .now) (c .args .starts .now) (c .args .count) (c .args .forms .now) (c .args .carry .now) (c .args .owners .now) (c .args .offsets .now)
+here c = over c (c .args .carry .now) (c .args .owners .now) (c .args .offsets .now)
 
-name-and-lay-requires : tie.Need-name-and-lay-requires
-name-and-lay-requires c κs = let s = c .before .before .before .before in (s .pre .0 .held, s .pre .1, s .pre .2, s .pre .3, s .pre .4)
-
-enum-known-r : tie.Need-enum-known-r
-enum-known-r c = search needs
-
-enum-told : tie.Need-enum-told
-enum-told c = search needs
-
-encode-slots-requires : tie.Need-encode-slots-requires
-encode-slots-requires c κs =
+judge-linked-requires : tie.Need-judge-linked-requires
+judge-linked-requires c κs =
     let e = c .before .before .before in
     let n = e .before .before in
-    let s = n .before .before .before .before .before in
-    ready-of (here s) _ _ _ _ (s .pre .0) (s .pre .4 (s .args .carry .now) (s .args .owners .now) (s .args .offsets .now))
-    (n .name-and-lay .ensures (s .args .carry .now) (s .args .owners .now) (s .args .offsets .now) .filled (e .enum-told .given .1))
+    let s = n .before .before .before in (
+      s .pre .0,
+      s .pre .1,
+      once-passes (programOf (here s)) (sym (e .enum-told .given .1) ∙ n .find-names .ensures .0 (s .args .carry .now) (s .args .owners .now) (s .args .offsets .now)),
+      n .find-names .ensures .1 .0 (e .enum-told .given .1),
+      s .pre .3,
+      s .pre .4,
+      λ carry owners offsets. whole-placed (over s carry owners offsets) (s .pre .5 carry owners offsets .1),
+    )
 
 returns : tie.Need-returns
 returns c =
     let n = c .before .before .before in
-    let s = n .before .before .before .before .before in
-    judged-refused (here s) _ _ _ _ _ _ (n .name-and-lay .ensures (s .args .carry .now) (s .args .owners .now) (s .args .offsets .now)) (c .before .r .given .1)
+    let s = n .before .before .before in
+    let t = here s in
+    let q = c .before .r .given .0 .0 in (
+      judged-refused t _ _ _ _ q
+          (prepared-refused t _ _ _ q (twice-refused (programOf t) q (sym (c .before .r .given .1) ∙ n .find-names .ensures .0 (s .args .carry .now) (s .args .owners .now) (s .args .offsets .now))))
+          refl,
+      λ z. absurd (let w : _≡_ {A = ℕ} 0 1 = cc in omega arith),
+    )
 
 returns-2 : tie.Need-returns-2
 returns-2 c =
     let e = c .before .before .before .before in
     let n = e .before .before in
-    let s = n .before .before .before .before .before in
-    judged-last (here s) _ _ _ _ _ (s .pre .0) (s .pre .4 (s .args .carry .now) (s .args .owners .now) (s .args .offsets .now))
-    (n .name-and-lay .ensures (s .args .carry .now) (s .args .owners .now) (s .args .offsets .now) .filled (e .enum-told .given .1))
-    (c .encode-slots .ensures)
+    (c .judge-linked .ensures, λ z. n .find-names .ensures .1 .0 (e .enum-told .given .1))
 
 pub judge-spec : {M : Type 1} → statement M
-judge-spec =
-    tie.close
-    (tie.spec name-and-lay-requires enum-known-r enum-told encode-slots-requires returns returns-2)
+judge-spec = tie.close (tie.spec (λ c κs. search needs) (λ c. search needs) (λ c. search needs) judge-linked-requires returns returns-2)

@@ -5,6 +5,7 @@ use Prim.Native.Nat.{ℕ}
 use borrow.Author.Needs.{needs}
 use Rattle.slots.specs.Slots.{Slots, slots, programOf}
 use Rattle.env.proofs.Filled.{filled-laid}
+use Rattle.env.proofs.Telling.{named-now}
 use Rattle.asm.proofs.Passing.{fit-refused, prepared-refused, prepared-last}
 use Rattle.asm.proofs.names.lay_and_define.Statement.{statement}
 use Rattle.asm.proofs.names.lay_and_define.Tie as tie
@@ -24,29 +25,31 @@ returns c carry owners offsets once =
     let l = c .before .before .before in
     let s = l .before .before .before in
     let t = over s carry owners offsets in
-    prepared-refused t _ _ _ _ _ (fit-refused (programOf t) once _ (sym (c .before .r .given .1) ∙ l .lay-out .ensures .1 carry owners offsets .answer))
+    prepared-refused t _ _ _ _ (fit-refused (programOf t) once _ (sym (c .before .r .given .1) ∙ l .lay-out .ensures .1 carry owners offsets .answer))
 
 enum-told : tie.Need-enum-told
 enum-told c = search needs
 
 define-all-requires : tie.Need-define-all-requires
 define-all-requires c κs =
-    let a = c .before .before in
+    let a = c .before .before .before in
     let l = a .before .before in
-    let s = l .before .before .before in (
-      s .pre .0,
-      s .pre .2,
+    let k = l .before .before in
+    let s = k .before in (
+      (s .pre .0, s .pre .2, s .pre .3),
       λ carry owners offsets.
-          filled-laid (over s carry owners offsets) _ _ _ (a .enum-told .given .1) _ _ (s .pre .3 carry owners offsets) (l .lay-out .ensures .1 carry owners offsets),
+          filled-laid (over s carry owners offsets) _ _ _ (a .enum-told .given .1) _ _
+          (named-now (over s carry owners offsets) (s .pre .0) (λ i. k .shared-slice-known .given i .fits) _ (s .pre .4 carry owners offsets .context))
+          (l .lay-out .ensures .1 carry owners offsets),
     )
 
 returns-2 : tie.Need-returns-2
 returns-2 c carry owners offsets once =
-    let a = c .before .before .before in
+    let a = c .before .before .before .before in
     let l = a .before .before in
     let s = l .before .before .before in
-    prepared-last (over s carry owners offsets) _ _ _ _ _ _ _ _ once (a .enum-told .given .1) (l .lay-out .ensures .1 carry owners offsets)
-    (c .define-all .ensures .1 carry owners offsets)
+    prepared-last (over s carry owners offsets) _ _ _ _ _ _ _ (s .pre .3) (s .pre .4 carry owners offsets) once (a .enum-told .given .1) (l .lay-out .ensures .1 carry owners offsets)
+    (c .define-all .ensures .1 carry owners offsets .0) (c .define-all .ensures .1 carry owners offsets .1)
 
 pub lay-and-define-spec : {M : Type 1} → statement M
 lay-and-define-spec =

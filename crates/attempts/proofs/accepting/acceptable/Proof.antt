@@ -11,7 +11,7 @@ over c = slots (c .args .frames .now) (c .args .starts .now) (c .args .count) (c
 assembles-requires : tie.Need-assembles-requires
 assembles-requires c κs =
     let s = c .before .before in
-    (s .pre .0 .sound, record { context = s .pre .0 .context }, s .pre .0 .named, s .pre .1, search needs)
+    (s .pre .0 .sound, s .pre .0 .context, s .pre .0 .together, s .pre .0 .named, s .pre .2, s .pre .1, search needs)
 
 offsets-fit-requires : tie.Need-offsets-fit-requires
 offsets-fit-requires c κs =

@@ -50,19 +50,19 @@ module _ (c : tie.After-put-two) where
   abbrev folded : Program
   folded = inverted old (start .args .to) (start .args .at .0) (start .args .jump .0)
 
-  held : Holding new (start .args .contexts .now) folded
+  held : Holding new folded
   held =
-      inverted-holds _ _ _ _ _ _ _ _ (start .pre .0) (start .args .to) (start .args .at .0) (start .args .jump .0) (c .put-two .last .0) (c .put-two .last .1 .0) (start .pre .1)
+      inverted-holds _ _ _ _ _ _ _ (start .pre .0) (start .args .to) (start .args .at .0) (start .args .jump .0) (c .put-two .last .0) (c .put-two .last .1 .0) (start .pre .1)
       (c .put-two .ensures .0) (c .put-two .ensures .1)
 
 acceptable-requires : tie.Need-acceptable-requires
-acceptable-requires c κs = let p = c .before .before in (held p .stands, start p .pre .1 .branches .inside)
+acceptable-requires c κs = let p = c .before .before in (held p .stands, start p .pre .1 .branches .inside, start p .pre .2)
 
 returns : tie.Need-returns
 returns c =
     let a = c .before in
     let p = a .before .before .before in
-    tried-kept (folded p) (start p .args .contexts .now) (old p) (new p) (held p) (a .acceptable .result) (a .acceptable .ensures) (c .if1 .taken)
+    tried-kept (folded p) (old p) (new p) (held p) (a .acceptable .result) (a .acceptable .ensures) (c .if1 .taken)
 
 put-two-requires-2 : tie.Need-put-two-requires-2
 put-two-requires-2 c κs =
@@ -77,8 +77,8 @@ returns-2 c =
     let a = f .before in
     let p = a .before .before .before in
     let s = start p in
-    tried-back _ _ _ _ _ _ _ (s .args .contexts .now) (s .pre .0) _ (c .put-two2 .last .0) (c .put-two2 .last .1 .0)
-    (tried-none (folded p) (s .args .contexts .now) (old p) (new p) (held p) (a .acceptable .result) (a .acceptable .ensures) (f .if1 .left))
+    tried-back _ _ _ _ _ _ _ (s .pre .0) _ (c .put-two2 .last .0) (c .put-two2 .last .1 .0)
+    (tried-none (folded p) (old p) (new p) (held p) (a .acceptable .result) (a .acceptable .ensures) (f .if1 .left))
     (undone-two (s .args .forms .now) (p .put-two .last .0) (c .put-two2 .last .0) (s .args .at .0) (s .args .jump .0) _ _ (s .pre .1 .rises) (p .put-two .ensures .0) (c .put-two2 .ensures .0))
     (undone (s .args .carry .now) (p .put-two .last .1 .0) (c .put-two2 .last .1 .0) (s .args .at .0) _ _ 0 (p .put-two .ensures .1) refl (c .put-two2 .ensures .1))
 

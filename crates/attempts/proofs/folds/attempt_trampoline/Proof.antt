@@ -75,17 +75,17 @@ module _ (c : tie.After-put-three) where
   abbrev folded : Program
   folded = bounced old (start .args .form) i skip target last
 
-  held : Holding new (start .args .contexts .now) folded
-  held = bounced-holds _ _ _ _ _ _ _ _ (start .pre .0) (start .args .form) i skip target last (c .put-three .last .0) (start .pre .1) (c .put-three .ensures)
+  held : Holding new folded
+  held = bounced-holds _ _ _ _ _ _ _ (start .pre .0) (start .args .form) i skip target last (c .put-three .last .0) (start .pre .1) (c .put-three .ensures)
 
 acceptable-requires : tie.Need-acceptable-requires
-acceptable-requires c κs = let p = c .before .before in (held p .stands, start p .pre .1 .branches .inside)
+acceptable-requires c κs = let p = c .before .before in (held p .stands, start p .pre .1 .branches .inside, start p .pre .2)
 
 returns : tie.Need-returns
 returns c =
     let a = c .before in
     let p = a .before .before .before in
-    tried-kept (folded p) (start p .args .contexts .now) (old p) (new p) (held p) (a .acceptable .result) (a .acceptable .ensures) (c .if1 .taken)
+    tried-kept (folded p) (old p) (new p) (held p) (a .acceptable .result) (a .acceptable .ensures) (c .if1 .taken)
 
 put-three-requires-2 : tie.Need-put-three-requires-2
 put-three-requires-2 c κs =
@@ -108,8 +108,8 @@ returns-2 c =
     let p = a .before .before .before in
     let s = start p in
     let b = s .pre .1 in
-    tried-back _ _ _ _ _ _ _ (s .args .contexts .now) (s .pre .0) _ (c .put-three2 .last .0) (set (set (own p) (i p) (getD (own p) (last p) 0)) (i p) (getD (own p) (i p) 0))
-    (tried-none (folded p) (s .args .contexts .now) (old p) (new p) (held p) (a .acceptable .result) (a .acceptable .ensures) (f .if1 .left))
+    tried-back _ _ _ _ _ _ _ (s .pre .0) _ (c .put-three2 .last .0) (set (set (own p) (i p) (getD (own p) (last p) 0)) (i p) (getD (own p) (i p) 0))
+    (tried-none (folded p) (old p) (new p) (held p) (a .acceptable .result) (a .acceptable .ensures) (f .if1 .left))
     (undone-three (s .args .forms .now) (p .put-three .last .0) (c .put-three2 .last .0) (skip p) (target p) (last p) _ _ _ (b .target-rises) (b .last-rises) (p .put-three .ensures) (c .put-three2 .ensures))
     (set-back (own p) (i p) (getD (own p) (last p) 0) (getD (own p) (i p) 0) 0 refl)
 

@@ -5,7 +5,7 @@ use Rattle.rules.specs.Rewriting.{candidate, invertedAt}
 use Rattle.slots.specs.Slots.{Slots, slots, programOf}
 use Rattle.patterns.specs.Matches.{InvertedFound}
 use Rattle.attempts.specs.Folds.{inverted}
-use Rattle.attempts.proofs.Attempts.{tried-as, tried-not}
+use Rattle.attempts.proofs.Attempts.{told, tried-as, tried-not}
 use Rattle.attempts.proofs.Found.{inverted-found, inverted-none, inverts, inverted-is}
 use Rattle.attempts.proofs.folds.try_inverted.Statement.{statement}
 use Rattle.attempts.proofs.folds.try_inverted.Tie as tie
@@ -18,7 +18,7 @@ module _ (s : tie.Start) where
   i = s .args .at .0
 
 inverted-at-requires : tie.Need-inverted-at-requires
-inverted-at-requires c κs = let s = c .before .before .before in (s .pre .0 .sound, s .pre .1, s .pre .2)
+inverted-at-requires c κs = let s = c .before .before .before in (s .pre .0 .sound, told (old s) (s .args .links .now) (s .pre .0) (s .pre .4), s .pre .1, s .pre .2)
 
 enum-known-jump : tie.Need-enum-known-jump
 enum-known-jump c = search needs
@@ -30,7 +30,7 @@ returns : tie.Need-returns
 returns c =
     let m = c .before .before in
     let s = m .before .before .before .before in
-    tried-not (invertedAt (s .args .from) (s .args .to) (programOf (old s)) (i s)) (s .args .contexts .now) (old s) (s .pre .0)
+    tried-not (invertedAt (s .args .from) (s .args .to) (programOf (old s)) (i s)) (old s) (s .pre .0)
     (inverted-none (old s) (s .args .from) (i s) (c .enum-told .given .1) (m .inverted-at .ensures) (s .args .to))
 
 -- the pattern that is found
@@ -51,13 +51,13 @@ attempt-inverted-requires : tie.Need-attempt-inverted-requires
 attempt-inverted-requires c κs =
     let j = c .before .before .before in
     let s = start j in
-    (s .pre .0, inverts (old s) (s .args .from) (i s) (jump j) (label j) (found j) (s .args .to) (s .pre .3))
+    (s .pre .0, inverts (old s) (s .args .from) (i s) (jump j) (label j) (found j) (s .args .to) (s .pre .3), s .pre .4)
 
 returns-2 : tie.Need-returns-2
 returns-2 c =
     let j = c .before .before .before .before in
     let s = start j in
-    tried-as (invertedAt (s .args .from) (s .args .to) (programOf (old s)) (i s)) (candidate (inverted (old s) (s .args .to) (i s) (jump j))) (s .args .contexts .now) (old s)
+    tried-as (invertedAt (s .args .from) (s .args .to) (programOf (old s)) (i s)) (candidate (inverted (old s) (s .args .to) (i s) (jump j))) (old s)
     _ (c .attempt-inverted .result)
     (inverted-is (old s) (s .args .from) (i s) (jump j) (label j) (found j) (s .args .to)) (c .attempt-inverted .ensures)
 

@@ -36,8 +36,8 @@ module _ (s : tie.Start) where
   abbrev formed : Program
   formed = set (programOf old) i (instr (s .args .form) (argsOf (slotAt old i)) (getD (s .args .carry .now) i 0))
 
-  held : Holding new (s .args .contexts .now) formed
-  held = formed-holds _ _ _ _ _ _ _ _ (s .pre .0) (s .args .form) i (s .pre .2) (s .pre .3) (s .pre .4)
+  held : Holding new formed
+  held = formed-holds _ _ _ _ _ _ _ (s .pre .0) (s .args .form) i (s .pre .2) (s .pre .3) (s .pre .4)
 
   abbrev deep : ℕ
   deep = getD (s .args .deepest .now) i 0
@@ -62,7 +62,7 @@ element-copy-out-if1 c = search needs
 returns : tie.Need-returns
 returns c =
     let s = c .before .before .before in
-    tried-not (shrunk (old s) (i s) (s .args .form)) (s .args .contexts .now) (old s) (s .pre .0) (blocked s (c .if1 .taken))
+    tried-not (shrunk (old s) (i s) (s .args .form)) (old s) (s .pre .0) (blocked s (c .if1 .taken))
 
 element-copy-out-old : tie.Need-element-copy-out-old
 element-copy-out-old c = search needs
@@ -71,15 +71,15 @@ element-write-forms : tie.Need-element-write-forms
 element-write-forms c = search needs
 
 acceptable-requires : tie.Need-acceptable-requires
-acceptable-requires c κs = let s = c .before .before .before .before .before in (held s .stands, s .pre .2)
+acceptable-requires c κs = let s = c .before .before .before .before .before in (held s .stands, s .pre .2, s .pre .5)
 
 returns-2 : tie.Need-returns-2
 returns-2 c =
     let a = c .before in
     let f = a .before .before .before in
     let s = f .before .before .before in
-    tried-as (shrunk (old s) (i s) (s .args .form)) (candidate (formed s)) (s .args .contexts .now) (old s) (new s) _ (free s (f .if1 .left))
-    (tried-kept (formed s) (s .args .contexts .now) (old s) (new s) (held s) (a .acceptable .result) (a .acceptable .ensures) (c .if2 .taken))
+    tried-as (shrunk (old s) (i s) (s .args .form)) (candidate (formed s)) (old s) (new s) _ (free s (f .if1 .left))
+    (tried-kept (formed s) (old s) (new s) (held s) (a .acceptable .result) (a .acceptable .ensures) (c .if2 .taken))
 
 element-write-forms-2 : tie.Need-element-write-forms-2
 element-write-forms-2 c = search needs
@@ -89,8 +89,8 @@ returns-3 c =
     let a = c .before in
     let f = a .before .before .before in
     let s = f .before .before .before in
-    tried-back _ _ _ _ _ _ _ (s .args .contexts .now) (s .pre .0) (shrunk (old s) (i s) (s .args .form)) _ (s .args .carry .now)
-    (free s (f .if1 .left) ∙ tried-none (formed s) (s .args .contexts .now) (old s) (new s) (held s) (a .acceptable .result) (a .acceptable .ensures) (c .if2 .left))
+    tried-back _ _ _ _ _ _ _ (s .pre .0) (shrunk (old s) (i s) (s .args .form)) _ (s .args .carry .now)
+    (free s (f .if1 .left) ∙ tried-none (formed s) (old s) (new s) (held s) (a .acceptable .result) (a .acceptable .ensures) (c .if2 .left))
     (set-back (s .args .forms .now) (i s) (s .args .form) (getD (s .args .forms .now) (i s) 0) 0 refl)
     refl
 

@@ -13,6 +13,7 @@ use Rattle.env.proofs.Filled.{get-filled}
 use Rattle.asm.specs.Starting.{formIn}
 use Rattle.asm.proofs.Started.{sound-start, program-as-read}
 use Rattle.entries.proofs.Phases.{leaves-program}
+use Rattle.entries.proofs.Stands.{own-together, whole-start}
 use Rattle.entries.proofs.assembling.assemble_read.Statement.{statement}
 use Rattle.entries.proofs.assembling.assemble_read.Tie as tie
 
@@ -32,10 +33,14 @@ place-slots-requires c κs =
     let f = y .before .before in
     let s = f .before .before .before .before in
     let n = s .args .count in
-    sound-start (s .args .frames .now) (s .args .starts .now) n (s .pre) _ _ _ _
-    (λ i l. get-filled (λ k. formIn (frameAt (s .args .frames .now) (s .args .starts .now) k)) n _ _ i 0 (f .start-forms .ensures) l)
-    (λ i l. get-filled (λ k. k) n _ _ i 0 (y .start-carry .ensures) l)
-    (λ d l. none n d (s .pre .few) l)
+    let mine : (i : ℕ) → i < n → getD (y .start-carry .last .1 .0) i 0 ≡ i = λ i l. get-filled (λ k. k) n _ _ i 0 (y .start-carry .ensures) l in (
+      sound-start (s .args .frames .now) (s .args .starts .now) n (s .pre) _ _ _ _
+          (λ i l. get-filled (λ k. formIn (frameAt (s .args .frames .now) (s .args .starts .now) k)) n _ _ i 0 (f .start-forms .ensures) l)
+          mine
+          (λ d l. none n d (s .pre .few) l),
+      own-together _ mine,
+      whole-start (s .args .frames .now) (s .args .starts .now) n _ _ (s .pre) (f .start-forms .ensures),
+    )
 
 same-length : tie.Need-same-length
 same-length c = search needs

@@ -16,7 +16,7 @@ use Rattle.entries.proofs.assembling.finish.Tie as tie
 abbrev here : (c : tie.Start) → Tables
 here c =
     tables (c .args .frames .now) (c .args .starts .now) (c .args .count) (c .args .forms .now) (c .args .carry .now) (c .args .owners .now) (c .args .offsets .now)
-    (c .args .names .now) (c .args .contexts .now) (c .args .values .now) (c .args .positions .now)
+    (c .args .links .now) (c .args .values .now) (c .args .positions .now)
 
 there : (c : tie.Start) → encodeSlots (here c) ≡ ok (imageOf (here c))
 unfolding imageOf
@@ -26,7 +26,7 @@ there c = is-there (encodeSlots (here c)) (c .pre .1)
 counted : (c : tie.After-image-length) → c .image-length .result ≡ length (imageOf (here (c .before .before .before)))
 counted c =
     let s = c .before .before .before in
-    c .image-length .ensures (s .args .carry .now) (s .args .owners .now) (s .args .offsets .now) (s .args .names .now) (s .args .contexts .now) (s .args .values .now) (s .pre .0) (s .pre .1)
+    c .image-length .ensures (s .args .carry .now) (s .args .owners .now) (s .args .offsets .now) (s .args .links .now) (s .args .values .now) (s .pre .0) (s .pre .1)
 
 image-length-requires : tie.Need-image-length-requires
 image-length-requires c κs = c .before .before .pre .0 .sound .held

@@ -33,7 +33,7 @@ finish-requires c κs =
     let j = e .before .before in
     let s = j .before .before .before .before .before .before in
     let told = e .enum-told .given .1 in
-    let v = j .judge .ensures in
+    let v = j .judge .ensures .0 in
     (v .ready told, ap isOk (sym (v .encodes told)) ∙ good-ok (judge (programOf (here s))) (sym told ∙ v .answer))
 
 returns : tie.Need-returns
@@ -41,7 +41,7 @@ returns c =
     let j = c .before .before .before in
     let s = j .before .before .before .before .before .before in
     leaves-refused (judge (programOf (here s))) _ (length (programOf (here s))) (s .args .image .now)
-    (bad-no (judge (programOf (here s))) _ (sym (c .before .r .given .1) ∙ j .judge .ensures .answer))
+    (bad-no (judge (programOf (here s))) _ (sym (c .before .r .given .1) ∙ j .judge .ensures .0 .answer))
 
 same-length : tie.Need-same-length
 same-length c = search needs
@@ -53,7 +53,7 @@ returns-2 c =
     let j = e .before .before in
     let s = j .before .before .before .before .before .before in
     leaves-same (s .args .count) (length (programOf (here s))) (length (s .args .image .now)) _ (judge (programOf (here s)))
-    (sym (length-program (here s))) (sym (j .judge .ensures .encodes (e .enum-told .given .1))) (f .finish .ensures)
+    (sym (length-program (here s))) (sym (j .judge .ensures .0 .encodes (e .enum-told .given .1))) (f .finish .ensures)
 
 pub judge-slots-spec : {M : Type 1} → statement M
 judge-slots-spec =

@@ -12,16 +12,17 @@ use Rattle.entries.proofs.assembling.place_slots.Statement.{statement}
 use Rattle.entries.proofs.assembling.place_slots.Tie as tie
 
 fill-contexts-requires : tie.Need-fill-contexts-requires
-fill-contexts-requires c κs = let s = c .before .before .before in (s .pre .held, search needs)
+fill-contexts-requires c κs = let s = c .before .before .before in (s .pre .0 .held, search needs)
 
 judge-slots-requires : tie.Need-judge-slots-requires
 judge-slots-requires c κs =
     let f = c .before .before in
     let s = f .before .before .before .before in (
-      s .pre,
+      s .pre .0,
+      s .pre .1,
       λ carry owners offsets.
           (let t = slots (s .args .frames .now) (s .args .starts .now) (s .args .count) (s .args .forms .now) carry owners offsets in
-          record { context = λ i l. get-filled (contextAt (programOf t)) (s .args .count) _ _ i 0 (f .fill-contexts .ensures .1 carry owners offsets) l }),
+          (record { context = λ i l. get-filled (contextAt (programOf t)) (s .args .count) _ _ i 0 (f .fill-contexts .ensures .1 carry owners offsets) l }, s .pre .2)),
     )
 
 same-length : tie.Need-same-length

@@ -18,7 +18,7 @@ use Rattle.entries.proofs.finishing.write_both.Tie as tie
 abbrev here : (c : tie.Start) → Tables
 here c =
     tables (c .args .frames .now) (c .args .starts .now) (c .args .count) (c .args .forms .now) (c .args .carry .now) (c .args .owners .now) (c .args .offsets .now)
-    (c .args .names .now) (c .args .contexts .now) (c .args .values .now) (c .args .positions .now)
+    (c .args .links .now) (c .args .values .now) (c .args .positions .now)
 
 -- what the listing says beside its statements
 abbrev beside : (c : tie.Start) → Beside
@@ -36,7 +36,7 @@ text-counted c =
 image-counted : (c : tie.After-image-length) → c .image-length .result ≡ length (result (c .before .before .before .before .before) .image)
 image-counted c =
     let s = c .before .before .before .before .before in
-    c .image-length .ensures (s .args .carry .now) (s .args .owners .now) (s .args .offsets .now) (s .args .names .now) (s .args .contexts .now) (s .args .values .now)
+    c .image-length .ensures (s .args .carry .now) (s .args .owners .now) (s .args .offsets .now) (s .args .links .now) (s .args .values .now)
     (s .pre .ready) (assembled-encodes (here s) (s .pre))
     ∙ ap length (image-result (here s) (s .pre) (beside s) (s .args .rewrites))
 

@@ -7,6 +7,7 @@ use Rattle.rules.specs.Judging.{judge}
 use Rattle.slots.specs.Slots.{Slots, slots, programOf}
 use Rattle.env.proofs.Programs.{length-program}
 use Rattle.entries.proofs.Phases.{bad-no}
+use Rattle.entries.proofs.Stands.{own-together}
 use Rattle.entries.proofs.Deliveries.{delivers-no}
 use Rattle.output.specs.Lines.{besideIn}
 use Rattle.entries.proofs.Results.{assembled-by, judged-no, judged-delivers}
@@ -19,7 +20,7 @@ here c = slots (c .args .frames .now) (c .args .starts .now) (c .args .count) (c
 judge-requires : tie.Need-judge-requires
 judge-requires c κs =
     let s = c .before .before .before .before .before .before .before .before in
-    (s .pre .0, search needs, search needs, search needs, s .pre .4)
+    (s .pre .0, own-together (here s) (s .pre .1 .own), search needs, search needs, search needs, s .pre .4)
 
 enum-known-r : tie.Need-enum-known-r
 enum-known-r c = search needs
@@ -32,7 +33,7 @@ anchor-judged-requires c κs =
     let e = c .before .before .before .before .before .before .before in
     let j = e .before .before in
     let s = j .before .before .before .before .before .before .before .before .before in
-    (assembled-by _ _ (e .enum-told .given .1) (j .judge .ensures), s .pre .1, s .pre .2, s .pre .3, s .pre .4)
+    (assembled-by _ _ (e .enum-told .given .1) (j .judge .ensures .0), s .pre .1, s .pre .2, s .pre .3, s .pre .4 _ _ _ .0, j .judge .ensures .1 (e .enum-told .given .1))
 
 returns : tie.Need-returns
 returns c =
@@ -42,7 +43,7 @@ returns c =
     let out = s .args .out .now in
     let image = s .args .image .now in
     delivers-no _ _ out image
-    (judged-no (s .args .asked) (besideIn (s .args .marked) (s .args .lines .now) (s .args .count)) (length out) (length image) p _ (bad-no (judge p) _ (sym (c .before .r .given .1) ∙ j .judge .ensures .answer)))
+    (judged-no (s .args .asked) (besideIn (s .args .marked) (s .args .lines .now) (s .args .count)) (length out) (length image) p _ (bad-no (judge p) _ (sym (c .before .r .given .1) ∙ j .judge .ensures .0 .answer)))
 
 same-length : tie.Need-same-length
 same-length c = search needs
@@ -56,7 +57,7 @@ returns-2 c =
     let e = a .before .before .before .before .before .before .before .before in
     let j = e .before .before in
     let s = j .before .before .before .before .before .before .before .before .before in
-    judged-delivers (s .args .asked) (besideIn (s .args .marked) (s .args .lines .now) (s .args .count)) (programOf (here s)) (s .args .count) (length-program (here s)) (assembled-by _ _ (e .enum-told .given .1) (j .judge .ensures) .good) (a .anchor-judged .ensures)
+    judged-delivers (s .args .asked) (besideIn (s .args .marked) (s .args .lines .now) (s .args .count)) (programOf (here s)) (s .args .count) (length-program (here s)) (assembled-by _ _ (e .enum-told .given .1) (j .judge .ensures .0) .good) (a .anchor-judged .ensures)
 
 pub judge-read-spec : {M : Type 1} → statement M
 judge-read-spec =

@@ -15,6 +15,7 @@ use Rattle.asm.specs.Starting.{formIn}
 use Rattle.asm.proofs.Started.{sound-start, program-as-read}
 use Rattle.anchors.proofs.Starts.{as-read-start}
 use Rattle.output.specs.Lines.{besideIn}
+use Rattle.entries.proofs.Stands.{whole-start}
 use Rattle.entries.proofs.Results.{delivers-program}
 use Rattle.entries.proofs.optimizing.optimize_read.Statement.{statement}
 use Rattle.entries.proofs.optimizing.optimize_read.Tie as tie
@@ -51,6 +52,7 @@ place-read-requires c κs =
       as-read-start _ _ n _ _ _ _ (s .pre .few) carry,
       full (own f) n _ (s .pre .few) forms,
       full (λ k. k) n _ (s .pre .few) carry,
+      whole-start (s .args .frames .now) (s .args .starts .now) n _ _ (s .pre) forms,
     )
 
 same-length : tie.Need-same-length

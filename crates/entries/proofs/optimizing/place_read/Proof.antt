@@ -19,7 +19,7 @@ judge-read-requires c κs =
       s .pre .3,
       λ carry owners offsets.
           (let t = slots (s .args .frames .now) (s .args .starts .now) (s .args .count) (s .args .forms .now) carry owners offsets in
-          record { context = λ i l. get-filled (contextAt (programOf t)) (s .args .count) _ _ i 0 (f .fill-contexts .ensures .1 carry owners offsets) l }),
+          (record { context = λ i l. get-filled (contextAt (programOf t)) (s .args .count) _ _ i 0 (f .fill-contexts .ensures .1 carry owners offsets) l }, s .pre .4)),
     )
 
 same-length : tie.Need-same-length

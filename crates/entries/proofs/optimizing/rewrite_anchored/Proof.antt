@@ -1,9 +1,9 @@
 -- `entries::optimizing::rewrite_anchored` meets its contract: comments go once all rewriting is done.
-use mathlib.Core.Path.{refl}
 use borrow.Author.Needs.{needs}
 use Rattle.output.specs.Lines.{besideIn}
 use Rattle.slots.specs.Slots.{Slots, slots}
-use Rattle.entries.proofs.Results.{shown-stands, optimized-fitted}
+use Rattle.entries.proofs.Stands.{shown-stands}
+use Rattle.entries.proofs.Results.{optimized-fitted}
 use Rattle.entries.proofs.optimizing.rewrite_anchored.Statement.{statement}
 use Rattle.entries.proofs.optimizing.rewrite_anchored.Tie as tie
 
@@ -21,7 +21,8 @@ judge-end-requires c κs =
     let h = c .before .before .before .before in
     let o = h .before .before .optimize .ensures in
     let s = h .before .before .before .before .before .before .before .before in
-    shown-stands (s .args .asked) _ _ (s .args .contexts .now) (o .stands) (o .good) (h .show .ensures .0) (o .stands .carry-full) refl (h .show .ensures .1 _ _ _ (o .stands .sound))
+    let r = shown-stands (s .args .asked) _ _ (h .show .ensures .1 _ _ _ (o .stands .sound)) (o .stands) (o .good) (h .show .ensures .0) in
+    (r .0, r .1, s .pre .2)
 
 same-length : tie.Need-same-length
 same-length c = search needs
@@ -35,7 +36,7 @@ returns c =
     let h = e .before .before .before .before .before in
     let o = h .before .before .optimize .ensures in
     let s = h .before .before .before .before .before .before .before .before in
-    optimized-fitted (s .args .asked) (besideIn (s .args .marked) (s .args .lines .now) (s .args .count)) (s .args .contexts .now) (here s) _ _ _ o (h .show .ensures .1 _ _ _ (o .stands .sound)) (e .judge-end .ensures)
+    optimized-fitted (s .args .asked) (besideIn (s .args .marked) (s .args .lines .now) (s .args .count)) (here s) _ _ _ o (h .show .ensures .1 _ _ _ (o .stands .sound)) (e .judge-end .ensures)
 
 pub rewrite-anchored-spec : {M : Type 1} → statement M
 rewrite-anchored-spec =

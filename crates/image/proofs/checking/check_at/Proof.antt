@@ -15,7 +15,8 @@ use Rattle.slots.proofs.Items.{data-kind}
 use Rattle.image.specs.Tables.{Tables, tables, program}
 use Rattle.image.specs.Encoding.{encodeAt, checkedAs, checkOf, itemsIn, boundOf, writeOf}
 use Rattle.image.proofs.Passes.{checked-code, encode-zeros}
-use Rattle.image.proofs.DataSlots.{DataSlot, data-slot}
+use Rattle.slots.proofs.Linking.{spans, length-beside}
+use Rattle.image.proofs.DataSlots.{DataSlot, data-slot, own-linked}
 use Rattle.image.proofs.checking.check_at.Statement.{statement}
 use Rattle.image.proofs.checking.check_at.Tie as tie
 
@@ -23,7 +24,7 @@ module _ (s : tie.Start) where
   abbrev here : Tables
   here =
       tables (s .args .frames .now) (s .args .starts .now) (s .args .count) (s .args .forms .now) (s .args .carry .now) (s .args .owners .now) (s .args .offsets .now)
-      (s .args .names .now) (s .args .contexts .now) (s .args .values .now) (s .args .positions .now)
+      (s .args .links .now) (s .args .values .now) (s .args .positions .now)
 
   abbrev place : ℕ
   place = s .args .at .0
@@ -66,27 +67,29 @@ data-here c =
     let k = data-kind n (sym (is-data-as d) ∙ c .before .if2 .taken) in
     data-slot (here s) (s .pre .0) (place s) (s .pre .1) (n - 2) (omega (arith, k .0)) (omega (arith, k .0)) (omega (arith, k .1))
 
-low : (s : tie.Start) → place s < 1024
-low s = omega (arith, s .pre .1, s .pre .0 .sound .held .few)
-
-mul-check-items : tie.Need-mul-check-items
-mul-check-items c = record { fits = omega (arith, low (c .before .before .before .before .before .before)) }
-
-element-copy-out-check-items : tie.Need-element-copy-out-check-items
-element-copy-out-check-items c = low (c .before .before .before .before .before .before)
+links-at-requires : tie.Need-links-at-requires
+links-at-requires c κs =
+    let s = c .before .before .before .before .before .before .before in
+    spans (s .args .frames .now) (s .args .starts .now) (s .args .count) (s .pre .0 .sound .held) (s .args .links .now) (s .pre .0 .says .full) (place s) (s .pre .1)
 
 check-items-requires : tie.Need-check-items-requires
 check-items-requires c κs =
-    let f = c .before in
+    let f = c .before .before in
     let s = f .before .before .before .before .before .before in
-    rw (f .frame-at .ensures) (data-here f .read, s .pre .0 .sound .held .few)
+    rw (f .frame-at .ensures, c .links-at .ensures) (
+      data-here f .read,
+      s .pre .0 .sound .held .few,
+      length-beside (s .args .frames .now) (s .args .starts .now) (s .args .count) (s .pre .0 .sound .held) (s .args .links .now) (s .pre .0 .says .full) (place s) (s .pre .1),
+    )
 
 returns-2 : tie.Need-returns-2
 returns-2 c =
-    let f = c .before .before in
+    let b = c .before in
+    let f = b .before .before in
     let s = f .before .before .before .before .before .before in
     let d = here s in
-    c .check-items .ensures (writeOf (getD (frame s) 0 0))
+    c .check-items .ensures (d .entries) (getD (d .contexts) (place s) 0) (rw (f .frame-at .ensures, b .links-at .ensures) (own-linked d (s .pre .0) (place s) (s .pre .1)))
+    (writeOf (getD (frame s) 0 0))
     ∙ ap (λ l. checkedAs (items (d .entries) (boundOf (getD l 0 0)) (writeOf (getD (frame s) 0 0)) (place s) (getD (d .contexts) (place s) 0) 0 (itemsIn (place s) l))) (f .frame-at .ensures)
     ∙ sym (ap checkedAs (data-here f .encodes))
 
@@ -112,8 +115,7 @@ check-at-spec =
     returns
     (λ c κs. search needs)
     frame-at-requires
-    mul-check-items
-    element-copy-out-check-items
+    links-at-requires
     check-items-requires
     returns-2
     returns-3)

@@ -11,17 +11,17 @@ use Rattle.image.proofs.checking.encode_all.Statement.{statement}
 use Rattle.image.proofs.checking.encode_all.Tie as tie
 
 abbrev Inv-loop : tie.InvT-loop
-Inv-loop frames starts count forms carry owners offsets names contexts values positions i₀ i =
-    let d = tables frames starts count forms carry owners offsets names contexts values positions in
+Inv-loop frames starts count forms carry owners offsets links values positions i₀ i =
+    let d = tables frames starts count forms carry owners offsets links values positions in
     (i ≤ count) × (checkedAs (encodeSlots d) ≡ checkedAs (fromSlot d i))
 
 abbrev μ-loop : tie.MeasureT-loop
-μ-loop frames starts count forms carry owners offsets names contexts values positions i₀ i = count - i
+μ-loop frames starts count forms carry owners offsets links values positions i₀ i = count - i
 
 abbrev here : tie.Start Inv-loop μ-loop → Tables
 here s =
     tables (s .args .frames .now) (s .args .starts .now) (s .args .count) (s .args .forms .now) (s .args .carry .now) (s .args .owners .now) (s .args .offsets .now)
-    (s .args .names .now) (s .args .contexts .now) (s .args .values .now) (s .args .positions .now)
+    (s .args .links .now) (s .args .values .now) (s .args .positions .now)
 
 loop-holds : tie.Need-loop-holds Inv-loop μ-loop
 loop-holds c = (omega arith, ap checkedAs (from-start (here (c .before))))

@@ -10,7 +10,7 @@ use Rattle.image.proofs.checking.encodes_at.Tie as tie
 abbrev here : tie.Start → Tables
 here s =
     tables (s .args .frames .now) (s .args .starts .now) (s .args .count) (s .args .forms .now) (s .args .carry .now) (s .args .owners .now) (s .args .offsets .now)
-    (s .args .names .now) (s .args .contexts .now) (s .args .values .now) (s .args .positions .now)
+    (s .args .links .now) (s .args .values .now) (s .args .positions .now)
 
 returns : tie.Need-returns
 returns c =

@@ -25,19 +25,19 @@ use Rattle.image.proofs.codes.encode_at.Statement.{statement}
 use Rattle.image.proofs.codes.encode_at.Tie as tie
 
 abbrev Inv-loop : tie.InvT-loop
-Inv-loop frames starts count forms carry owners offsets names contexts values positions at i form n fields₀ j₀ fields j =
-    let d = tables frames starts count forms carry owners offsets names contexts values positions in
+Inv-loop frames starts count forms carry owners offsets links values positions at i form n fields₀ j₀ fields j =
+    let d = tables frames starts count forms carry owners offsets links values positions in
     (j ≤ length (operandsAt form)) × (length fields ≡ 3) × ((m : ℕ) → j ≤ m → getD fields m 0 ≡ 0)
     × (encodeAt d (at .0) ≡ leftOf (d .entries) (program d) (at .0) (contextAt (program d) (at .0)) (n .0) form (argsOf (slotAt (d .slots) (at .0))) j fields)
 
 abbrev μ-loop : tie.MeasureT-loop
-μ-loop frames starts count forms carry owners offsets names contexts values positions at i form n fields₀ j₀ fields j = length (operandsAt form) - j
+μ-loop frames starts count forms carry owners offsets links values positions at i form n fields₀ j₀ fields j = length (operandsAt form) - j
 
 module _ (s : tie.Start Inv-loop μ-loop) where
   abbrev here : Tables
   here =
       tables (s .args .frames .now) (s .args .starts .now) (s .args .count) (s .args .forms .now) (s .args .carry .now) (s .args .owners .now) (s .args .offsets .now)
-      (s .args .names .now) (s .args .contexts .now) (s .args .values .now) (s .args .positions .now)
+      (s .args .links .now) (s .args .values .now) (s .args .positions .now)
 
   abbrev place : ℕ
   place = s .args .at .0

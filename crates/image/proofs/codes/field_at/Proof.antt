@@ -24,7 +24,7 @@ use Rattle.image.proofs.codes.field_at.Tie as tie
 abbrev here : tie.Start → Tables
 here s =
     tables (s .args .frames .now) (s .args .starts .now) (s .args .count) (s .args .forms .now) (s .args .carry .now) (s .args .owners .now) (s .args .offsets .now)
-    (s .args .names .now) (s .args .contexts .now) (s .args .values .now) (s .args .positions .now)
+    (s .args .links .now) (s .args .values .now) (s .args .positions .now)
 
 abbrev kinds : tie.Start → List Kind
 kinds s = operandsAt (getD (s .args .forms .now) (s .args .at .0) 0)
@@ -35,7 +35,7 @@ element-copy-out-operand-kind c = let s = c .before in omega (arith, s .pre .0 .
 argument-worth-requires : tie.Need-argument-worth-requires
 argument-worth-requires c κs =
     let s = c .before .before .before .before .before .before in
-    ((s .pre .0 .0 .sound, λ k l. s .pre .0 .0 .low k (omega arith), s .pre .0 .1), (s .pre .0 .2, s .pre .1 .0))
+    (s .pre .0 .0, s .pre .0 .1, s .pre .0 .2, s .pre .1 .0)
 
 -- the worth, as the program has it
 worth-is : (c : tie.After-argument-worth) (o : Outcome) → c .argument-worth .result ≡ o →

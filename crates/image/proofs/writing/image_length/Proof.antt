@@ -17,19 +17,19 @@ use Rattle.image.proofs.writing.image_length.Tie as tie
 
 abbrev Inv-loop : tie.InvT-loop
 Inv-loop frames starts count forms positions i₀ i =
-    (i ≤ count) × ((carry owners offsets names contexts : List ℕ) (values : List ℤ) →
-    let d = tables frames starts count forms carry owners offsets names contexts values positions in
+    (i ≤ count) × ((carry owners offsets links : List ℕ) (values : List ℤ) →
+    let d = tables frames starts count forms carry owners offsets links values positions in
     Ready d → Done d i)
 
 abbrev μ-loop : tie.MeasureT-loop
 μ-loop frames starts count forms positions i₀ i = i
 
-abbrev over : tie.Start Inv-loop μ-loop → (carry owners offsets names contexts : List ℕ) (values : List ℤ) → Tables
-over s carry owners offsets names contexts values =
-    tables (s .args .frames .now) (s .args .starts .now) (s .args .count) (s .args .forms .now) carry owners offsets names contexts values (s .args .positions .now)
+abbrev over : tie.Start Inv-loop μ-loop → (carry owners offsets links : List ℕ) (values : List ℤ) → Tables
+over s carry owners offsets links values =
+    tables (s .args .frames .now) (s .args .starts .now) (s .args .count) (s .args .forms .now) carry owners offsets links values (s .args .positions .now)
 
 loop-holds : tie.Need-loop-holds Inv-loop μ-loop
-loop-holds c = (omega arith, λ carry owners offsets names contexts values ready. done-end (over (c .before) carry owners offsets names contexts values))
+loop-holds c = (omega arith, λ carry owners offsets links values ready. done-end (over (c .before) carry owners offsets links values))
 
 -- the slot is one of the program's
 inside : (c : tie.In-loop Inv-loop μ-loop) → c .before .loop .i - 1 < c .before .before .before .args .count
@@ -52,9 +52,9 @@ module _ (c : tie.After-size-at Inv-loop μ-loop) where
   abbrev slot : ℕ
   slot = test .before .loop .i - 1
 
-  module _ (carry owners offsets names contexts : List ℕ) (values : List ℤ) where
+  module _ (carry owners offsets links : List ℕ) (values : List ℤ) where
     abbrev here : Tables
-    here = over start carry owners offsets names contexts values
+    here = over start carry owners offsets links values
 
     size-is : Ready here → c .size-at .result ≡ sizeHere here slot
     size-is ready =
@@ -65,36 +65,36 @@ module _ (c : tie.After-size-at Inv-loop μ-loop) where
     done-next : Ready here → Done here (suc slot)
     done-next ready =
         let e : test .before .loop .i ≡ suc slot = omega (arith, test .loop-test .taken) in
-        subst (λ (m : ℕ). Done here m) e (test .before .loop .inv .1 carry owners offsets names contexts values ready)
+        subst (λ (m : ℕ). Done here m) e (test .before .loop .inv .1 carry owners offsets links values ready)
 
 returns : tie.Need-returns Inv-loop μ-loop
-returns c carry owners offsets names contexts values ready fine =
+returns c carry owners offsets links values ready fine =
     let z = c .before .before .before in
-    let d = here z carry owners offsets names contexts values in
+    let d = here z carry owners offsets links values in
     let n = slot z in
     c .address2 .ensures
     ∙ ap (λ m. getD (start z .args .positions .now) m 0) (add-one n)
     ∙ ready .position (suc n) (omega (arith, inside (test z)))
     ∙ length-found d ready (imageOf d) (image-is d fine) n (inside (test z))
-    (omega (arith, size-is z carry owners offsets names contexts values ready, c .before .before .if1 .taken))
-    (done-next z carry owners offsets names contexts values ready)
+    (omega (arith, size-is z carry owners offsets links values ready, c .before .before .if1 .taken))
+    (done-next z carry owners offsets links values ready)
 
 loop-again : tie.Need-loop-again Inv-loop μ-loop
 loop-again c =
     let z = c .before in (
       omega (arith, inside (test z)),
-      λ carry owners offsets names contexts values ready.
-          done-more (here z carry owners offsets names contexts values) (slot z) (inside (test z))
-          (omega (arith, size-is z carry owners offsets names contexts values ready, c .if1 .left)) (done-next z carry owners offsets names contexts values ready),
+      λ carry owners offsets links values ready.
+          done-more (here z carry owners offsets links values) (slot z) (inside (test z))
+          (omega (arith, size-is z carry owners offsets links values ready, c .if1 .left)) (done-next z carry owners offsets links values ready),
     )
 
 returns-2 : tie.Need-returns-2 Inv-loop μ-loop
-returns-2 c carry owners offsets names contexts values ready fine =
+returns-2 c carry owners offsets links values ready fine =
     let l = c .before .loop in
     let s = c .before .before .before in
-    let d = over s carry owners offsets names contexts values in
+    let d = over s carry owners offsets links values in
     let e : l .i ≡ 0 = omega arith in
-    length-none d (imageOf d) (image-is d fine) (rw e at (l .inv .1 carry owners offsets names contexts values ready))
+    length-none d (imageOf d) (image-is d fine) (rw e at (l .inv .1 carry owners offsets links values ready))
 
 pub image-length-spec : {M : Type 1} → statement M
 image-length-spec =

@@ -8,7 +8,7 @@ use borrow.Author.Needs.{needs}
 use Rattle.rules.specs.Answers.{ok}
 use Rattle.rules.specs.Programs.{byteCount, kindOf}
 use Rattle.rules.specs.Layout.{position}
-use Rattle.rules.specs.Names.{contextAt}
+use Rattle.rules.specs.Names.{keyOf, lookup, contextAt}
 use Rattle.rules.specs.Judging.{items}
 use Rattle.rules.proofs.Laws.{no-ok}
 use Rattle.listing.specs.Tables.{frameAt}
@@ -19,7 +19,8 @@ use Rattle.image.specs.Tables.{Tables, tables, program}
 use Rattle.image.specs.Encoding.{encodeAt, itemsIn, boundOf, writeOf}
 use Rattle.image.specs.Image.{put, widthOf, sizeOf}
 use Rattle.image.proofs.Passes.{ok-same, encode-zeros}
-use Rattle.image.proofs.DataSlots.{DataSlot, data-slot, data-size, data-some}
+use Rattle.slots.proofs.Linking.{spans, length-beside}
+use Rattle.image.proofs.DataSlots.{DataSlot, data-slot, own-linked, linked-as, data-size, data-some}
 use Rattle.image.proofs.Images.{sizeHere, size-here, bytes-count, Coded, coded, refused, instr-short}
 use Rattle.image.proofs.writing.write_at.Statement.{statement}
 use Rattle.image.proofs.writing.write_at.Tie as tie
@@ -28,7 +29,7 @@ module _ (s : tie.Start) where
   abbrev here : Tables
   here =
       tables (s .args .frames .now) (s .args .starts .now) (s .args .count) (s .args .forms .now) (s .args .carry .now) (s .args .owners .now) (s .args .offsets .now)
-      (s .args .names .now) (s .args .contexts .now) (s .args .values .now) (s .args .positions .now)
+      (s .args .links .now) (s .args .values .now) (s .args .positions .now)
 
   abbrev place : ℕ
   place = s .args .at .0
@@ -127,33 +128,40 @@ module _ (c : tie.After-frame-at) where
   data-bytes : sizeOf (here start) (place start) ≡ widthOf (getD (frame start) 0 0) * getD (frame start) 1 0
   data-bytes = data-size (here start) (place start) (frame start) data-here
 
-mul-write-items : tie.Need-mul-write-items
-mul-write-items c = record { fits = omega (arith, low (start c)) }
-
-element-copy-out-write-items : tie.Need-element-copy-out-write-items
-element-copy-out-write-items c = low (start c)
+links-at-requires : tie.Need-links-at-requires
+links-at-requires c κs =
+    let s = start (c .before) in
+    spans (s .args .frames .now) (s .args .starts .now) (s .args .count) (s .pre .0 .sound .held) (s .args .links .now) (s .pre .0 .says .full) (place s) (s .pre .1)
 
 write-items-requires : tie.Need-write-items-requires
 write-items-requires c κs =
-    let f = c .before .before in
+    let b = c .before in
+    let f = b .before .before in
     let s = start f in
     let some = data-some (here s) (place s) (frame s) (data-here f) in
     let q = f .before .before .before .before .before .address .ensures in
-    rw (f .frame-at .ensures) (
+    rw (f .frame-at .ensures, b .links-at .ensures) (
       data-here f .read,
       s .pre .0 .sound .held .few,
+      length-beside (s .args .frames .now) (s .args .starts .now) (s .args .count) (s .pre .0 .sound .held) (s .args .links .now) (s .pre .0 .says .full) (place s) (s .pre .1),
       omega (arith, s .pre .2 (omega (arith, some, data-bytes f)), data-bytes f, q),
     )
 
 returns-3 : tie.Need-returns-3
 returns-3 c b e =
     let w = c .before .before in
-    let f = w .before .before .before in
+    let l = w .before .before in
+    let f = l .before .before in
     let s = start f in
     let d = here s in
     let is : items (d .entries) (boundOf (getD (frame s) 0 0)) (writeOf (getD (frame s) 0 0)) (place s) (getD (d .contexts) (place s) 0) 0 (itemsIn (place s) (frame s)) ≡ ok b =
     sym (data-here f .encodes) ∙ e in
-    w .write-items .ensures b (rw (f .frame-at .ensures) is) ∙ ap (λ n. put (room s) n b) (f .before .before .before .before .before .address .ensures)
+    w .write-items .ensures (d .entries) (getD (d .contexts) (place s) 0) (linked-as (λ m. lookup (d .entries) (keyOf (getD (d .contexts) (place s) 0) m)) (f .frame-at .result .now) (l .links-at .result .now) (frame s)
+    (frameAt (s .args .links .now) (s .args .starts .now) (place s)) (s .args .values .now) (s .args .count) (f .frame-at .ensures) (l .links-at .ensures)
+    (own-linked d (s .pre .0) (place s) (s .pre .1)))
+    b
+    (ap (λ x. items (d .entries) (boundOf (getD x 0 0)) (writeOf (getD x 0 0)) (place s) (getD (d .contexts) (place s) 0) 0 (itemsIn (place s) x)) (f .frame-at .ensures) ∙ is)
+    ∙ ap (λ n. put (room s) n b) (f .before .before .before .before .before .address .ensures)
 
 -- neither an instruction nor data: zeros, if any
 module _ (c : tie.After-size-at) where
@@ -215,8 +223,7 @@ write-at-spec =
     returns-2
     (λ c κs. search needs)
     frame-at-requires
-    mul-write-items
-    element-copy-out-write-items
+    links-at-requires
     write-items-requires
     (λ c. search needs)
     returns-3

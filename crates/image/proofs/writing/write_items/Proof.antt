@@ -13,28 +13,30 @@ use Rattle.laws.proofs.Tests.{cond-both}
 use Rattle.rules.specs.Answers.{Judged, ok, _>>=_}
 use Rattle.rules.specs.Encoding.{byte, word}
 use Rattle.rules.specs.Expressions.{Expr, num}
-use Rattle.rules.specs.Names.{Entry}
+use Rattle.rules.specs.Names.{Entry, keyOf, lookup}
 use Rattle.rules.specs.Judging.{items}
 use Rattle.rules.proofs.Laws.{no-ok}
-use Rattle.expression.specs.Environment.{entriesOf}
+use Rattle.expression.specs.Linked.{Linked}
 use Rattle.image.specs.Encoding.{itemsIn, boundOf, writeOf, itemOf}
 use Rattle.image.specs.Image.{put, widthOf}
 use Rattle.image.proofs.Answers.{bind-ok, bind-no, bind-ext, bind-id, bind-bind}
 use Rattle.image.proofs.Fields.{field-ok, field-no}
-use Rattle.image.proofs.Items.{data-in, item-small, items-more, items-end}
+use Rattle.image.proofs.Items.{data-in, items-more, items-end}
 use Rattle.image.proofs.Passes.{ok-same}
 use Rattle.image.proofs.Rooms.{put-none, length-put, put-more}
 use Rattle.image.proofs.writing.write_items.Statement.{statement}
 use Rattle.image.proofs.writing.write_items.Tie as tie
 
 abbrev Inv-loop : tie.InvT-loop
-Inv-loop frame at names contexts values count context q image₀ kind width n j₀ image j =
-    let left : ℕ → Judged (List ℕ) = λ m. items (entriesOf names contexts values count) (boundOf (getD frame 0 0)) (writeOf (getD frame 0 0)) (at .0) context m (drop m (itemsIn (at .0) frame)) in
+Inv-loop frame at links values count q image₀ kind width n j₀ image j =
     (j ≤ n) × (length image ≡ length image₀)
-    × ((front : List ℕ) × (length front ≡ widthOf (getD frame 0 0) * j) × (image ≡ put image₀ q front) × (left 0 ≡ left j >>= (λ bs. ok (front ++ bs))))
+    × ((front : List ℕ) × (length front ≡ widthOf (getD frame 0 0) * j) × (image ≡ put image₀ q front)
+    × ((names : List Entry) (k : ℕ) → Linked (λ m. lookup names (keyOf k m)) frame links values count →
+    let left : ℕ → Judged (List ℕ) = λ m. items names (boundOf (getD frame 0 0)) (writeOf (getD frame 0 0)) (at .0) k m (drop m (itemsIn (at .0) frame)) in
+    left 0 ≡ left j >>= (λ bs. ok (front ++ bs))))
 
 abbrev μ-loop : tie.MeasureT-loop
-μ-loop frame at names contexts values count context q image₀ kind width n j₀ image j = n - j
+μ-loop frame at links values count q image₀ kind width n j₀ image j = n - j
 
 -- ---- widths
 
@@ -61,56 +63,56 @@ module _ (s : tie.Start Inv-loop μ-loop) where
   abbrev kind : ℕ
   kind = getD frame 0 0
 
-  abbrev seen : List Entry
-  seen = entriesOf (s .args .names .now) (s .args .contexts .now) (s .args .values .now) (s .args .count)
-
   abbrev all : List Expr
   all = itemsIn place frame
 
-  abbrev one : ℕ → Judged ℕ
-  one j = itemOf seen (boundOf kind) place (s .args .context) j (getD all j (num (pos 0)))
+  abbrev one : (names : List Entry) (k j : ℕ) → Judged ℕ
+  one names k j = itemOf names (boundOf kind) place k j (getD all j (num (pos 0)))
 
-  abbrev left : ℕ → Judged (List ℕ)
-  left j = items seen (boundOf kind) (writeOf kind) place (s .args .context) j (drop j all)
+  abbrev left : (names : List Entry) (k j : ℕ) → Judged (List ℕ)
+  left names k j = items names (boundOf kind) (writeOf kind) place k j (drop j all)
+
+  abbrev Said : (names : List Entry) (k : ℕ) → Type 0
+  Said names k = Linked (λ m. lookup names (keyOf k m)) frame (s .args .links .now) (s .args .values .now) (s .args .count)
 
   count-is : length all ≡ getD frame 1 0
   count-is = data-in place frame (s .pre .0) .items .count
 
 shared-slice-read-kind : tie.Need-shared-slice-read-kind Inv-loop μ-loop
-shared-slice-read-kind c = let s = c .before .before .before in omega (arith, data-in (place s) (frame s) (s .pre .0) .long)
+shared-slice-read-kind c = let s = c .before .before .before .before in omega (arith, data-in (place s) (frame s) (s .pre .0) .long)
 
 items-in-requires : tie.Need-items-in-requires Inv-loop μ-loop
-items-in-requires c κs = let s = c .before .before .before .before in data-in (place s) (frame s) (s .pre .0) .long
+items-in-requires c κs = let s = c .before .before .before .before .before in data-in (place s) (frame s) (s .pre .0) .long
 
 loop-holds : tie.Need-loop-holds Inv-loop μ-loop
 loop-holds c =
-    let s = c .before .before .before .before .before in
+    let s = c .before .before .before .before .before .before in
     let zero : 0 ≡ widthOf (kind s) * 0 = omega arith in
-    (omega arith, refl, ([], zero, sym (put-none (s .args .image .now) (s .args .q)), sym (bind-id (left s 0))))
+    (omega arith, refl, ([], zero, sym (put-none (s .args .image .now) (s .args .q)), λ names k l. sym (bind-id (left s names k 0))))
 
 -- there is an item j
-some : (c : tie.In-loop Inv-loop μ-loop) → c .before .loop .j < length (all (c .before .before .before .before .before .before .before))
-some c = let s = c .before .before .before .before .before .before .before in omega (arith, count-is s, c .before .before .items-in .ensures)
+some : (c : tie.In-loop Inv-loop μ-loop) → c .before .loop .j < length (all (c .before .before .before .before .before .before .before .before))
+some c = let s = c .before .before .before .before .before .before .before .before in omega (arith, count-is s, c .before .before .items-in .ensures)
 
 item-field-requires : tie.Need-item-field-requires Inv-loop μ-loop
 item-field-requires c κs =
-    let s = c .before .before .before .before .before .before .before in
-    (s .pre .0, omega (arith, c .before .before .items-in .ensures), s .pre .1)
+    let s = c .before .before .before .before .before .before .before .before in
+    (s .pre .0, omega (arith, c .before .before .items-in .ensures), s .pre .1, s .pre .2)
 
 returns : tie.Need-returns Inv-loop μ-loop
-returns c b e =
+returns c names k said b e =
     let f = c .before .before in
     let l = f .before .before .loop in
-    let s = f .before .before .before .before .before .before .before .before in
+    let s = f .before .before .before .before .before .before .before .before .before in
     let r = c .enum-told .given in
-    let here = items-more (seen s) (boundOf (kind s)) (place s) (s .args .context) (writeOf (kind s)) (all s) (l .j) (some (f .before)) in
-    let refused = here ∙ bind-no (one s (l .j)) _ (r .0 .0) (field-no (one s (l .j)) (f .item-field .ensures) (r .1)) in
-    no-ok (r .0 .0) b (sym (l .inv .2 .3 ∙ bind-no (left s (l .j)) _ (r .0 .0) refused) ∙ e)
+    let here = items-more names (boundOf (kind s)) (place s) k (writeOf (kind s)) (all s) (l .j) (some (f .before)) in
+    let refused = here ∙ bind-no (one s names k (l .j)) _ (r .0 .0) (field-no (one s names k (l .j)) (f .item-field .ensures .1 names k said) (r .1)) in
+    no-ok (r .0 .0) b (sym (l .inv .2 .3 names k said ∙ bind-no (left s names k (l .j)) _ (r .0 .0) refused) ∙ e)
 
 -- the item's place in the room
 module _ (c : tie.After-write-item-arg Inv-loop μ-loop) where
   abbrev start : tie.Start Inv-loop μ-loop
-  start = c .before .before .before .before .before .before .before .before .before .before .before .before
+  start = c .before .before .before .before .before .before .before .before .before .before .before .before .before
 
   abbrev at-loop : tie.In-loop Inv-loop μ-loop
   at-loop = c .before .before .before .before .before
@@ -125,7 +127,7 @@ module _ (c : tie.After-write-item-arg Inv-loop μ-loop) where
   begins = ap (λ w. w * index) width-is
 
   fits : start .args .q + widthOf (kind start) * index + widthOf (kind start) ≤ length (start .args .image .now)
-  fits = omega (arith, width-fits (kind start) index (getD (frame start) 1 0) (omega (arith, some at-loop, count-is start)), start .pre .2)
+  fits = omega (arith, width-fits (kind start) index (getD (frame start) 1 0) (omega (arith, some at-loop, count-is start)), start .pre .3)
 
 mul-write-item : tie.Need-mul-write-item Inv-loop μ-loop
 mul-write-item c = record { fits = omega (arith, begins c, fits c) }
@@ -135,19 +137,19 @@ add-write-item c = record { fits = omega (arith, begins c, fits c) }
 
 -- the item's value
 value-is : (c : tie.After-known-told Inv-loop μ-loop) →
-    let s = c .before .before .before .before .before .before .before .before .before .before .before in
-    one s (c .before .before .before .before .before .loop .j) ≡ ok (c .before .v .given .0 .0)
-value-is c =
+    let s = c .before .before .before .before .before .before .before .before .before .before .before .before in
+    (names : List Entry) (k : ℕ) → Said s names k → one s names k (c .before .before .before .before .before .loop .j) ≡ ok (c .before .v .given .0 .0)
+value-is c names k said =
     let f = c .before .before .before in
-    let s = f .before .before .before .before .before .before .before .before in
-    field-ok (one s (f .before .before .loop .j)) (f .item-field .ensures) (c .before .v .given .1)
+    let s = f .before .before .before .before .before .before .before .before .before in
+    field-ok (one s names k (f .before .before .loop .j)) (f .item-field .ensures .1 names k said) (c .before .v .given .1)
 
 write-item-requires : tie.Need-write-item-requires Inv-loop μ-loop
 write-item-requires c κs =
     let s = start c in
     let l = at-loop c .before .loop in (
       omega (arith, begins c, fits c, l .inv .1),
-      item-small (seen s) (boundOf (kind s)) (place s) (s .args .context) (l .j) (getD (all s) (l .j) (num (pos 0))) (c .before .before .v .given .0 .0) (value-is (c .before)),
+      rw (c .before .before .v .given .1) at (c .before .before .before .before .item-field .ensures .0),
     )
 
 add-j : tie.Need-add-j Inv-loop μ-loop
@@ -178,25 +180,25 @@ loop-again c =
     let size-more : length (front ++ more) ≡ widthOf (kind s) * (l .j + 1) =
     length-append front more ∙ ap (λ m. m + length more) size ∙ ap (λ m. widthOf (kind s) * l .j + m) (write-width (kind s) v) ∙ width-more (kind s) (l .j) in
     let room-more : q + length (front ++ more) ≤ length old = omega (arith, fits a, size-more, width-more (kind s) (l .j)) in
-    let here : left s (l .j) ≡ left s (suc (l .j)) >>= (λ bs. ok (more ++ bs)) =
-    items-more (seen s) (boundOf (kind s)) (place s) (s .args .context) (writeOf (kind s)) (all s) (l .j) (some (at-loop a)) ∙ bind-ok (one s (l .j)) _ v (value-is (a .before)) in
-    let rest : left s 0 ≡ left s (l .j + 1) >>= (λ bs. ok ((front ++ more) ++ bs)) =
-    l .inv .2 .3
-    ∙ ap (λ x. x >>= (λ bs. ok (front ++ bs))) here
-    ∙ bind-bind (left s (suc (l .j))) (λ bs. more ++ bs) (λ bs. front ++ bs)
-    ∙ bind-ext (left s (suc (l .j))) _ _ (λ bs. ap ok (sym (append-assoc front more bs)))
-    ∙ ap (λ m. left s m >>= (λ bs. ok ((front ++ more) ++ bs))) (sym (add-one (l .j))) in
+    let here : (names : List Entry) (k : ℕ) → Said s names k → left s names k (l .j) ≡ left s names k (suc (l .j)) >>= (λ bs. ok (more ++ bs)) =
+    λ names k said. items-more names (boundOf (kind s)) (place s) k (writeOf (kind s)) (all s) (l .j) (some (at-loop a)) ∙ bind-ok (one s names k (l .j)) _ v (value-is (a .before) names k said) in
+    let rest : (names : List Entry) (k : ℕ) → Said s names k → left s names k 0 ≡ left s names k (l .j + 1) >>= (λ bs. ok ((front ++ more) ++ bs)) =
+    λ names k said. l .inv .2 .3 names k said
+    ∙ ap (λ x. x >>= (λ bs. ok (front ++ bs))) (here names k said)
+    ∙ bind-bind (left s names k (suc (l .j))) (λ bs. more ++ bs) (λ bs. front ++ bs)
+    ∙ bind-ext (left s names k (suc (l .j))) _ _ (λ bs. ap ok (sym (append-assoc front more bs)))
+    ∙ ap (λ m. left s names k m >>= (λ bs. ok ((front ++ more) ++ bs))) (sym (add-one (l .j))) in
     (omega (arith, at-loop a .loop-test .taken), ap length put-is ∙ length-put old q (front ++ more) room-more, (front ++ more, size-more, put-is, rest))
 
 returns-2 : tie.Need-returns-2 Inv-loop μ-loop
 unfolding _>>=_
-returns-2 c b e =
+returns-2 c names k said b e =
     let l = c .before .loop in
-    let s = c .before .before .before .before .before .before .before in
+    let s = c .before .before .before .before .before .before .before .before in
     let front = l .inv .2 .0 in
-    let end : left s (l .j) ≡ ok [] =
-    items-end (seen s) (boundOf (kind s)) (place s) (s .args .context) (writeOf (kind s)) (all s) (l .j) (omega (arith, count-is s, c .before .before .items-in .ensures)) in
-    let whole : front ++ [] ≡ b = ok-same (sym (ap (λ x. x >>= (λ bs. ok (front ++ bs))) end) ∙ sym (l .inv .2 .3) ∙ e) in
+    let end : left s names k (l .j) ≡ ok [] =
+    items-end names (boundOf (kind s)) (place s) k (writeOf (kind s)) (all s) (l .j) (omega (arith, count-is s, c .before .before .items-in .ensures)) in
+    let whole : front ++ [] ≡ b = ok-same (sym (ap (λ x. x >>= (λ bs. ok (front ++ bs))) end) ∙ sym (l .inv .2 .3 names k said) ∙ e) in
     l .inv .2 .2 ∙ ap (put (s .args .image .now) (s .args .q)) (sym (append-nil front) ∙ whole)
 
 pub write-items-spec : {M : Type 1} → statement M

@@ -10,12 +10,12 @@ use Rattle.optimize.proofs.rewriting.optimize.Statement.{statement}
 use Rattle.optimize.proofs.rewriting.optimize.Tie as tie
 
 abbrev Inv-loop : tie.InvT-loop
-Inv-loop asked frames starts count forms₀ carry₀ owners offsets contexts rewrites₀ forms carry rewrites =
-    Standing (slots frames starts count forms carry owners offsets) contexts
+Inv-loop asked frames starts count forms₀ carry₀ owners offsets links rewrites₀ forms carry rewrites =
+    Standing (slots frames starts count forms carry owners offsets)
     × Led asked (programOf (slots frames starts count forms₀ carry₀ owners offsets)) (programOf (slots frames starts count forms carry owners offsets)) rewrites
 
 abbrev μ-loop : tie.MeasureT-loop
-μ-loop asked frames starts count forms₀ carry₀ owners offsets contexts rewrites₀ forms carry rewrites =
+μ-loop asked frames starts count forms₀ carry₀ owners offsets links rewrites₀ forms carry rewrites =
     total instrBytes (programOf (slots frames starts count forms carry owners offsets))
 
 abbrev here : (c : tie.Start Inv-loop μ-loop) → Slots
@@ -26,7 +26,7 @@ loop-holds : tie.Need-loop-holds Inv-loop μ-loop
 loop-holds c = let s = c .before in (s .pre .0, led-start (s .args .asked) (programOf (here s)) (s .pre .1))
 
 rewrite-requires : tie.Need-rewrite-requires Inv-loop μ-loop
-rewrite-requires c κs = let l = c .before .before in (l .loop .inv .0, l .loop .inv .1 .good)
+rewrite-requires c κs = let l = c .before .before in (l .loop .inv .0, l .loop .inv .1 .good, l .before .before .pre .2)
 
 add-rewrites : tie.Need-add-rewrites Inv-loop μ-loop
 add-rewrites c =

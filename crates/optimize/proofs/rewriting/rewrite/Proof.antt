@@ -37,7 +37,7 @@ shrink-requires c κs =
     let s = i .before .before .before .before .before in
     let e = i .before .fold-asked .ensures in
     let same = same-slots _ _ _ _ _ (e .forms-kept (i .if1 .left)) (e .carry-kept (i .if1 .left)) in
-    (e .stands, ap (λ (t : Slots). assembles (programOf t)) same ∙ s .pre .1)
+    (e .stands, ap (λ (t : Slots). assembles (programOf t)) same ∙ s .pre .1, s .pre .2)
 
 returns-2 : tie.Need-returns-2
 unfolding step

@@ -1,5 +1,6 @@
 -- `optimize::scanning::fold` meets its contract: over the list is by number.
-use mathlib.Core.Path.{_≡_, refl, sym, _∙_}
+use mathlib.Core.Path.{_≡_, refl, sym, _∙_, ap}
+use mathlib.Core.Bool.{Bool}
 use mathlib.Core.Option.{Option}
 use Prim.Native.Nat.{ℕ, _-_, _≤_}
 use native.Mathlib.Omega.{arith}
@@ -9,6 +10,7 @@ use Rattle.rules.specs.Programs.{Program}
 use Rattle.rules.specs.Rewriting.{Pattern, trampoline, patterns, patternAt, anywhere}
 use Rattle.slots.specs.Slots.{Slots, slots, programOf}
 use Rattle.patterns.specs.Order.{patternAt as nth}
+use Rattle.attempts.specs.Standing.{Tried}
 use Rattle.optimize.proofs.Tries.{same-slots, tried-as, found, missed, ended, still-stands}
 use Rattle.optimize.proofs.scanning.fold.Statement.{statement}
 use Rattle.optimize.proofs.scanning.fold.Tie as tie
@@ -18,13 +20,13 @@ abbrev tries : Slots → (k : ℕ) → Option Program
 tries t k = anywhere (patternAt (programOf t) (nth k)) (programOf t)
 
 abbrev Inv-loop : tie.InvT-loop
-Inv-loop frames starts count forms₀ carry₀ owners offsets contexts k₀ forms carry k =
+Inv-loop frames starts count forms₀ carry₀ owners offsets links k₀ forms carry k =
     (k ≤ 23)
     × (slots frames starts count forms carry owners offsets ≡ slots frames starts count forms₀ carry₀ owners offsets)
     × (firstFrom (tries (slots frames starts count forms₀ carry₀ owners offsets)) 23 0 ≡ firstFrom (tries (slots frames starts count forms₀ carry₀ owners offsets)) (23 - k) k)
 
 abbrev μ-loop : tie.MeasureT-loop
-μ-loop frames starts count forms₀ carry₀ owners offsets contexts k₀ forms carry k = 23 - k
+μ-loop frames starts count forms₀ carry₀ owners offsets links k₀ forms carry k = 23 - k
 
 abbrev here : (c : tie.Start Inv-loop μ-loop) → Slots
 here c =
@@ -40,19 +42,27 @@ first-is t = sym (firstOf-places (λ (x : Pattern). anywhere (patternAt (program
 loop-holds : tie.Need-loop-holds Inv-loop μ-loop
 loop-holds c = (omega arith, refl, first-starts (tries (here (c .before))) 23)
 
+pattern-requires : tie.Need-pattern-requires Inv-loop μ-loop
+pattern-requires c κs = omega (arith, c .before .before .loop-test .taken)
+
 fold-with-requires : tie.Need-fold-with-requires Inv-loop μ-loop
 fold-with-requires c κs =
-    let l = c .before .before .before in
+    let l = c .before .before .before .before in
     let s = l .before .before in
-    (still-stands (l .loop .inv .1) (s .pre), omega (arith, c .before .before .loop-test .taken))
+    (still-stands (l .loop .inv .1) (s .pre .0), c .pattern .ensures .1, s .pre .1)
+
+-- the pattern in hand is the one of that number
+in-order : {t u : Slots} {r : Bool} (k : ℕ) (p : Pattern) → p ≡ nth k → Tried (anywhere (patternAt (programOf t) p) (programOf t)) t u r → Tried (tries t k) t u r
+in-order {t} k p e = tried-as _ (tries t k) (ap (λ (x : Pattern). anywhere (patternAt (programOf t) x) (programOf t)) e)
 
 returns : tie.Need-returns Inv-loop μ-loop
 returns c =
     let p = c .before in
-    let l = p .before .before .before .before in
+    let e = in-order (p .before .before .before .before .before .loop .k) _ (p .before .pattern .ensures .0) (p .fold-with .ensures) in
+    let l = p .before .before .before .before .before in
     let s = l .before .before in
     tried-as _ (first (here s)) (first-is (here s))
-    (found tries 23 (l .loop .k) (l .loop .inv .1) (l .loop .inv .2) (omega (arith, p .before .before .before .loop-test .taken)) (p .fold-with .ensures) (c .if1 .taken))
+    (found tries 23 (l .loop .k) (l .loop .inv .1) (l .loop .inv .2) (omega (arith, p .before .before .before .before .loop-test .taken)) e (c .if1 .taken))
 
 add-k : tie.Need-add-k Inv-loop μ-loop
 add-k c = omega arith
@@ -63,11 +73,11 @@ loop-less c = omega arith
 loop-again : tie.Need-loop-again Inv-loop μ-loop
 loop-again c =
     let p = c .before in
-    let l = p .before .before .before .before in
-    let e = p .fold-with .ensures in (
+    let l = p .before .before .before .before .before in
+    let e = in-order (l .loop .k) _ (p .before .pattern .ensures .0) (p .fold-with .ensures) in (
       omega arith,
       same-slots _ _ _ _ _ (e .forms-kept (c .if1 .left)) (e .carry-kept (c .if1 .left)) ∙ l .loop .inv .1,
-      missed tries 23 (l .loop .k) (l .loop .inv .1) (l .loop .inv .2) (omega (arith, p .before .before .before .loop-test .taken)) e (c .if1 .left),
+      missed tries 23 (l .loop .k) (l .loop .inv .1) (l .loop .inv .2) (omega (arith, p .before .before .before .before .loop-test .taken)) e (c .if1 .left),
     )
 
 returns-2 : tie.Need-returns-2 Inv-loop μ-loop
@@ -75,7 +85,7 @@ returns-2 c =
     let l = c .before in
     let s = l .before .before in
     tried-as _ (first (here s)) (first-is (here s))
-    (ended tries 23 (l .loop .k) (l .loop .inv .1) (l .loop .inv .2) (omega (arith, c .loop-test .left)) (s .pre))
+    (ended tries 23 (l .loop .k) (l .loop .inv .1) (l .loop .inv .2) (omega (arith, c .loop-test .left)) (s .pre .0))
 
 pub fold-spec : {M : Type 1} → statement M
 fold-spec =
@@ -84,6 +94,7 @@ fold-spec =
     Inv-loop
     μ-loop
     loop-holds
+    pattern-requires
     fold-with-requires
     returns
     add-k

@@ -32,7 +32,7 @@ on asked t e = sym (ap (λ (b : Bool). folds t (cond b patterns [])) e)
 returns : tie.Need-returns
 returns c =
     let s = c .before .before .before in
-    tried-none (folds (here s) (patternsFor (s .args .asked))) (off (s .args .asked) (here s) (not-true (s .args .asked .folds) (c .if1 .taken))) (s .pre)
+    tried-none (folds (here s) (patternsFor (s .args .asked))) (off (s .args .asked) (here s) (not-true (s .args .asked .folds) (c .if1 .taken))) (s .pre .0)
 
 fold-requires : tie.Need-fold-requires
 fold-requires c κs = search needs

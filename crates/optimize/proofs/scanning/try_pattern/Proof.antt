@@ -1,14 +1,14 @@
--- `optimize::scanning::try_pattern` meets its contract: the pattern is the one of that number.
-use mathlib.Core.Path.{_≡_, sym, ap, _∙_}
+-- `optimize::scanning::try_pattern` meets its contract: the pattern in hand is tried.
+use mathlib.Core.Path.{_≡_, sym, ap}
 use mathlib.Core.Bool.{true}
 use Prim.Native.Nat.{ℕ}
 use borrow.Author.Needs.{needs}
 use Rattle.rules.specs.Forms.{isTransfer}
-use Rattle.rules.specs.Rewriting.{Pattern, patternAt}
+use Rattle.rules.specs.Rewriting.{patternAt}
 use Rattle.slots.specs.Slots.{Slots, slots, programOf, Agree}
 use Rattle.patterns.specs.declared.Pattern.{Pattern as Coded}
 use Rattle.patterns.specs.declared.Pattern.the-variants.{Inverted, Trampoline}
-use Rattle.patterns.specs.Order.{patternAt as nth, patternOf, Known}
+use Rattle.patterns.specs.Order.{patternOf, Known}
 use Rattle.optimize.proofs.Tries.{tried-as}
 use Rattle.optimize.proofs.scanning.try_pattern.Statement.{statement}
 use Rattle.optimize.proofs.scanning.try_pattern.Tie as tie
@@ -24,54 +24,46 @@ inverted-known r e h = rw e at h
 trampoline-known : (r : Coded) {f : ℕ} → r ≡ Trampoline f → Known (patternOf r) → isTransfer f ≡ true
 trampoline-known r e h = rw e at h
 
-pattern-requires : tie.Need-pattern-requires
-pattern-requires c κs = search needs
-
-enum-known-from : tie.Need-enum-known-from
-enum-known-from c = search needs
+enum-known-p : tie.Need-enum-known-p
+enum-known-p c = search needs
 
 try-inverted-requires : tie.Need-try-inverted-requires
 try-inverted-requires c κs =
     let f = c .before .before .before in
-    let p = f .before .before in
-    let s = p .before .before in
-    let k = inverted-known (p .pattern .result) (f .from .given .1) (p .pattern .ensures .1) in
-    (s .pre .0, s .pre .2, k .0, k .1)
+    let s = f .before .before .before in
+    let k = inverted-known (s .args .p) (f .p .given .1) (s .pre .1) in
+    (s .pre .0, s .pre .2, k .0, k .1, s .pre .3)
 
-enum-known-form : tie.Need-enum-known-form
-enum-known-form c = search needs
+enum-known-p-2 : tie.Need-enum-known-p-2
+enum-known-p-2 c = search needs
 
 try-trampoline-requires : tie.Need-try-trampoline-requires
 try-trampoline-requires c κs =
     let f = c .before .before .before in
-    let p = f .before .before in
-    let s = p .before .before in
-    (s .pre .0, s .pre .2, trampoline-known (p .pattern .result) (f .form .given .1) (p .pattern .ensures .1))
+    let s = f .before .before .before in
+    (s .pre .0, s .pre .2, trampoline-known (s .args .p) (f .p2 .given .1) (s .pre .1), s .pre .3)
 
 returns : tie.Need-returns
 returns c =
     let f = c .before .before .before .before in
-    let p = f .before .before in
-    let s = p .before .before in
-    tried-as _ (patternAt (programOf (here s)) (nth (s .args .k)) (s .args .at .0))
-    (ap (λ (x : Pattern). patternAt (programOf (here s)) x (s .args .at .0)) (ap patternOf (sym (f .from .given .1)) ∙ p .pattern .ensures .0)) (c .try-inverted .ensures)
+    let s = f .before .before .before in
+    tried-as _ (patternAt (programOf (here s)) (patternOf (s .args .p)) (s .args .at .0))
+    (ap (λ (x : Coded). patternAt (programOf (here s)) (patternOf x) (s .args .at .0)) (sym (f .p .given .1))) (c .try-inverted .ensures)
 
 returns-2 : tie.Need-returns-2
 returns-2 c =
     let f = c .before .before .before .before in
-    let p = f .before .before in
-    let s = p .before .before in
-    tried-as _ (patternAt (programOf (here s)) (nth (s .args .k)) (s .args .at .0))
-    (ap (λ (x : Pattern). patternAt (programOf (here s)) x (s .args .at .0)) (ap patternOf (sym (f .form .given .1)) ∙ p .pattern .ensures .0)) (c .try-trampoline .ensures)
+    let s = f .before .before .before in
+    tried-as _ (patternAt (programOf (here s)) (patternOf (s .args .p)) (s .args .at .0))
+    (ap (λ (x : Coded). patternAt (programOf (here s)) (patternOf x) (s .args .at .0)) (sym (f .p2 .given .1))) (c .try-trampoline .ensures)
 
 pub try-pattern-spec : {M : Type 1} → statement M
 try-pattern-spec =
     tie.close
     (tie.spec
-    pattern-requires
-    enum-known-from
+    enum-known-p
     try-inverted-requires
-    enum-known-form
+    enum-known-p-2
     try-trampoline-requires
     returns
     returns-2)

@@ -64,7 +64,7 @@ try-form-requires c κs =
     let i = c .before .before .before in
     let o = i .before .before .before in
     let s = o .before .before .before .before in
-    (s .pre .0, s .pre .1, s .pre .4, instruction o, call-for _ (i .if3 .taken))
+    (s .pre .0, s .pre .1, s .pre .4, instruction o, call-for _ (i .if3 .taken), s .pre .3)
 
 returns-4 : tie.Need-returns-4
 returns-4 c =

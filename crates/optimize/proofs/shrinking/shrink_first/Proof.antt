@@ -3,15 +3,16 @@ use mathlib.Core.Path.{_≡_, refl, sym, ap, _∙_, subst}
 use mathlib.Core.List.{List}
 use mathlib.Core.Option.{Option}
 use Prim.Native.Nat.{ℕ, _-_, _≤_}
+use lib.IntN.{ℤ}
 use native.Mathlib.Omega.{arith}
 use Rattle.laws.specs.Options.{firstFrom}
 use Rattle.laws.proofs.Options.{first-starts}
 use Rattle.rules.specs.Programs.{Placeℕ, Program}
 use Rattle.rules.specs.declared.Settings.{Settings}
-use Rattle.rules.specs.Names.{Entry}
 use Rattle.rules.specs.Judging.{namesOf}
 use Rattle.rules.specs.Rewriting.{shrinkAt, anywhere}
 use Rattle.slots.specs.Slots.{Slots, slots, programOf}
+use Rattle.slots.specs.Links.{contextsRead}
 use Rattle.image.specs.Tables.{Tables, Ready}
 use Rattle.optimize.proofs.Tries.{same-slots, tried-as, found, missed, ended, anywhere-is, still-stands, still-deep}
 use Rattle.optimize.proofs.shrinking.shrink_first.Statement.{statement}
@@ -22,27 +23,25 @@ abbrev tries : Settings → Slots → (i : Placeℕ) → Option Program
 tries asked t i = shrinkAt asked (namesOf (programOf t)) (programOf t) i
 
 abbrev Inv-loop : tie.InvT-loop
-Inv-loop asked frames starts count forms₀ carry owners offsets names contexts values positions deepest i₀ forms i =
+Inv-loop asked frames starts count forms₀ carry owners offsets links values positions deepest i₀ forms i =
     (i ≤ count)
     × (slots frames starts count forms carry owners offsets ≡ slots frames starts count forms₀ carry owners offsets)
     × (firstFrom (tries asked (slots frames starts count forms₀ carry owners offsets)) count 0 ≡ firstFrom (tries asked (slots frames starts count forms₀ carry owners offsets)) (count - i) i)
 
 abbrev μ-loop : tie.MeasureT-loop
-μ-loop asked frames starts count forms₀ carry owners offsets names contexts values positions deepest i₀ forms i = count - i
+μ-loop asked frames starts count forms₀ carry owners offsets links values positions deepest i₀ forms i = count - i
 
 abbrev here : (c : tie.Start Inv-loop μ-loop) → Slots
 here c =
     slots (c .args .frames .now) (c .args .starts .now) (c .args .count) (c .args .forms .now) (c .args .carry .now) (c .args .owners .now) (c .args .offsets .now)
 
 -- the other tables are ready for the same slots
-abbrev beside : Slots → List Entry → (contexts positions : List ℕ) → Tables
-beside t names contexts positions = record { slots = t; entries = names; contexts = contexts; positions = positions }
+abbrev beside : Slots → (links : List ℕ) (values : List ℤ) (positions : List ℕ) → Tables
+beside t links values positions =
+    record { slots = t; entries = namesOf (programOf t); contexts = contextsRead (t .frames) (t .starts) (t .count); links = links; values = values; positions = positions }
 
-still-ready : {t t₀ : Slots} {names : List Entry} {contexts positions : List ℕ} → t ≡ t₀ → Ready (beside t₀ names contexts positions) → Ready (beside t names contexts positions)
-still-ready {t} {t₀} {names} {contexts} {positions} e h = subst (λ (z : Slots). Ready (beside z names contexts positions)) (sym e) h
-
-still-named : {t t₀ : Slots} {names : List Entry} → t ≡ t₀ → names ≡ namesOf (programOf t₀) → names ≡ namesOf (programOf t)
-still-named e h = h ∙ sym (ap (λ (z : Slots). namesOf (programOf z)) e)
+still-ready : (t t₀ : Slots) (links : List ℕ) (values : List ℤ) (positions : List ℕ) → t ≡ t₀ → Ready (beside t₀ links values positions) → Ready (beside t links values positions)
+still-ready t t₀ links values positions e h = subst (λ (z : Slots). Ready (beside z links values positions)) (sym e) h
 
 loop-holds : tie.Need-loop-holds Inv-loop μ-loop
 loop-holds c = let s = c .before in (omega arith, refl, first-starts (tries (s .args .asked) (here s)) (s .args .count))
@@ -52,7 +51,7 @@ shrink-at-requires c κs =
     let l = c .before .before in
     let s = l .before .before in
     let same = l .loop .inv .1 in
-    (still-stands same (s .pre .0), still-deep same (s .pre .1), still-ready same (s .pre .2), still-named same (s .pre .3), c .before .loop-test .taken)
+    (still-stands same (s .pre .0), still-deep same (s .pre .1), still-ready _ _ _ _ _ same (s .pre .2), s .pre .3, c .before .loop-test .taken)
 
 returns : tie.Need-returns Inv-loop μ-loop
 returns c =

@@ -1,5 +1,5 @@
 -- `optimize::shrinking::shrink_jump` meets its contract: the change jump is judged by the program's own names.
-use mathlib.Core.Path.{_≡_, sym, ap, _∙_}
+use mathlib.Core.Path.{_≡_, sym, _∙_}
 use mathlib.Core.List.{List}
 use Rattle.rules.specs.Names.{Entry}
 use Rattle.rules.specs.Judging.{namesOf}
@@ -19,9 +19,7 @@ its c = namesOf (programOf (here c))
 
 -- the change jump that was asked for
 judged : (c : tie.After-is-change-jump) → let s = c .before .before .before in isChangeJump (its s) (programOf (here s)) (s .args .at .0) ≡ c .is-change-jump .result
-judged c =
-    let s = c .before .before .before in
-    sym (c .is-change-jump .ensures ∙ ap (λ (names : List Entry). isChangeJump names (programOf (here s)) (s .args .at .0)) (s .pre .3))
+judged c = sym (c .is-change-jump .ensures)
 
 is-change-jump-requires : tie.Need-is-change-jump-requires
 is-change-jump-requires c κs = let s = c .before .before in (s .pre .2, s .pre .4)
@@ -34,7 +32,7 @@ returns c =
     (shrink-change (s .args .asked) (its s) (here s) (s .args .at .0) (s .pre .4) (s .pre .5) (s .pre .6) (judged j ∙ c .if1 .taken)) (s .pre .0)
 
 try-br-then-jmp-requires : tie.Need-try-br-then-jmp-requires
-try-br-then-jmp-requires c κs = let s = c .before .before .before .before .before in (s .pre .0, s .pre .1, s .pre .4, s .pre .5, s .pre .6)
+try-br-then-jmp-requires c κs = let s = c .before .before .before .before .before in (s .pre .0, s .pre .1, s .pre .4, s .pre .5, s .pre .6, s .pre .3)
 
 returns-2 : tie.Need-returns-2
 returns-2 c =

@@ -17,7 +17,7 @@ here c =
 try-form-requires : tie.Need-try-form-requires
 try-form-requires c κs =
     let s = c .before .before in
-    (s .pre .0, s .pre .1, s .pre .2, s .pre .3, jump-for _ _ refl (s .pre .4))
+    (s .pre .0, s .pre .1, s .pre .2, s .pre .3, jump-for _ _ refl (s .pre .4), s .pre .5)
 
 returns : tie.Need-returns
 returns c =
@@ -36,6 +36,7 @@ try-form-requires-2 c κs =
       s .pre .2,
       ap (λ (t : Slots). kindOf (slotAt t (s .args .at .0))) same ∙ s .pre .3,
       jump-for _ _ refl (ap (λ f. getD f (s .args .at .0) 0) kept ∙ s .pre .4),
+      s .pre .5,
     )
 
 returns-2 : tie.Need-returns-2

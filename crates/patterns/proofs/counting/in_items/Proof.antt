@@ -1,5 +1,6 @@
 -- `patterns::counting::in_items` meets its contract: one item more at each turn, 16 at most.
 use mathlib.Core.Path.{_≡_, refl, sym, ap, _∙_}
+use mathlib.Core.Bool.{Bool}
 use Prim.Native.Nat.{ℕ, _-_, _*_, _≤_, _<_}
 use lib.IntN.{pos}
 use lib.ListN.{length, take}
@@ -7,37 +8,39 @@ use lib.Seq.{take-length}
 use native.Mathlib.Omega.{arith}
 use Rattle.laws.specs.Lists.{total}
 use Rattle.laws.proofs.Lists.{total-more}
-use Rattle.rules.specs.Expressions.{num}
-use Rattle.patterns.specs.Mentions.{times, readAs, itemsOf}
+use Rattle.rules.specs.Expressions.{num, mentions}
+use Rattle.expression.specs.Naming.{Referred}
+use Rattle.patterns.specs.Mentions.{readAs, itemsOf}
 use Rattle.patterns.proofs.Mentions.{ItemsIn, data-in}
 use Rattle.patterns.proofs.counting.in_items.Statement.{statement}
 use Rattle.patterns.proofs.counting.in_items.Tie as tie
 
 abbrev Inv-loop : tie.InvT-loop
-Inv-loop frame at n m found₀ j₀ found j = (j ≤ m) × (found ≡ total (times n) (take j (itemsOf (readAs (at .0) frame)))) × (found ≤ 32 * j)
+Inv-loop frame links at place m found₀ j₀ found j =
+    (j ≤ m) × (found ≤ 120 * j) × ((f : ℕ → Bool) → Referred f frame links place → found ≡ total (mentions f) (take j (itemsOf (readAs (at .0) frame))))
 
 abbrev μ-loop : tie.MeasureT-loop
-μ-loop frame at n m found₀ j₀ found j = m - j
+μ-loop frame links at place m found₀ j₀ found j = m - j
 
 holds : (c : tie.Start Inv-loop μ-loop) → ItemsIn (c .args .at .0) (c .args .frame .now)
-holds c = data-in (c .args .at .0) (c .args .frame .now) (c .pre)
+holds c = data-in (c .args .at .0) (c .args .frame .now) (c .pre .0)
 
 items-in-requires : tie.Need-items-in-requires Inv-loop μ-loop
-items-in-requires c κs = holds (c .before) .long
+items-in-requires c κs = holds (c .before .before) .long
 
 loop-holds : tie.Need-loop-holds Inv-loop μ-loop
 unfolding total
-loop-holds c = (omega arith, refl, omega arith)
+loop-holds c = (omega arith, omega arith, λ f l. refl)
 
 in-item-requires : tie.Need-in-item-requires Inv-loop μ-loop
-in-item-requires c κs = let s = c .before .before .before .before in (s .pre, omega (arith, c .before .before .items-in .ensures))
+in-item-requires c κs = let s = c .before .before .before .before .before in (s .pre .0, omega (arith, c .before .before .items-in .ensures), s .pre .1)
 
 few : (c : tie.After-in-item Inv-loop μ-loop) → c .before .before .loop .j ≤ 16
-few c = omega (arith, holds (c .before .before .before .before .before) .few, c .before .before .before .items-in .ensures)
+few c = omega (arith, holds (c .before .before .before .before .before .before) .few, c .before .before .before .items-in .ensures)
 
 -- a sum of few that are small
 add-found : tie.Need-add-found Inv-loop μ-loop
-add-found c = record { fits = omega (arith, c .before .before .loop .inv .2, c .in-item .ensures .1, few c) }
+add-found c = record { fits = omega (arith, c .before .before .loop .inv .1, c .in-item .ensures .0, few c) }
 
 add-j : tie.Need-add-j Inv-loop μ-loop
 add-j c = omega arith
@@ -47,25 +50,25 @@ loop-less c = omega arith
 
 loop-again : tie.Need-loop-again Inv-loop μ-loop
 loop-again c =
-    let s = c .before .before .before .before .before in
+    let s = c .before .before .before .before .before .before in
     let l = c .before .before .loop in
     let h = holds s in
     let es = itemsOf (readAs (s .args .at .0) (s .args .frame .now)) in
     let inside : l .j < length es = omega (arith, h .items .count, c .before .before .before .items-in .ensures) in (
       omega arith,
-      omega (arith, l .inv .1, c .in-item .ensures .0, total-more (times (s .args .n)) es (l .j) (num (pos 0)) inside),
-      omega (arith, l .inv .2, c .in-item .ensures .1),
+      omega (arith, l .inv .1, c .in-item .ensures .0),
+      λ f r. omega (arith, l .inv .2 f r, c .in-item .ensures .1 f r, total-more (mentions f) es (l .j) (num (pos 0)) inside),
     )
 
 returns : tie.Need-returns Inv-loop μ-loop
 returns c =
-    let s = c .before .before .before .before in
+    let s = c .before .before .before .before .before in
     let l = c .before .loop in
     let h = holds s in
     let es = itemsOf (readAs (s .args .at .0) (s .args .frame .now)) in
     let e : l .j ≡ length es = omega (arith, h .items .count, c .before .before .items-in .ensures) in (
-      l .inv .1 ∙ ap (λ (k : ℕ). total (times (s .args .n)) (take k es)) e ∙ ap (total (times (s .args .n))) (take-length es) ∙ sym (h .over (times (s .args .n))),
-      omega (arith, l .inv .2, h .few, c .before .before .items-in .ensures),
+      omega (arith, l .inv .1, h .few, c .before .before .items-in .ensures),
+      λ f r. l .inv .2 f r ∙ ap (λ (k : ℕ). total (mentions f) (take k es)) e ∙ ap (total (mentions f)) (take-length es) ∙ sym (h .over (mentions f)),
     )
 
 pub in-items-spec : {M : Type 1} → statement M

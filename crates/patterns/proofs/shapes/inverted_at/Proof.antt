@@ -9,12 +9,16 @@ use borrow.Author.Tests.{not-true, not-false}
 use Rattle.laws.specs.Options.{given}
 use Rattle.laws.proofs.Options.{given-true, given-false}
 use Rattle.laws.proofs.Tests.{and-both, first-false, second-false}
+use Rattle.rules.specs.Names.{contextAt}
 use Rattle.rules.specs.Programs.{Program}
 use Rattle.rules.specs.Rewriting.{namesBare, noInnerLabelBetween, noInteriorLabelAt, invertedAt, aimed, candidate, dropAll}
+use Rattle.expression.specs.Sound.{AreBytes}
 use Rattle.slots.specs.Slots.{Slots, slots, programOf}
 use Rattle.patterns.specs.Targets.{instrAt}
 use Rattle.patterns.specs.Matches.{OpeningFound}
 use Rattle.patterns.proofs.Instructions.{carried-target}
+use Rattle.patterns.proofs.Naming.{bare-to}
+use Rattle.patterns.proofs.Contexts.{jump-context, landing-context}
 use Rattle.patterns.proofs.Folds.{opening-found, opening-none, inverted-is}
 use Rattle.patterns.proofs.shapes.inverted_at.Statement.{statement}
 use Rattle.patterns.proofs.shapes.inverted_at.Tie as tie
@@ -23,7 +27,7 @@ abbrev over : (c : tie.Start) → Slots
 over c = slots (c .args .frames .now) (c .args .starts .now) (c .args .count) (c .args .forms .now) (c .args .carry .now) (c .args .owners .now) (c .args .offsets .now)
 
 opening-at-requires : tie.Need-opening-at-requires
-opening-at-requires c κs = let s = c .before in (s .pre .0 .held, s .pre .1, s .pre .2)
+opening-at-requires c κs = let s = c .before in (s .pre .0 .held, s .pre .2, s .pre .3)
 
 enum-known-jump : tie.Need-enum-known-jump
 enum-known-jump c = search needs
@@ -62,6 +66,16 @@ module _ (c : tie.After-jump) where
       opening-found (over start) i (start .args .from) (c .jump .given .1)
       (c .before .before .opening-at .ensures (start .args .carry .now) (start .args .owners .now) (start .args .offsets .now))
 
+  stored : AreBytes (start .args .frames .now)
+  stored k = c .before .before .before .shared-slice-known .given k .fits
+
+  -- the label and the unconditional stand in the branch's context
+  jump-together : contextAt program jump ≡ contextAt program i
+  jump-together = jump-context (over start) i jump (opens .jumps)
+
+  label-together : contextAt program label ≡ contextAt program i
+  label-together = landing-context (over start) jump label (start .pre .0 .held) name (opens .lands) ∙ jump-together
+
   abbrev bare : Bool
   bare = namesBare name (instrAt (over start) i)
 
@@ -79,7 +93,7 @@ names-bare-requires c κs =
     let j = c .before in
     let s = start j in
     let m = opens j .branches in
-    (s .pre .0 .held, s .pre .1, carried-target (over s) (s .pre .0) (i j) (s .pre .1) (m .kind) (m .transfer))
+    (s .pre .0 .held, s .pre .2, carried-target (over s) (s .pre .0) (i j) (s .pre .2) (m .kind) (m .transfer), s .pre .1 .beside .full)
 
 -- the test, as the definition has it
 tested : (c : tie.After-names-bare) → c .names-bare .result ≡ bare (c .before .before)
@@ -87,7 +101,9 @@ tested c =
     let j = c .before .before in
     let s = start j in
     let m = opens j .branches in
-    c .names-bare .ensures (s .args .forms .now) (s .args .offsets .now) (s .pre .0) (m .kind) (m .transfer)
+    c .names-bare .ensures (name j)
+    (bare-to (over s) (s .pre .0) (stored j) (s .args .links .now) (s .pre .1) (label j) (name j) (opens j .lands .inside) (opens j .lands .is) (i j) m (sym (label-together j)))
+    (s .args .forms .now) (s .args .offsets .now) (s .pre .0) (m .kind) (m .transfer)
 
 returns-2 : tie.Need-returns-2
 returns-2 c to =
@@ -110,6 +126,7 @@ returns-3 c =
       branches = o .branches;
       form = o .form;
       jumps = o .jumps .moves;
+      together = jump-together j;
       fold = λ to. shape j to ∙ given-true _ _ (and-both (bare j) (free j) (sym (tested n) ∙ not-false _ (f .before .if1 .left)) (sym (f .is-free .ensures) ∙ c .if2 .taken));
     }
 

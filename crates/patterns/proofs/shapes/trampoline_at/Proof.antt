@@ -6,17 +6,21 @@ use Prim.Native.Nat.{ℕ}
 use lib.Dec.{eqb}
 use lib.ListN.{getD, set}
 use borrow.Author.Needs.{needs}
-use borrow.Author.Tests.{not-true, not-false}
+use borrow.Author.Tests.{not-true, not-false, eq-eqb, ne-eqb}
 use Rattle.laws.specs.Options.{isSome, given}
 use Rattle.laws.proofs.Options.{given-true, given-false}
 use Rattle.laws.proofs.Tests.{and-both, first-false, second-false}
 use Rattle.rules.specs.Names.{contextAt}
 use Rattle.rules.specs.Programs.{Program}
 use Rattle.rules.specs.Rewriting.{namesBare, references, noInnerLabelBetween, noInteriorLabelAt, trampolineAt, aimed, candidate, dropAll}
+use Rattle.expression.specs.Sound.{AreBytes}
 use Rattle.slots.specs.Slots.{Slots, slots, programOf}
 use Rattle.patterns.specs.Targets.{instrAt, TargetIn}
 use Rattle.patterns.specs.Matches.{Moves, JumpFound, LandingFound, OpeningFound}
 use Rattle.patterns.proofs.Instructions.{carried-target, sound-any}
+use Rattle.patterns.proofs.Mentions.{means, references-by}
+use Rattle.patterns.proofs.Naming.{refers-to, bare-to}
+use Rattle.patterns.proofs.Contexts.{jump-context, landing-context}
 use Rattle.patterns.proofs.Folds.{opening-found, opening-none, jump-found, jump-none, landing-found, landing-none, trampoline-no-last, trampoline-no-label, trampoline-is}
 use Rattle.patterns.proofs.shapes.trampoline_at.Statement.{statement}
 use Rattle.patterns.proofs.shapes.trampoline_at.Tie as tie
@@ -64,6 +68,16 @@ module _ (c : tie.After-skip) where
       opening-found (over start) i (start .args .form) (c .skip .given .1)
       (c .before .before .opening-at .ensures (start .args .carry .now) (start .args .owners .now) (start .args .offsets .now))
 
+  stored : AreBytes (start .args .frames .now)
+  stored k = c .before .before .before .shared-slice-known .given k .fits
+
+  -- in the branch's context
+  skip-together : contextAt program skip ≡ contextAt program i
+  skip-together = jump-context (over start) i skip (opens .jumps)
+
+  t-together : contextAt program place-t ≡ contextAt program i
+  t-together = landing-context (over start) skip place-t (start .pre .0 .held) name-t (opens .lands) ∙ skip-together
+
 jump-after-requires : tie.Need-jump-after-requires
 jump-after-requires c κs = let o = c .before in (start o .pre .0 .held, opens o .lands .inside)
 
@@ -93,6 +107,9 @@ module _ (c : tie.After-last) where
   jumps =
       let s = start opening in
       jump-found (over s) (place-t opening) (c .last .given .1) (c .before .before .jump-after .ensures (s .args .carry .now) (s .args .owners .now) (s .args .offsets .now))
+
+  last-together : contextAt (program opening) last ≡ contextAt (program opening) (i opening)
+  last-together = jump-context (over (start opening)) (place-t opening) last jumps ∙ t-together opening
 
 landing-after-requires : tie.Need-landing-after-requires
 landing-after-requires c κs = let a = c .before in (start (opening a) .pre .0 .held, jumps a .moves .inside)
@@ -134,6 +151,9 @@ module _ (c : tie.After-s) where
       landing-found (over begin) (last a) (c .s .given .1)
       (c .before .before .landing-after .ensures (begin .args .carry .now) (begin .args .owners .now) (begin .args .offsets .now))
 
+  s-together : contextAt (program o) place-s ≡ contextAt (program o) (i o)
+  s-together = landing-context (over begin) (last a) place-s (begin .pre .0 .held) name-s lands ∙ last-together a
+
   -- the three tests of names, and that of inner labels
   abbrev to-t : Bool
   to-t = namesBare (name-t o) (instrAt (over begin) (i o))
@@ -161,13 +181,16 @@ module _ (c : tie.After-s) where
   carries j m = carried-target (over begin) (begin .pre .0) j (m .inside) (m .kind) (m .transfer)
 
 names-bare-requires : tie.Need-names-bare-requires
-names-bare-requires c κs = let l = c .before in (begin l .pre .0 .held, begin l .pre .2, carries l (i (o l)) (opens (o l) .branches))
+names-bare-requires c κs = let l = c .before in (begin l .pre .0 .held, begin l .pre .2, carries l (i (o l)) (opens (o l) .branches), begin l .pre .1 .beside .full)
 
 tested-t : (c : tie.After-names-bare) → c .names-bare .result ≡ to-t (c .before .before)
 tested-t c =
     let l = c .before .before in
     let m = opens (o l) .branches in
-    c .names-bare .ensures (begin l .args .forms .now) (begin l .args .offsets .now) (begin l .pre .0) (m .kind) (m .transfer)
+    c .names-bare .ensures (name-t (o l))
+    (bare-to (over (begin l)) (begin l .pre .0) (stored (o l)) (begin l .args .links .now) (begin l .pre .1) (place-t (o l)) (name-t (o l)) (opens (o l) .lands .inside)
+    (opens (o l) .lands .is) (i (o l)) m (sym (t-together (o l))))
+    (begin l .args .forms .now) (begin l .args .offsets .now) (begin l .pre .0) (m .kind) (m .transfer)
 
 returns-4 : tie.Need-returns-4
 returns-4 c =
@@ -178,13 +201,16 @@ names-bare-requires-2 : tie.Need-names-bare-requires-2
 names-bare-requires-2 c κs =
     let l = c .before .before .before in
     let m = opens (o l) .jumps .moves in
-    (begin l .pre .0 .held, m .inside, carries l (skip (o l)) m)
+    (begin l .pre .0 .held, m .inside, carries l (skip (o l)) m, begin l .pre .1 .beside .full)
 
 tested-s : (c : tie.After-names-bare2) → c .names-bare2 .result ≡ to-s (c .before .before .before .before)
 tested-s c =
     let l = c .before .before .before .before in
     let m = opens (o l) .jumps .moves in
-    c .names-bare2 .ensures (begin l .args .forms .now) (begin l .args .offsets .now) (begin l .pre .0) (m .kind) (m .transfer)
+    c .names-bare2 .ensures (name-s l)
+    (bare-to (over (begin l)) (begin l .pre .0) (stored (o l)) (begin l .args .links .now) (begin l .pre .1) (place-s l) (name-s l) (lands l .inside) (lands l .is)
+    (skip (o l)) m (skip-together (o l) ∙ sym (s-together l)))
+    (begin l .args .forms .now) (begin l .args .offsets .now) (begin l .pre .0) (m .kind) (m .transfer)
 
 returns-5 : tie.Need-returns-5
 returns-5 c =
@@ -192,19 +218,27 @@ returns-5 c =
     let l = n .before .before .before .before in
     shape l ∙ given-false _ _ (second-false (to-t l) _ (first-false (to-s l) _ (sym (tested-s n) ∙ not-true _ (c .if2 .taken))))
 
-referred-once-requires : tie.Need-referred-once-requires
-referred-once-requires c κs =
+references-requires : tie.Need-references-requires
+references-requires c κs =
     let l = c .before .before .before .before .before in
-    (opens (o l) .lands .inside, λ others. sound-any _ _ _ _ _ _ (begin l .args .offsets .now) others (begin l .pre .0))
+    (begin l .pre .1 .beside .full, λ others. sound-any _ _ _ _ _ _ (begin l .args .offsets .now) others (begin l .pre .0))
 
-tested-once : (c : tie.After-referred-once) → c .referred-once .result ≡ once (c .before .before .before .before .before .before)
-tested-once c = let l = c .before .before .before .before .before .before in c .referred-once .ensures (begin l .args .offsets .now) (begin l .pre .1)
+-- the links to T are its references
+counted : (c : tie.After-references) → let l : tie.After-s = c .before .before .before .before .before .before in
+    c .references .result ≡ references (contextAt (program (o l)) (place-t (o l))) (name-t (o l)) (program (o l))
+counted c =
+    let l = c .before .before .before .before .before .before in
+    let t = over (begin l) in
+    let k = contextAt (program (o l)) (place-t (o l)) in
+    c .references .ensures (means t k (name-t (o l))) (begin l .args .offsets .now)
+    (refers-to t (begin l .pre .0) (stored (o l)) (begin l .args .links .now) (begin l .pre .1) (place-t (o l)) (name-t (o l)) (opens (o l) .lands .inside) (opens (o l) .lands .is))
+    ∙ sym (references-by t k (name-t (o l)))
 
 returns-6 : tie.Need-returns-6
 returns-6 c =
     let r = c .before in
     let l = r .before .before .before .before .before .before in
-    shape l ∙ given-false _ _ (second-false (to-t l) _ (second-false (to-s l) (once l) (sym (tested-once r) ∙ not-true _ (c .if3 .taken))))
+    shape l ∙ given-false _ _ (second-false (to-t l) _ (second-false (to-s l) (once l) (ne-eqb _ 1 (λ e. c .if3 .taken (counted r ∙ e)))))
 
 is-free-requires : tie.Need-is-free-requires
 is-free-requires c κs = begin (c .before .before .before .before .before .before .before) .pre .0
@@ -219,7 +253,7 @@ bouncing c =
     shape l
     ∙ given-true _ _
     (and-both (to-t l) _ (sym (tested-t (n .before .before)) ∙ not-false _ (n .before .if1 .left))
-    (and-both (to-s l) (once l) (sym (tested-s n) ∙ not-false _ (r .before .if2 .left)) (sym (tested-once r) ∙ not-false _ (c .before .if3 .left))))
+    (and-both (to-s l) (once l) (sym (tested-s n) ∙ not-false _ (r .before .if2 .left)) (eq-eqb _ 1 (sym (counted r) ∙ c .before .if3 .left))))
 
 returns-7 : tie.Need-returns-7
 returns-7 c =
@@ -237,6 +271,7 @@ returns-7 c =
       skips = b .jumps .moves;
       lands = ap isSome (b .lands .is);
       jumps = jumps (a l) .moves;
+      together = last-together (a l);
       fold = bouncing f ∙ given-true (free l) _ (sym (f .is-free .ensures) ∙ c .if4 .taken);
     }
 
@@ -266,7 +301,7 @@ trampoline-at-spec =
     returns-4
     names-bare-requires-2
     returns-5
-    referred-once-requires
+    references-requires
     returns-6
     is-free-requires
     returns-7

@@ -12,17 +12,17 @@ number-at-requires : tie.Need-number-at-requires
 number-at-requires c κs = omega (arith, c .before .pre .0 .few, c .before .pre .1)
 
 is-bare-target-requires : tie.Need-is-bare-target-requires
-is-bare-target-requires c κs = let s = c .before .before in rw (c .number-at .ensures) (s .pre .0, s .pre .2)
+is-bare-target-requires c κs = let s = c .before .before in rw (c .number-at .ensures) (s .pre .0, s .pre .2, s .pre .3)
 
 returns : tie.Need-returns
 unfolding namesBare
-returns c forms offsets sound kind transfer =
+returns c n l forms offsets sound kind transfer =
     let k = c .before in
     let s = k .before .before in
     let t = slots (s .args .frames .now) (s .args .starts .now) (s .args .count) forms (s .args .carry .now) (s .args .owners .now) offsets in
-    c .is-bare-target .ensures forms (s .args .carry .now) offsets
-    ∙ ap (λ (w : ℕ). bareIn (s .args .n) (targetOf t w)) (k .number-at .ensures)
-    ∙ sym (ap (bareIn (s .args .n)) (last-target t sound (s .args .at .0) (s .pre .1) kind transfer))
+    c .is-bare-target .ensures n (rw (k .number-at .ensures) l) forms (s .args .carry .now) offsets
+    ∙ ap (λ (w : ℕ). bareIn n (targetOf t w)) (k .number-at .ensures)
+    ∙ sym (ap (bareIn n) (last-target t sound (s .args .at .0) (s .pre .1) kind transfer))
 
 pub names-bare-spec : {M : Type 1} → statement M
 names-bare-spec = tie.close (tie.spec number-at-requires is-bare-target-requires returns)

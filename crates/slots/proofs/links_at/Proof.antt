@@ -1,0 +1,48 @@
+-- `slots::links_at` meets its contract: the ends of the part lie in order and within the links.
+use Prim.Native.Nat.{_≤_}
+use lib.ListN.{length}
+use native.Mathlib.Omega.{arith}
+use borrow.Author.Needs.{needs}
+use Rattle.slots.proofs.Linking.{part-ends, part-at}
+use Rattle.slots.proofs.links_at.Statement.{statement}
+use Rattle.slots.proofs.links_at.Tie as tie
+
+ends : (c : tie.After-wide2)
+    → (c .before .before .wide .result ≤ c .wide2 .result) × (c .wide2 .result ≤ length (c .before .before .before .before .before .args .links .now))
+ends c =
+    let s = c .before .before .before .before .before in
+    part-ends (s .args .links .now) (s .args .starts .now) (s .args .at .0) (s .pre) (c .before .before .wide .result) (c .wide2 .result)
+    (c .before .before .wide .ensures) (c .wide2 .ensures)
+
+sub-result : tie.Need-sub-result
+sub-result c = omega (arith, ends c .0)
+
+part-result-start : tie.Need-part-result-start
+part-result-start c = omega (arith, ends c .0)
+
+part-result-end : tie.Need-part-result-end
+part-result-end c = omega (arith, ends c .0, ends c .1)
+
+returns : tie.Need-returns
+returns c =
+    let d = c .before in
+    let s = d .before .before .before .before .before in
+    part-at (s .args .links .now) (s .args .starts .now) (s .args .at .0) (d .before .before .wide .result) (d .wide2 .result)
+    (d .before .before .wide .ensures) (d .wide2 .ensures)
+
+pub links-at-spec : {M : Type 1} → statement M
+links-at-spec =
+    tie.close
+    (tie.spec
+    (λ c. search needs)
+    (λ c. search needs)
+    (λ c κs. search needs)
+    (λ c. search needs)
+    (λ c. search needs)
+    (λ c. search needs)
+    (λ c κs. search needs)
+    (λ c. search needs)
+    sub-result
+    part-result-start
+    part-result-end
+    returns)
