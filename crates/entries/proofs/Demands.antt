@@ -25,6 +25,8 @@ use Rattle.rules.proofs.Laws.{then-ok, require-ok}
 use Rattle.promises.specs.Entry.{Promised}
 use Rattle.promises.proofs.Entry.{promised}
 use Rattle.promises.proofs.OutputRoom.{never-room}
+use Rattle.believed.specs.Causes.{Assembles, OnAssemblyRefusal}
+use Rattle.believed.proofs.AfterAssembly.{assembles-iff, on-assembly-refusal}
 use Rattle.entries.specs.Assembling.{answerAs, roomAs, Leaves, AsAssembled}
 
 -- a room that holds a result of n bytes in front
@@ -59,9 +61,20 @@ module _ (text room : List ℕ) where
           }
       on (no r) e d f = clash (cc)
 
-  -- unassembled: `Refused r` says that no byte of the room changed, and that r is the definition's refusal
-  pub unassembled : (r : Refusal) (room′ : List ℕ) → Leaves (assembled text (length room)) (Refused r) room room′ → (room′ ≡ room) × (assembled text (length room) ≡ no r)
-  unassembled r room′ x = on (assembled text (length room)) (x .answer) (x .room)
+  -- assembles-done: and `Done` is answered wherever the text keeps the listing rules, assembles as given, and the room holds the image
+  pub assembles-done : (image room′ : List ℕ) (a : Answer) → Leaves (assembled text (length room)) a room room′
+      → Assembles text (length room) image → (a ≡ answerAs (ok image)) × (room′ ≡ front image room)
+  assembles-done image room′ a x h =
+      let e = assembles-iff text (length room) image .1 h in
+      (x .answer ∙ ap answerAs e, x .room ∙ ap (λ j. roomAs j room) e)
+
+  -- unassembled: `Refused r` says that no byte of the room changed; and r's number is one of twelve, has its own cause and no other, at the first
+  -- statement at fault: what `optimize_jumps` says on refusal
+  pub unassembled : (r : Refusal) (room′ : List ℕ) → Leaves (assembled text (length room)) (Refused r) room room′
+      → (room′ ≡ room) × OnAssemblyRefusal text (length room) r
+  unassembled r room′ x =
+      let h = on (assembled text (length room)) (x .answer) (x .room) in
+      (h .0, on-assembly-refusal text (length room) r (h .1))
     where
       on : (j : Judged (List ℕ)) → Refused r ≡ answerAs j → room′ ≡ roomAs j room → (room′ ≡ room) × (j ≡ no r)
       on (ok b) d f = clash (cc)
