@@ -1,10 +1,11 @@
 -- The verdict: the names' refusal, or the encoding's where the names stand, and what the tables then hold.
 use mathlib.Core.Path.{_≡_, refl, sym, ap, _∙_}
 use mathlib.Core.List.{List, []}
-use mathlib.Core.Bool.{Bool, false}
+use mathlib.Core.Bool.{Bool, true, false, _&&_}
 use Prim.Native.Nat.{ℕ, suc}
 use native.Mathlib.Omega.{arith}
 use lib.IntN.{ℤ}
+use Rattle.laws.proofs.Tests.{false-true}
 use Rattle.rules.specs.declared.Refusal.{Refusal}
 use Rattle.rules.specs.Answers.{Judged, ok, no, Check, _>>=_, _>>_, orD, isOk}
 use Rattle.rules.specs.Programs.{Program}
@@ -13,18 +14,21 @@ use Rattle.rules.specs.Names.{Entry, placed}
 use Rattle.rules.specs.Judging.{noNameTwice, positionsFit, defineAll, encodeAll, namesOf, judge, assembles}
 use Rattle.rules.proofs.Laws.{next-ok}
 use Rattle.slots.specs.Slots.{Slots, programOf, Sound}
-use Rattle.slots.specs.Links.{contextsRead, Together}
+use Rattle.slots.specs.Links.{contextsRead, Beside, Together}
 use Rattle.env.specs.declared.Checked.{Checked}
 use Rattle.env.specs.declared.Checked.the-variants.{Passes, Refused}
+use Rattle.env.specs.Answers.{checkedAs as env·checkedAs}
+use Rattle.env.specs.Settling.{Settled}
+use Rattle.env.proofs.Programs.{length-program}
 use Rattle.image.specs.declared.Checked.{Checked as Encoded}
 use Rattle.image.specs.declared.Checked.the-variants.{Passes as Encodes, Refused as Encoded·Refused}
 use Rattle.image.specs.Tables.{Tables, program, Ready}
 use Rattle.image.specs.Encoding.{checkedAs, encodeSlots}
 use Rattle.asm.specs.declared.Verdict.{Verdict}
 use Rattle.asm.specs.declared.Verdict.the-variants.{Good, Refused as Bad}
-use Rattle.asm.specs.Assembling.{namesJudged, InPlace, Filled, Prepared}
+use Rattle.asm.specs.Assembling.{namesJudged, InPlace, Once, Filled, Prepared}
 use Rattle.asm.specs.Verdicts.{verdictAs, JudgedAs}
-use Rattle.asm.proofs.Passing.{refused-is}
+use Rattle.asm.proofs.Passing.{refused-is, defined-last, names-are, positions-rise, says-of}
 
 -- an answer of the encoding pass, as a verdict
 verdictOf : Encoded → Verdict
@@ -115,9 +119,33 @@ module _ (t : Slots) (links : List ℕ) (values : List ℤ) (positions : List �
 
   -- ---- the same as a test
 
-  pub fails-refused : (r : Checked) (q : Refusal) → Prepared t links values positions r → r ≡ Refused q → false ≡ assembles (programOf t)
-  unfolding assembles isOk
-  fails-refused r q h e = sym (ap (λ x. isOk x) (judge-refused (programOf t) q (refused-is (namesJudged (programOf t)) q (sym e ∙ h .answer))))
+  -- what one pass over positions and values leaves
+  pub filled-of : Beside (t .frames) (t .starts) (t .count) links → InPlace t → Once t → (r : Bool) → r ≡ true → Settled t r positions values → Filled t links values positions
+  filled-of b c once r e h =
+      let p = programOf t in
+      let stand = names-are p _ (h .entries e) in
+      record {
+        entries = defined-last p once (sym (ap (λ x. env·checkedAs x) (h .fits e))) ∙ h .entries e ∙ ap ok (sym stand);
+        says = says-of t links values b c (h .tables e .shown) stand;
+        place = h .tables e .held;
+        low = h .tables e .small;
+        rises = λ i l. positions-rise p tt (h .fits e) i (rw (length-program t) l);
+      }
+
+  pub fails-settled : Once t → (r : Bool) → r ≡ false → Settled t r positions values → false ≡ assembles (programOf t)
+  unfolding assembles namesJudged isOk _>>_
+  fails-settled once r e h = on (positionsFit (placed p)) (defineAll [] (placed p)) refl refl (sym e ∙ h .answer)
+    where
+      p : Program
+      p = programOf t
+
+      fails : (q : Refusal) → namesJudged p ≡ no q → false ≡ assembles p
+      fails q z = sym (ap (λ x. isOk x) (judge-refused p q z))
+
+      on : (a : Check) (b : Judged (List Entry)) → positionsFit (placed p) ≡ a → defineAll [] (placed p) ≡ b → false ≡ isOk a && isOk b → false ≡ assembles p
+      on (ok u) (ok v) f d z = false-true z
+      on (ok u) (no q) f d z = fails q (rw (once, f, d))
+      on (no q) b f d z = fails q (rw (once, f))
 
   pub assembles-last : (b : Bool) → Filled t links values positions → b ≡ isOk (encodeSlots held) → b ≡ assembles (programOf t)
   unfolding assembles encodeSlots

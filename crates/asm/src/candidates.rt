@@ -1,6 +1,5 @@
 // Whether a candidate assembles: yes or no. A rewrite adds no name, so 3 is never asked again.
-use crate::names::lay_and_define;
-use env::Checked;
+use env::settle_all;
 use image::encode_all;
 use image::encodes_at;
 use rules::Place;
@@ -91,9 +90,8 @@ pub fn assembles(
         ⌜ (r ≡ assembles (programOf t)) × (r ≡ true → Positioned t (now (positions .exit))) ⌝ }
 {
     let mut values = [0i64; 1024];
-    match lay_and_define(frames, starts, count, forms, links, positions, &mut values) {
-        Checked::Refused(_) => false,
-        Checked::Passes => encodes_all(
+    if settle_all(frames, starts, count, forms, links, positions, &mut values) {
+        return encodes_all(
             frames,
             starts,
             count,
@@ -105,6 +103,7 @@ pub fn assembles(
             &values,
             positions,
             hint,
-        ),
+        );
     }
+    false // 4 to 7
 }

@@ -5,6 +5,7 @@ mod layout; // positions: 5 and 6
 mod links; // the place that each name means
 mod moving; // which names move with the code
 mod names; // the name that each place defines: 3
+mod settling; // positions and values in one pass
 mod variables; // what names stand for: 4 and 7
 
 pub use contexts::fill_contexts;
@@ -15,6 +16,7 @@ pub use names::fill_names;
 pub use names::no_name_twice;
 use rules::Address;
 use rules::Refusal;
+pub use settling::settle_all;
 pub use variables::define_all;
 
 // The kinds of statement that are looked into here, by the first byte of their frames.

@@ -43,7 +43,7 @@ pub record VariableIn (i : Placeℕ) (s : List ℕ) : Type 0 where
 
 -- ---- by links
 
--- a frame, and the links beside it
+-- a frame of at most 120 bytes, and links as long as it
 abbrev pub Short : (s links : List ℕ) → Type 0
 Short s links = (length links ≡ length s) × (length s ≤ 120)
 

@@ -1,7 +1,7 @@
 // The patterns of folds, looked for in the tables of a program. Nothing here changes a table.
 use rules::Place;
 
-pub mod counting; // references to a name
+pub mod counting; // references to a statement
 pub mod labels; // inner labels
 pub mod list; // the patterns in their order
 pub mod shapes; // the two shapes of a pattern

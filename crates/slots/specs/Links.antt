@@ -36,7 +36,8 @@ Spans starts i n = (i < 1024) × (getD starts i 0 ≤ getD starts (suc i) 0) × 
 pub record Beside (frames starts : List ℕ) (n : ℕ) (links : List ℕ) : Type 0 where
   pub full : length links ≡ 28672
   pub place : (c : Placeℕ) → c < n
-      → Links (namesRead frames starts n) (contextsRead frames starts n) n (getD (contextsRead frames starts n) c 0) (frameAt frames starts c) (frameAt links starts c)
+      → Links (namesRead frames starts n) (contextsRead frames starts n) n (getD (contextsRead frames starts n) c 0)
+      (frameAt frames starts c) (frameAt links starts c)
 
 -- links and values say at each place what a name means there among `names`
 pub record Says (t : Slots) (names : List Entry) (links : List ℕ) (values : List ℤ) : Type 0 where

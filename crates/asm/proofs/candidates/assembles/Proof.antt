@@ -6,7 +6,7 @@ use Rattle.laws.proofs.Tests.{false-true}
 use Rattle.slots.specs.Slots.{Slots, slots}
 use Rattle.slots.specs.Links.{contextsRead}
 use Rattle.asm.proofs.Carrying.{placed-any}
-use Rattle.asm.proofs.Ending.{ready-of, fails-refused, assembles-last}
+use Rattle.asm.proofs.Ending.{ready-of, filled-of, fails-settled, assembles-last}
 use Rattle.asm.proofs.candidates.assembles.Statement.{statement}
 use Rattle.asm.proofs.candidates.assembles.Tie as tie
 
@@ -16,51 +16,44 @@ over c carry owners offsets = slots (c .args .frames .now) (c .args .starts .now
 abbrev here : (c : tie.Start) → Slots
 here c = over c (c .args .carry .now) (c .args .owners .now) (c .args .offsets .now)
 
-lay-and-define-requires : tie.Need-lay-and-define-requires
-lay-and-define-requires c κs =
-    let s = c .before .before .before in (
-      s .pre .0 .held,
-      s .pre .6,
-      search needs,
-      s .pre .4,
-      placed-any (s .args .frames .now) (s .args .starts .now) (s .args .count) (s .args .forms .now) (s .args .carry .now) (s .args .owners .now) (s .args .offsets .now)
-          (contextsRead (s .args .frames .now) (s .args .starts .now) (s .args .count)) (s .pre .1),
+settle-all-requires : tie.Need-settle-all-requires
+settle-all-requires c κs =
+    let s = c .before .before .before .before in (
+      (s .pre .0 .held, s .pre .6, search needs, s .pre .4),
+      λ carry owners offsets.
+          placed-any (s .args .frames .now) (s .args .starts .now) (s .args .count) (s .args .forms .now) (s .args .carry .now) (s .args .owners .now) (s .args .offsets .now)
+          (contextsRead (s .args .frames .now) (s .args .starts .now) (s .args .count)) (s .pre .1) carry owners offsets .context,
     )
 
 encodes-all-requires : tie.Need-encodes-all-requires
 encodes-all-requires c κs =
-    let e = c .before .before in
-    let n = e .before .before in
-    let s = n .before .before .before .before in (
-      ready-of (here s) _ _ _ (s .pre .0) (s .pre .2) (s .pre .1)
-          (n .lay-and-define .ensures (s .args .carry .now) (s .args .owners .now) (s .args .offsets .now) (s .pre .3) .filled (e .enum-told2 .given .1)),
-      s .pre .5,
-    )
+    let g = c .before .before in
+    let n = g .before in
+    let s = n .before .before .before .before .before in
+    let h = n .settle-all .ensures (s .args .carry .now) (s .args .owners .now) (s .args .offsets .now) in
+    (ready-of (here s) _ _ _ (s .pre .0) (s .pre .2) (s .pre .1) (filled-of (here s) _ _ _ (s .pre .4) (s .pre .1) (s .pre .3) _ (g .if1 .taken) h), s .pre .5)
 
 returns : tie.Need-returns
 returns c =
-    let n = c .before .before in
-    let s = n .before .before .before .before in (
-      fails-refused (here s) _ _ _ _ (c .enum-told .given .0 .0)
-          (n .lay-and-define .ensures (s .args .carry .now) (s .args .owners .now) (s .args .offsets .now) (s .pre .3)) (c .enum-told .given .1),
-      λ e. false-true e,
-    )
+    let g = c .before .before .before in
+    let n = g .before in
+    let s = n .before .before .before .before .before in
+    let h = n .settle-all .ensures (s .args .carry .now) (s .args .owners .now) (s .args .offsets .now) in
+    let filled = filled-of (here s) _ _ _ (s .pre .4) (s .pre .1) (s .pre .3) _ (g .if1 .taken) h in
+    (assembles-last (here s) _ _ _ _ filled (c .encodes-all .ensures), λ d. filled .place)
 
 returns-2 : tie.Need-returns-2
 returns-2 c =
-    let e = c .before .before .before in
-    let n = e .before .before in
-    let s = n .before .before .before .before in
-    let filled = n .lay-and-define .ensures (s .args .carry .now) (s .args .owners .now) (s .args .offsets .now) (s .pre .3) .filled (e .enum-told2 .given .1) in
-    (assembles-last (here s) _ _ _ _ filled (c .encodes-all .ensures), λ d. filled .place)
+    let n = c .before in
+    let s = n .before .before .before .before .before in
+    let h = n .settle-all .ensures (s .args .carry .now) (s .args .owners .now) (s .args .offsets .now) in
+    (fails-settled (here s) (s .args .links .now) _ _ (s .pre .3) _ (c .if1 .left) h, λ e. false-true e)
 
 pub assembles-spec : {M : Type 1} → statement M
 assembles-spec =
     tie.close
     (tie.spec
-    lay-and-define-requires
-    (λ c. search needs)
-    (λ c. search needs)
+    settle-all-requires
     encodes-all-requires
     returns
     returns-2)
