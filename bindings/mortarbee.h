@@ -51,6 +51,13 @@ struct mortarbee_sits mortarbee_where_sits(const uint8_t *listing, size_t listin
    for a start beyond the end of the image, 2, then 12 with the count of statements that would come out. A room of 50,176 bytes is never too short. */
 struct mortarbee_reply mortarbee_read_back(const uint8_t *image, size_t image_len, size_t start, uint8_t *listing, size_t listing_len);
 
+/* ---- C-16: a listing as text for people, one line a statement; the line 7D02 has none. `listing` is the text's length; `rewrites` and `image` are 0.
+   Refusals: 1 and 2 of the listing, then 12 with the statement count. */
+struct mortarbee_reply mortarbee_text(const uint8_t *listing, size_t listing_len, uint8_t *text, size_t text_len);
+
+/* A room that is never too short. */
+#define MORTARBEE_TEXT_ROOM 86016
+
 /* ---- C-24: settings kept by edition. A store is the first 160 bytes of the room: 32 places of five, the family and the edition in two bytes each, high
    byte first, and the switches (1 comments, 2 Callf, 4 folds). Zeros are an empty store. What lies behind the 160 bytes never changes. */
 

@@ -1,5 +1,5 @@
 /* Hands arbitrary bytes to each entry for a time, and looks for a crash, a byte changed on refusal or behind a result, a hang, source lines that alter an
-   answer, and addresses, editions, runs under an edition and images read back that are not what C-17, C-24 and C-21 say.
+   answer, and addresses, editions, runs under an edition, images read back and texts that are not what C-17, C-24, C-21 and C-16 say.
    usage: fuzz [--seed N] [--seconds N]. What failed is written to fuzz.failed. Built by ../build.sh. */
 #include "../mortarbee.h"
 #include "rooms.h"
@@ -7,6 +7,7 @@
 #include "places.h"
 #include "stores.h"
 #include "images.h"
+#include "people.h"
 
 static uint64_t done, refusals[13], marked, compared, under_runs;
 static unsigned asked; /* the settings, by number: 1 keeps comments, 2 lets Callf shrink, 4 lets folds run */
@@ -138,6 +139,7 @@ static void hand_over(uint64_t number) {
     struct mortarbee_reply plain = try_entry(0);
     try_places(plain);
     lend_text();
+    try_people(plain);
     struct mortarbee_reply rewritten = try_entry(1);
     check(plain.number == rewritten.number && plain.place == rewritten.place && plain.argument == rewritten.argument && plain.amount == rewritten.amount,
           "assembled and rewritten are not refused alike");
@@ -172,6 +174,7 @@ int main(int argc, char **argv) {
     make_room(&out_room, MORTARBEE_LISTING_ROOM + 16);
     make_room(&image_room, MORTARBEE_IMAGE_ROOM + 16);
     make_room(&store_room, STORE_MOST);
+    make_room(&people_room, MORTARBEE_TEXT_ROOM);
     zeros();
     double end = now() + (double)seconds;
     uint64_t texts = 0;
@@ -191,6 +194,7 @@ int main(int argc, char **argv) {
     printf("; with source lines: %llu texts, %llu compared with the same in the old form", (unsigned long long)marked, (unsigned long long)compared);
     printf("; places: %llu with an address, %llu refused", (unsigned long long)addresses, (unsigned long long)without_address);
     printf("; images: %llu read back, %llu refused", (unsigned long long)read_back_done, (unsigned long long)read_back_refused);
+    printf("; texts for people: %llu of %llu bytes", (unsigned long long)texts_written, (unsigned long long)text_bytes);
     printf("; stores: %llu calls, %llu accepted runs under an edition; refused:", (unsigned long long)store_calls, (unsigned long long)under_runs);
     for (int i = 12; i <= 19; i++) {
         if (i == 12 || i >= 17) {

@@ -1,9 +1,9 @@
-"""Writes the listings of the folder examples to the program `examples` (crates/examples/stdin), and holds the program's stored
-output (crates/examples/stdout) against the answers beside the listings.
+"""Writes the listings of the folder examples to the programs `examples` and `texts` (crates/NAME/stdin), and holds their stored
+output (crates/NAME/stdout) against the answers and the texts beside the listings.
 
-    python3 tools/examples/make.py write     # writes crates/examples/stdin
-    python3 tools/examples/make.py compare   # each NAME.out is what the program wrote, examples/README.md has each name,
-                                             # and each line that docs/FORMAT.md shows stands in a listing that is accepted
+    python3 tools/examples/make.py write     # writes crates/examples/stdin and crates/texts/stdin
+    python3 tools/examples/make.py compare   # each NAME.out and NAME.txt is what the program wrote, examples/README.md has each name,
+                                             # and each line that docs/FORMAT.md shows stands in a listing that is accepted, with its text
 """
 import re
 import sys
@@ -13,6 +13,7 @@ ROOT = Path(__file__).resolve().parents[2]
 EXAMPLES = ROOT / "examples"
 STDIN = ROOT / "crates/examples/stdin"
 STDOUT = ROOT / "crates/examples/stdout"
+TEXTS = ROOT / "crates/texts"
 
 
 def names():
@@ -34,9 +35,30 @@ def answers():
         yield "".join(line for line in part.splitlines(keepends=True) if not line.startswith("IMAGE "))
 
 
+def texts():
+    """What the program wrote for people, for each listing; None where it refused it."""
+    for part in (TEXTS / "stdout").read_text().split("==\n")[:-1]:
+        yield None if part.startswith("7E") else part
+
+
+def shown():
+    """Each line of docs/FORMAT.md, and its text for people where the table has one."""
+    for row in re.findall(r"^\| .*\|$", (ROOT / "docs/FORMAT.md").read_text(), re.M):
+        found = re.search(r"\| `([0-9A-F]{4,})` \|(?: `([^`]+)` \|)?", row)
+        if found:
+            yield found[1], found[2] and found[2].replace("\\|", "|")
+
+
 def faults():
-    if STDIN.read_text() != blocks():
-        yield "crates/examples/stdin is not what `write` writes"
+    if STDIN.read_text() != blocks() or (TEXTS / "stdin").read_text() != blocks():
+        yield "crates/examples/stdin or crates/texts/stdin is not what `write` writes"
+    people = {}
+    for name, text in zip(names(), texts(), strict=True):
+        path = EXAMPLES / f"{name}.txt"
+        if (path.read_text() if path.exists() else None) != text:
+            yield f"{name}.txt is not what the program wrote"
+        lines = listing(name).split()
+        people.update(zip(lines[lines[:1] == ["7D02"] :], (text or "").splitlines()))
     table = (EXAMPLES / "README.md").read_text()
     accepted = set()
     for name, answer in zip(names(), answers(), strict=True):
@@ -46,14 +68,17 @@ def faults():
             yield f"examples/README.md does not have {name}"
         if not answer.startswith("7E"):
             accepted.update(listing(name).split())
-    for line in re.findall(r"(?<=\| `)[0-9A-F]{4,}(?=` \|)", (ROOT / "docs/FORMAT.md").read_text()):
+    for line, text in shown():
         if line not in accepted:
             yield f"docs/FORMAT.md: {line} stands in no listing that is accepted"
+        elif text and text != people.get(line):
+            yield f"docs/FORMAT.md: {line} is not {text} for people"
 
 
 if __name__ == "__main__":
     if sys.argv[1:] == ["write"]:
         STDIN.write_text(blocks())
+        (TEXTS / "stdin").write_text(blocks())
         print(len(names()), "listings")
     elif sys.argv[1:] == ["compare"]:
         found = list(faults())

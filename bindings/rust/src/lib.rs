@@ -104,6 +104,7 @@ extern "C" {
         image_len: usize,
     ) -> Reply;
     fn mortarbee_read_back(image: *const u8, image_len: usize, start: usize, listing: *mut u8, listing_len: usize) -> Reply;
+    fn mortarbee_text(listing: *const u8, listing_len: usize, text: *mut u8, text_len: usize) -> Reply;
     fn mortarbee_where_sits(listing: *const u8, listing_len: usize, n: usize) -> SitsReply;
     fn mortarbee_add_edition(room: *mut u8, room_len: usize, family: u16, comments: u8, callf: u8, folds: u8) -> NumberedReply;
     fn mortarbee_get_edition(room: *const u8, room_len: usize, family: u16, edition: u16) -> FoundReply;
@@ -166,6 +167,14 @@ pub fn optimize_jumps(asked: Settings, listing: &[u8], out: &mut [u8], image: &m
 /// C-21: writes the listing of an image from the address `start` on, in the old form, and gives its length. It assembles to the same bytes.
 pub fn read_back(image: &[u8], start: usize, listing: &mut [u8]) -> Result<usize, Refusal> {
     answer(unsafe { mortarbee_read_back(image.as_ptr(), image.len(), start, listing.as_mut_ptr(), listing.len()) }).map(|done| done.listing)
+}
+
+/// A room for a text that is never too short.
+pub const TEXT_ROOM: usize = 86_016;
+
+/// C-16: writes a listing of either form as text for people, one line a statement, and gives the text's length.
+pub fn text(listing: &[u8], text: &mut [u8]) -> Result<usize, Refusal> {
+    answer(unsafe { mortarbee_text(listing.as_ptr(), listing.len(), text.as_mut_ptr(), text.len()) }).map(|done| done.listing)
 }
 
 /// C-17: the address of statement n, the position before its own org or pad; where n is the statement count, the end position. Answered from

@@ -8,6 +8,7 @@ use Rattle.rules.specs.Answers.{Judged}
 use Rattle.rules.specs.Run.{Output, assembled, run, answerOf, listingAfter, imageAfter}
 use Rattle.entries.specs.Assembling.{answerAs, roomAs}
 use Rattle.readback.specs.ReadBack.{readBack}
+use Rattle.readable.specs.Readable.{readable}
 use Rattle.readback.specs.Entry.{answerAs as readAs, roomAs as readRoom}
 use Rattle.sits.specs.declared.Sits.{Sits}
 use Rattle.sits.specs.Sits.{sits, sitsAs}
@@ -122,3 +123,10 @@ pub one-read-back : (image : List ℕ) (start : ℕ) (room : List ℕ) (r s : Re
     → Says s (readAs (readBack image start (length room))) × (y ≡ readRoom (readBack image start (length room)) room)
     → (r ≡ s) × (x ≡ y)
 one-read-back image start room r s x y a b = (one-reply _ r s (a .0) (b .0), a .1 ∙ sym (b .1))
+
+-- ---- C-16: `mortarbee_text`
+pub one-text : (listing room : List ℕ) (r s : Reply) (x y : List ℕ)
+    → Says r (readAs (readable listing (length room))) × (x ≡ readRoom (readable listing (length room)) room)
+    → Says s (readAs (readable listing (length room))) × (y ≡ readRoom (readable listing (length room)) room)
+    → (r ≡ s) × (x ≡ y)
+one-text listing room r s x y a b = (one-reply _ r s (a .0) (b .0), a .1 ∙ sym (b .1))

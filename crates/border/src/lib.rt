@@ -1,6 +1,7 @@
 // The entries for C and Rust. Nothing is asked of the caller, and every lent byte is accounted for.
 mod exported; // the functions
 mod replies; // their answers, as structs of numbers
+mod texts; // C-16
 
 pub use exported::mortarbee_add_edition;
 pub use exported::mortarbee_assemble;
@@ -15,3 +16,4 @@ pub use replies::FoundReply;
 pub use replies::NumberedReply;
 pub use replies::Reply;
 pub use replies::SitsReply;
+pub use texts::mortarbee_text;

@@ -6,8 +6,8 @@ mod switches; // a listing under the other settings
 
 use answers::put_answer;
 pub use answers::put_page;
-use blocks::behind;
-use blocks::block_end;
+pub use blocks::behind;
+pub use blocks::block_end;
 use io::read_full;
 use io::write_all;
 use libc::STDERR_FILENO;

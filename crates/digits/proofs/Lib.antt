@@ -1,2 +1,3 @@
 -- A piece stored in a room.
 pub mod Rooms
+pub mod Left

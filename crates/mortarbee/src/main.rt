@@ -33,6 +33,8 @@ fn job(word: &[u8]) {
         placing::place();
     } else if same(word, b"read-back") {
         reading::from_word();
+    } else if same(word, b"text") {
+        showing::text();
     } else if same(word, b"settings") {
         keeping::settings();
     } else if same(word, b"under") {

@@ -1,20 +1,16 @@
--- What `readBack` comes to, by each test in its order, and what the entry then leaves.
-use mathlib.Core.Path.{_≡_, sym, _∙_, ap}
+-- What `readBack` comes to, by each test in its order.
+use mathlib.Core.Path.{_≡_, _∙_}
 use mathlib.Core.List.{List}
 use Prim.Native.Nat.{ℕ, _<_, _≤_}
 use native.Mathlib.Omega.{arith}
 use lib.Dec.{leb}
 use lib.ListN.{length}
 use borrow.Author.Tests.{lt-leb, le-leb}
-use Rattle.rules.specs.declared.Answer.the-variants.{Done, Refused}
-use Rattle.rules.specs.declared.Refusal.{Refusal}
 use Rattle.rules.specs.declared.Refusal.the-variants.{Limit, Room, Start}
-use Rattle.rules.specs.Answers.{atPlace, Judged, ok, no, require, _>>_}
+use Rattle.rules.specs.Answers.{atPlace, ok, no, require, _>>_}
 use Rattle.rules.specs.Programs.{Addressℕ, Program}
-use Rattle.digits.specs.Digits.{laid}
-use Rattle.digits.proofs.Rooms.{laid-front}
+pub use Rattle.digits.proofs.Left.{refused, written}
 use Rattle.readback.specs.ReadBack.{statementsOf, listingOf, readBack}
-use Rattle.readback.specs.Entry.{answerAs, roomAs, Leaves}
 use Rattle.readback.proofs.Short.{limits-kept, limits-passed}
 use Rattle.readback.proofs.SameBytes.{all-short}
 
@@ -63,17 +59,3 @@ module _ (image : List ℕ) (start : Addressℕ) (room : ℕ) where
       pub all-fits : length (listingOf p) ≤ room → readBack image start room ≡ ok (listingOf p)
       unfolding require
       all-fits h = by-room ∙ rw (le-leb (length (listingOf p)) room h)
-
--- ---- what is left
-
-pub refused : (x : Judged (List ℕ)) (r : Refusal) (room : List ℕ) → x ≡ no r → Leaves x (Refused r) room room
-refused x r room e = record { answer = sym (ap answerAs e); room = sym (ap (λ (y : Judged (List ℕ)). roomAs y room) e) }
-
-pub written : (x : Judged (List ℕ)) (listing : List ℕ) (n : ℕ) (room after : List ℕ) → x ≡ ok listing → n ≡ length listing
-    → after ≡ laid room 0 listing
-    → Leaves x (Done (record { listing = n; rewrites = 0; image = 0 })) room after
-written x listing n room after e k w =
-    record {
-      answer = ap (λ (m : ℕ). Done (record { listing = m; rewrites = 0; image = 0 })) k ∙ sym (ap answerAs e);
-      room = w ∙ laid-front room listing ∙ sym (ap (λ (y : Judged (List ℕ)). roomAs y room) e);
-    }

@@ -1,0 +1,309 @@
+-- What an operand begins with, and the operands that are numbers and names. Assumes nothing.
+use mathlib.Core.Path.{_≡_, refl, sym, ap, _∙_, subst}
+use mathlib.Core.List.{List, [], _∷_, _++_, append-assoc, append-nil}
+use mathlib.Core.Bool.{Bool, true, false, _&&_, cond}
+use Prim.Native.Nat.{ℕ, zero, suc, _+_, _-_, _*_, _≤_, _<_}
+use native.Mathlib.Omega.{arith}
+use lib.Dec.{leb, eqb, lit≤}
+use lib.IntN.{pos, negℤ}
+use lib.ListN.{length, replicate}
+use borrow.Author.Tests.{leb-true, le-leb, eqb-true}
+use Rattle.laws.proofs.Tests.{clash, false-true, true-false, and-true, and-both}
+use Rattle.rules.specs.declared.Op1.{Op1}
+use Rattle.rules.specs.declared.Op1.the-variants.{Negate, Upper, Lower}
+use Rattle.rules.specs.Expressions.{Expr, num, name}
+use Rattle.grammar.specs.Reading.{isDecimal, worth, look, Decimal, Number, plain, minus, Name, global, local, touches, Exp, number, named}
+use Rattle.text.specs.Text.{sign1}
+use Rattle.grammar.specs.Going as going
+use Rattle.grammar.specs.Going.{Read, got, stuck, onGot, digits, fixed, Class, classOf, Start, leaf, paren, sign, nothing, startBy, start}
+use Rattle.grammar.proofs.Takes.{Took, idle}
+use Rattle.grammar.proofs.Digits.{AllDigits, more-digits, digits-step, FineDigits, fine-digits, Full, Part, FineFixed, fine-fixed, zeros-digits, zeros-worth}
+
+-- ---- the class of a byte
+
+abbrev pub Is : ℕ → Class → Type 0
+Is c going.digit = isDecimal c ≡ true
+Is c going.minus = c ≡ 45
+Is c going.global = c ≡ 103
+Is c going.dot = c ≡ 46
+Is c going.bracket = c ≡ 40
+Is c going.upper = c ≡ 62
+Is c going.lower = c ≡ 60
+Is c going.other = Unit
+
+branch : (c : ℕ) (b : Bool) (x y : Class) → (b ≡ true → Is c x) → Is c y → Is c (cond b x y)
+branch c true x y f g = f refl
+branch c false x y f g = g
+
+pub class-is : (c : ℕ) → Is c (classOf c)
+unfolding classOf
+class-is c =
+    let k7 : Class = cond (eqb c 60) going.lower going.other in
+    let k6 : Class = cond (eqb c 62) going.upper k7 in
+    let k5 : Class = cond (eqb c 40) going.bracket k6 in
+    let k4 : Class = cond (eqb c 46) going.dot k5 in
+    let k3 : Class = cond (eqb c 103) going.global k4 in
+    let k2 : Class = cond (eqb c 45) going.minus k3 in
+    branch c (isDecimal c) going.digit k2 (λ e. e)
+    (branch c (eqb c 45) going.minus k3 (eqb-true c 45)
+    (branch c (eqb c 103) going.global k4 (eqb-true c 103)
+    (branch c (eqb c 46) going.dot k5 (eqb-true c 46)
+    (branch c (eqb c 40) going.bracket k6 (eqb-true c 40)
+    (branch c (eqb c 62) going.upper k7 (eqb-true c 62) (branch c (eqb c 60) going.lower going.other (eqb-true c 60) tt))))))
+
+pub class-digit : (c : ℕ) → isDecimal c ≡ true → classOf c ≡ going.digit
+unfolding classOf
+class-digit c e = rw e
+
+-- ---- leaves
+
+-- some expression of level l begins so
+pub record Can (l : ℕ) (w : List ℕ) : Type 0 where
+  pub more : List ℕ
+  pub tree : Expr
+  pub good : Exp l tree (w ++ more)
+
+abbrev pub FineLeaf : List ℕ → Read Expr → Type 0
+FineLeaf t (got e r) = Took t r (λ w. Exp 0 e w) (λ x u. start x ≡ leaf (got e u))
+FineLeaf t (stuck r) = Took t r (λ w. Can 0 w) (λ x u. start x ≡ leaf (stuck u))
+
+abbrev next : ℕ → ℕ → ℕ
+next v d = 10 * v + (d - 48)
+
+digit-small : (d : ℕ) → isDecimal d ≡ true → next 0 d ≤ 9
+digit-small d e = omega (arith, leb-true d 57 (and-true (leb 48 d) (leb d 57) e .1))
+
+module _ (pre : List ℕ) (d : ℕ) (s : List ℕ) (most : ℕ) (f : ℕ → Expr) (p : isDecimal d ≡ true)
+    (means : (v : ℕ) (w : List ℕ) → Decimal most v w → Exp 0 (f v) (pre ++ w))
+    (starts : (x : List ℕ) → start (pre ++ (d ∷ x)) ≡ leaf (onGot f (digits most (next 0 d) x))) where
+  joins : (w u : List ℕ) → (pre ++ (d ∷ w)) ++ u ≡ pre ++ (d ∷ (w ++ u))
+  joins w u = append-assoc pre (d ∷ w) u
+
+  whole-number : (v : ℕ) (w : List ℕ) → AllDigits w → worth (next 0 d) w ≡ v → v ≤ most → Decimal most v (d ∷ w)
+  unfolding worth
+  whole-number v w a b h = record { some = omega arith; digits = more-digits d w p a; is = b; within = h }
+
+  number-leaf : (o : Read ℕ) → FineDigits most (next 0 d) s o → FineLeaf (pre ++ (d ∷ s)) (onGot f o)
+  number-leaf (got v r) a =
+      record {
+        w = pre ++ (d ∷ a .w);
+        split = ap (λ x. pre ++ (d ∷ x)) (a .split) ∙ sym (joins (a .w) r);
+        means = means v (d ∷ a .w) (whole-number v (a .w) (a .means .0) (a .means .1 .0) (a .means .1 .1));
+        alike = λ u k. ap start (joins (a .w) u) ∙ starts (a .w ++ u) ∙ ap (λ x. leaf (onGot f x)) (a .alike u k);
+      }
+  number-leaf (stuck r) a =
+      record {
+        w = pre ++ (d ∷ a .w);
+        split = ap (λ x. pre ++ (d ∷ x)) (a .split) ∙ sym (joins (a .w) r);
+        means =
+            record {
+              more = [];
+              tree = f (worth (next 0 d) (a .w));
+              good =
+                  subst (λ x. Exp 0 (f (worth (next 0 d) (a .w))) x) (sym (append-nil (pre ++ (d ∷ a .w))))
+                  (means (worth (next 0 d) (a .w)) (d ∷ a .w) (whole-number (worth (next 0 d) (a .w)) (a .w) (a .means .0) refl (a .means .1)));
+            };
+        alike = λ u k. ap start (joins (a .w) u) ∙ starts (a .w ++ u) ∙ ap (λ x. leaf (onGot f x)) (a .alike u k);
+      }
+
+module _ (pre s : List ℕ) (f : ℕ → Expr) (means : (n : ℕ) (w : List ℕ) → length w ≡ 5 → Decimal 32767 n w → Exp 0 (f n) (pre ++ w))
+    (starts : (x : List ℕ) → start (pre ++ x) ≡ leaf (onGot f (fixed 32767 5 0 x))) where
+  name-leaf : (o : Read ℕ) → FineFixed 32767 5 0 s o → FineLeaf (pre ++ s) (onGot f o)
+  name-leaf (got n r) a =
+      let m = a .means in
+      record {
+        w = pre ++ a .w;
+        split = ap (λ x. pre ++ x) (a .split) ∙ sym (append-assoc pre (a .w) r);
+        means = means n (a .w) (m .size) (record { some = omega (arith, m .size); digits = m .digits; is = m .is; within = m .within });
+        alike = λ u k. ap start (append-assoc pre (a .w) u) ∙ starts (a .w ++ u) ∙ ap (λ x. leaf (onGot f x)) (a .alike u k);
+      }
+  name-leaf (stuck r) a =
+      let m = a .means in
+      let x : List ℕ = a .w ++ m .more in
+      record {
+        w = pre ++ a .w;
+        split = ap (λ y. pre ++ y) (a .split) ∙ sym (append-assoc pre (a .w) r);
+        means =
+            record {
+              more = m .more;
+              tree = f (worth 0 x);
+              good =
+                  subst (λ y. Exp 0 (f (worth 0 x)) y) (sym (append-assoc pre (a .w) (m .more)))
+                  (means (worth 0 x) x (m .size) (record { some = omega (arith, m .size); digits = m .digits; is = refl; within = m .within }));
+            };
+        alike = λ u k. ap start (append-assoc pre (a .w) u) ∙ starts (a .w ++ u) ∙ ap (λ x. leaf (onGot f x)) (a .alike u k);
+      }
+
+-- how each kind of leaf starts
+
+pub start-plain : (c : ℕ) (x : List ℕ) → isDecimal c ≡ true → start (c ∷ x) ≡ leaf (onGot (λ v. num (pos v)) (digits 2147483647 (next 0 c) x))
+unfolding start
+start-plain c x e =
+    rw (class-digit c e) (ap (λ y. leaf (onGot (λ v. num (pos v)) y)) (digits-step 2147483647 0 c x e (le-leb (next 0 c) 2147483647 (omega (arith, digit-small c e)))))
+
+pub start-minus : (d : ℕ) (x : List ℕ) → isDecimal d ≡ true → start (45 ∷ (d ∷ x)) ≡ leaf (onGot (λ v. num (negℤ (pos v))) (digits 2147483648 (next 0 d) x))
+unfolding start classOf
+start-minus d x e =
+    rw e (ap (λ y. leaf (onGot (λ v. num (negℤ (pos v))) y)) (digits-step 2147483648 0 d x e (le-leb (next 0 d) 2147483648 (omega (arith, digit-small d e)))))
+
+pub start-global : (x : List ℕ) → start (103 ∷ x) ≡ leaf (onGot (λ n. name n) (fixed 32767 5 0 x))
+unfolding start classOf
+start-global x = refl
+
+pub start-local : (x : List ℕ) → start (46 ∷ (108 ∷ x)) ≡ leaf (onGot (λ n. name (0x8000 + n)) (fixed 32767 5 0 x))
+unfolding start classOf going.local
+start-local x = refl
+
+pub start-dot : (u : List ℕ) → eqb (look u) 108 ≡ false → start (46 ∷ u) ≡ leaf (stuck u)
+unfolding start classOf going.local
+start-dot [] e = refl
+start-dot (c ∷ u) e = rw e
+
+leaf-of : (a b : Read Expr) → leaf a ≡ leaf b → a ≡ b
+leaf-of a b e = cc
+
+zero-name : Exp 0 (name 0x8000) (46 ∷ (108 ∷ replicate 5 48))
+zero-name = named (local refl (record { some = lit≤ tt; digits = zeros-digits 5; is = zeros-worth 5 0; within = lit≤ tt }))
+
+pub fine-leaf : (t : List ℕ) (o : Read Expr) → start t ≡ leaf o → FineLeaf t o
+unfolding start going.local
+fine-leaf [] o e = clash (cc)
+fine-leaf (c ∷ t) o e = by (classOf c) (class-is c) e
+  where
+    by : (k : Class) → Is c k → startBy k c t ≡ leaf o → FineLeaf (c ∷ t) o
+    by going.digit p e =
+        let s = digits-step 2147483647 0 c t p (le-leb (next 0 c) 2147483647 (omega (arith, digit-small c p))) in
+        subst (λ x. FineLeaf (c ∷ t) x) (ap (λ y. onGot (λ v. num (pos v)) y) (sym s) ∙ leaf-of (onGot (λ v. num (pos v)) (digits 2147483647 0 (c ∷ t))) o e)
+        (number-leaf [] c t 2147483647 (λ v. num (pos v)) p (λ v w d. number (plain d)) (λ x. start-plain c x p) (digits 2147483647 (next 0 c) t)
+        (fine-digits 2147483647 (next 0 c) t (omega (arith, digit-small c p))))
+    by going.minus p e = subst (λ x. FineLeaf (x ∷ t) o) (sym p) (minus-leaf t e)
+      where
+        minus-leaf : (t : List ℕ) → startBy going.minus c t ≡ leaf o → FineLeaf (45 ∷ t) o
+        minus-leaf [] e = clash (cc)
+        minus-leaf (d ∷ x) e = on (isDecimal d) refl e
+          where
+            f : ℕ → Expr
+            f v = num (negℤ (pos v))
+
+            on : (b : Bool) → isDecimal d ≡ b → cond b (leaf (onGot f (digits 2147483648 0 (d ∷ x)))) (sign Negate) ≡ leaf o → FineLeaf (45 ∷ (d ∷ x)) o
+            on true q e =
+                let s = digits-step 2147483648 0 d x q (le-leb (next 0 d) 2147483648 (omega (arith, digit-small d q))) in
+                subst (λ y. FineLeaf (45 ∷ (d ∷ x)) y) (ap (λ y. onGot f y) (sym s) ∙ leaf-of (onGot f (digits 2147483648 0 (d ∷ x))) o e)
+                (number-leaf (45 ∷ []) d x 2147483648 f q (λ v w h. number (minus h)) (λ y. start-minus d y q) (digits 2147483648 (next 0 d) x)
+                (fine-digits 2147483648 (next 0 d) x (omega (arith, digit-small d q))))
+            on false q e = clash (cc)
+    by going.global p e =
+        subst (λ x. FineLeaf (x ∷ t) o) (sym p)
+        (subst (λ y. FineLeaf (103 ∷ t) y) (leaf-of (onGot (λ n. name n) (fixed 32767 5 0 t)) o e)
+        (name-leaf (103 ∷ []) t (λ n. name n) (λ n w l d. named (global l d)) (λ x. start-global x) (fixed 32767 5 0 t) (fine-fixed 32767 5 0 t (lit≤ tt))))
+    by going.dot p e = subst (λ x. FineLeaf (x ∷ t) o) (sym p) (dot-leaf t e)
+      where
+        stops : (u : List ℕ) → eqb (look u) 108 ≡ false → FineLeaf (46 ∷ u) (stuck u)
+        stops u q =
+            record {
+              w = 46 ∷ [];
+              split = refl;
+              means = record { more = 108 ∷ replicate 5 48; tree = name 0x8000; good = zero-name };
+              alike = λ v k. start-dot v (ap (λ b. eqb b 108) (sym k) ∙ q);
+            }
+
+        dot-leaf : (t : List ℕ) → leaf (going.local t) ≡ leaf o → FineLeaf (46 ∷ t) o
+        dot-leaf [] e = subst (λ y. FineLeaf (46 ∷ []) y) (leaf-of (stuck []) o e) (stops [] refl)
+        dot-leaf (d ∷ x) e = on (eqb d 108) refl e
+          where
+            f : ℕ → Expr
+            f n = name (0x8000 + n)
+
+            on : (b : Bool) → eqb d 108 ≡ b → leaf (cond b (onGot f (fixed 32767 5 0 x)) (stuck (d ∷ x))) ≡ leaf o → FineLeaf (46 ∷ (d ∷ x)) o
+            on true q e =
+                subst (λ y. FineLeaf (46 ∷ (y ∷ x)) o) (sym (eqb-true d 108 q))
+                (subst (λ y. FineLeaf (46 ∷ (108 ∷ x)) y) (leaf-of (onGot f (fixed 32767 5 0 x)) o e)
+                (name-leaf (46 ∷ 108 ∷ []) x f (λ n w l d. named (local l d)) (λ y. start-local y) (fixed 32767 5 0 x) (fine-fixed 32767 5 0 x (lit≤ tt))))
+            on false q e = subst (λ y. FineLeaf (46 ∷ (d ∷ x)) y) (leaf-of (stuck (d ∷ x)) o e) (stops (d ∷ x) q)
+    by going.bracket p e = clash (cc)
+    by going.upper p e = clash (cc)
+    by going.lower p e = clash (cc)
+    by going.other p e = clash (cc)
+
+-- ---- signs, parentheses, and what is no operand
+
+pub record Signed (s : Op1) (t : List ℕ) : Type 0 where
+  pub tail : List ℕ
+  pub is : t ≡ sign1 s ∷ tail
+  pub apart : touches s tail ≡ false
+
+pub sign-starts : (s : Op1) (x : List ℕ) → touches s x ≡ false → start (sign1 s ∷ x) ≡ sign s
+unfolding start classOf
+sign-starts Negate x e = rw e
+sign-starts Upper x e = refl
+sign-starts Lower x e = refl
+
+pub start-sign : (s : Op1) (t : List ℕ) → start t ≡ sign s → Signed s t
+unfolding start
+start-sign s [] e = clash (cc)
+start-sign s (c ∷ t) e = by (classOf c) (class-is c) e
+  where
+    sign-of : (o : Op1) → sign o ≡ sign s → o ≡ s
+    sign-of o e = cc
+
+    is : (o : Op1) → sign o ≡ sign s → c ≡ sign1 o → touches o t ≡ false → Signed s (c ∷ t)
+    is o e p q =
+        subst (λ y. Signed y (c ∷ t)) (sign-of o e) (record { tail = t; is = ap (λ y. y ∷ t) p; apart = q })
+
+    by : (k : Class) → Is c k → startBy k c t ≡ sign s → Signed s (c ∷ t)
+    by going.digit p e = clash (cc)
+    by going.minus p e = on (isDecimal (look t)) refl e
+      where
+        on : (b : Bool) → isDecimal (look t) ≡ b → cond b (leaf (onGot (λ v. num (negℤ (pos v))) (digits 2147483648 0 t))) (sign Negate) ≡ sign s → Signed s (c ∷ t)
+        on true q e = clash (cc)
+        on false q e = is Negate e p q
+    by going.global p e = clash (cc)
+    by going.dot p e = clash (cc)
+    by going.bracket p e = clash (cc)
+    by going.upper p e = is Upper e p refl
+    by going.lower p e = is Lower e p refl
+    by going.other p e = clash (cc)
+
+pub paren-starts : (x : List ℕ) → start (40 ∷ x) ≡ paren
+unfolding start classOf
+paren-starts x = refl
+
+pub start-paren : (t : List ℕ) → start t ≡ paren → (x : List ℕ) × (t ≡ 40 ∷ x)
+unfolding start
+start-paren [] e = clash (cc)
+start-paren (c ∷ t) e = by (classOf c) (class-is c) e
+  where
+    by : (k : Class) → Is c k → startBy k c t ≡ paren → (x : List ℕ) × (c ∷ t ≡ 40 ∷ x)
+    by going.digit p e = clash (cc)
+    by going.minus p e = on (isDecimal (look t)) e
+      where
+        on : (b : Bool) → cond b (leaf (onGot (λ v. num (negℤ (pos v))) (digits 2147483648 0 t))) (sign Negate) ≡ paren → (x : List ℕ) × (c ∷ t ≡ 40 ∷ x)
+        on true e = clash (cc)
+        on false e = clash (cc)
+    by going.global p e = clash (cc)
+    by going.dot p e = clash (cc)
+    by going.bracket p e = (t, ap (λ y. y ∷ t) p)
+    by going.upper p e = clash (cc)
+    by going.lower p e = clash (cc)
+    by going.other p e = clash (cc)
+
+-- where nothing starts, nothing starts that looks alike
+pub start-nothing : (t u : List ℕ) → start t ≡ nothing → look t ≡ look u → start u ≡ nothing
+unfolding start classOf
+start-nothing t [] e k = refl
+start-nothing [] (c ∷ u) e k = ap (λ x. startBy (classOf x) x u) (sym k)
+start-nothing (c ∷ t) (d ∷ u) e k = subst (λ x. startBy (classOf x) x u ≡ nothing) k (by (classOf c) e)
+  where
+    by : (k : Class) → startBy k c t ≡ nothing → startBy k c u ≡ nothing
+    by going.digit e = clash (cc)
+    by going.minus e = on (isDecimal (look t)) e
+      where
+        on : (b : Bool) → cond b (leaf (onGot (λ v. num (negℤ (pos v))) (digits 2147483648 0 t))) (sign Negate) ≡ nothing → startBy going.minus c u ≡ nothing
+        on true e = clash (cc)
+        on false e = clash (cc)
+    by going.global e = clash (cc)
+    by going.dot e = clash (cc)
+    by going.bracket e = clash (cc)
+    by going.upper e = clash (cc)
+    by going.lower e = clash (cc)
+    by going.other e = refl

@@ -1,0 +1,12 @@
+-- The laws behind the reading of lines.
+pub mod Planned
+pub mod Worded
+pub mod Parts
+pub mod Counted
+pub mod Commented
+pub mod Formed
+pub mod Lined
+pub mod Wholes
+pub mod Statements
+pub mod DifferentLines
+pub mod Runs

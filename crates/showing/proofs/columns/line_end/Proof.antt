@@ -1,0 +1,28 @@
+-- `showing::columns::line_end` reads within the text, ends, and gives a place of it.
+use mathlib.Core.Path.{_≡_}
+use Prim.Native.Nat.{_+_, _-_, _≤_}
+use native.Mathlib.Omega.{arith}
+use lib.ListN.{length}
+use borrow.Author.Needs.{needs}
+use Rattle.showing.proofs.columns.line_end.Statement.{statement}
+use Rattle.showing.proofs.columns.line_end.Tie as tie
+
+abbrev Inv-loop : tie.InvT-loop
+Inv-loop text at i₀ i = (at ≤ i) × (i ≤ length text)
+
+abbrev μ-loop : tie.MeasureT-loop
+μ-loop text at i₀ i = length text - i
+
+pub line-end-spec : {M : Type 1} → statement M
+line-end-spec =
+    tie.close
+    (tie.spec
+    Inv-loop
+    μ-loop
+    (λ c. (omega arith, omega arith))
+    (λ c. search needs)
+    (λ c. (omega arith, omega arith))
+    (λ c. search needs)
+    (λ c. omega arith)
+    (λ c. (omega arith, omega arith))
+    (λ c. (omega arith, omega arith)))
