@@ -58,6 +58,25 @@ struct mortarbee_reply mortarbee_text(const uint8_t *listing, size_t listing_len
 /* A room that is never too short. */
 #define MORTARBEE_TEXT_ROOM 86016
 
+/* ---- C-22: a damaged listing salvaged. Any text is taken. Lines that are no good frames by themselves come out as comments, and the report has a line for each:
+   7B, 1 or 2, the place; where lines are left off, a last line 7C and the place of the first. What comes out is never refused 1 or 2. */
+
+/* Rooms that are never too short: 57,344 characters, 1,024 line feeds and the first line of five; 1,024 lines of nine characters and one of seven. */
+#define MORTARBEE_SALVAGE_ROOM 58373
+#define MORTARBEE_REPORT_ROOM 9223
+
+struct mortarbee_saved {
+    uint64_t number;     /* 0: done; 12: a room is too short, and no byte has changed */
+    uint64_t place;      /* for 12 the count of statements that would come out */
+    uint64_t argument;   /* 0 */
+    int64_t amount;      /* 0 */
+    uint64_t statements; /* how many come out */
+    uint64_t listing;    /* bytes of listing and of report */
+    uint64_t report;
+};
+
+struct mortarbee_saved mortarbee_salvage(const uint8_t *text, size_t text_len, uint8_t *listing, size_t listing_len, uint8_t *report, size_t report_len);
+
 /* ---- C-24: settings kept by edition. A store is the first 160 bytes of the room: 32 places of five, the family and the edition in two bytes each, high
    byte first, and the switches (1 comments, 2 Callf, 4 folds). Zeros are an empty store. What lies behind the 160 bytes never changes. */
 

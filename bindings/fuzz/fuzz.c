@@ -8,6 +8,7 @@
 #include "stores.h"
 #include "images.h"
 #include "people.h"
+#include "salvages.h"
 
 static uint64_t done, refusals[13], marked, compared, under_runs;
 static unsigned asked; /* the settings, by number: 1 keeps comments, 2 lets Callf shrink, 4 lets folds run */
@@ -154,6 +155,7 @@ static void hand_over(uint64_t number) {
     lend_text();
     try_under();
     try_images();
+    try_salvage();
 }
 
 int main(int argc, char **argv) {
@@ -195,6 +197,8 @@ int main(int argc, char **argv) {
     printf("; places: %llu with an address, %llu refused", (unsigned long long)addresses, (unsigned long long)without_address);
     printf("; images: %llu read back, %llu refused", (unsigned long long)read_back_done, (unsigned long long)read_back_refused);
     printf("; texts for people: %llu of %llu bytes", (unsigned long long)texts_written, (unsigned long long)text_bytes);
+    printf("; salvaged: %llu texts, %llu lines replaced, %llu times lines left off", (unsigned long long)salvaged_texts,
+           (unsigned long long)replaced_lines, (unsigned long long)left_off);
     printf("; stores: %llu calls, %llu accepted runs under an edition; refused:", (unsigned long long)store_calls, (unsigned long long)under_runs);
     for (int i = 12; i <= 19; i++) {
         if (i == 12 || i >= 17) {

@@ -106,6 +106,14 @@ extern "C" {
     fn mortarbee_read_back(image: *const u8, image_len: usize, start: usize, listing: *mut u8, listing_len: usize) -> Reply;
     fn mortarbee_text(listing: *const u8, listing_len: usize, text: *mut u8, text_len: usize) -> Reply;
     fn mortarbee_where_sits(listing: *const u8, listing_len: usize, n: usize) -> SitsReply;
+    fn mortarbee_salvage(
+        text: *const u8,
+        text_len: usize,
+        listing: *mut u8,
+        listing_len: usize,
+        report: *mut u8,
+        report_len: usize,
+    ) -> SavedReply;
     fn mortarbee_add_edition(room: *mut u8, room_len: usize, family: u16, comments: u8, callf: u8, folds: u8) -> NumberedReply;
     fn mortarbee_get_edition(room: *const u8, room_len: usize, family: u16, edition: u16) -> FoundReply;
     fn mortarbee_get_newest(room: *const u8, room_len: usize, family: u16) -> FoundReply;
@@ -175,6 +183,36 @@ pub const TEXT_ROOM: usize = 86_016;
 /// C-16: writes a listing of either form as text for people, one line a statement, and gives the text's length.
 pub fn text(listing: &[u8], text: &mut [u8]) -> Result<usize, Refusal> {
     answer(unsafe { mortarbee_text(listing.as_ptr(), listing.len(), text.as_mut_ptr(), text.len()) }).map(|done| done.listing)
+}
+
+/// Rooms that are never too short for `salvage`: listing and report.
+pub const SALVAGE_ROOM: usize = 58_373;
+pub const REPORT_ROOM: usize = 9_223;
+
+/// What `salvage` left in the lent rooms.
+#[derive(Clone, Copy, Debug, PartialEq, Eq)]
+pub struct Saved {
+    pub statements: usize,
+    /// Bytes of the listing room, and of the report room.
+    pub listing: usize,
+    pub report: usize,
+}
+
+#[repr(C)]
+struct SavedReply {
+    told: Told,
+    statements: u64,
+    listing: u64,
+    report: u64,
+}
+
+/// C-22: keeps each line of a text that is a good frame by itself, replaces each other by a comment, and reports it: 7B, 1 or 2, the place; where
+/// lines are left off, 7C and the place of the first.
+pub fn salvage(text: &[u8], listing: &mut [u8], report: &mut [u8]) -> Result<Saved, Refusal> {
+    let r = unsafe {
+        mortarbee_salvage(text.as_ptr(), text.len(), listing.as_mut_ptr(), listing.len(), report.as_mut_ptr(), report.len())
+    };
+    r.told.unless(Saved { statements: r.statements as usize, listing: r.listing as usize, report: r.report as usize })
 }
 
 /// C-17: the address of statement n, the position before its own org or pad; where n is the statement count, the end position. Answered from

@@ -1,2 +1,3 @@
 -- What the functions for C answer.
 pub mod Exported
+pub mod Salvaging

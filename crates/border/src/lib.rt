@@ -2,6 +2,7 @@
 mod exported; // the functions
 mod replies; // their answers, as structs of numbers
 mod texts; // C-16
+mod salvaging; // C-22, with its answer
 
 pub use exported::mortarbee_add_edition;
 pub use exported::mortarbee_assemble;
@@ -16,4 +17,6 @@ pub use replies::FoundReply;
 pub use replies::NumberedReply;
 pub use replies::Reply;
 pub use replies::SitsReply;
+pub use salvaging::SavedReply;
+pub use salvaging::mortarbee_salvage;
 pub use texts::mortarbee_text;

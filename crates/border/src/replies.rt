@@ -61,14 +61,14 @@ pub struct FoundReply {
 }
 
 // What each struct begins with.
-struct Told {
-    number: u64,
-    place: u64,
-    argument: u64,
-    amount: i64,
+pub struct Told {
+    pub number: u64,
+    pub place: u64,
+    pub argument: u64,
+    pub amount: i64,
 }
 
-fn told_of(r: Refusal) -> Told
+pub fn told_of(r: Refusal) -> Told
     ensures { λ t. ⌜ Tells t (faultOf r) ⌝ }
 {
     let f = fault_of(r);

@@ -35,6 +35,8 @@ fn job(word: &[u8]) {
         reading::from_word();
     } else if same(word, b"text") {
         showing::text();
+    } else if same(word, b"salvage") {
+        saving::salvage_text();
     } else if same(word, b"settings") {
         keeping::settings();
     } else if same(word, b"under") {

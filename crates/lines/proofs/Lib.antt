@@ -1,0 +1,4 @@
+-- A line by itself, and what comes out for it.
+pub mod Feeds
+pub mod ByItself
+pub mod Comments
