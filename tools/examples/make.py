@@ -3,7 +3,8 @@ output (crates/NAME/stdout) against the answers and the texts beside the listing
 
     python3 tools/examples/make.py write     # writes crates/examples/stdin and crates/texts/stdin
     python3 tools/examples/make.py compare   # each NAME.out and NAME.txt is what the program wrote, examples/README.md has each name,
-                                             # and each line that docs/FORMAT.md shows stands in a listing that is accepted, with its text
+                                             # each line that docs/FORMAT.md shows stands in a listing that is accepted, with its text,
+                                             # and the listings of docs/RULES.md are those of the folder, with their answers
 """
 import re
 import sys
@@ -49,6 +50,14 @@ def shown():
             yield found[1], found[2] and found[2].replace("\\|", "|")
 
 
+def ruled():
+    """The listings that docs/RULES.md shows, a row a statement: `at bytes in | out at bytes remark`, up to the 7F line."""
+    for name, rows in re.findall(r"^    at .* examples/(\S+)\.lst\n((?:    .*\n)+)", (ROOT / "docs/RULES.md").read_text(), re.M):
+        halves = [row.split("|") for row in rows.splitlines()]
+        lines = [left.split()[-1] for left, _ in halves if left.strip()]
+        yield name, lines, [right.split()[0] for _, right in halves if right.split()[0] != "-"]
+
+
 def faults():
     if STDIN.read_text() != blocks() or (TEXTS / "stdin").read_text() != blocks():
         yield "crates/examples/stdin or crates/texts/stdin is not what `write` writes"
@@ -73,6 +82,9 @@ def faults():
             yield f"docs/FORMAT.md: {line} stands in no listing that is accepted"
         elif text and text != people.get(line):
             yield f"docs/FORMAT.md: {line} is not {text} for people"
+    for name, lines, answer in ruled():
+        if lines != listing(name).split() or answer != (EXAMPLES / f"{name}.out").read_text().split():
+            yield f"docs/RULES.md: {name} is not as in the folder"
 
 
 if __name__ == "__main__":
