@@ -96,7 +96,8 @@ fn put_comment(line: &[u8], marked: bool, out: &mut [u8], at: usize)
 pub fn put_standing(line: &[u8], marked: bool, number: u8, out: &mut [u8], at: usize)
     requires { ⌜ OneLine (now line) × Numbered (byItself (formOf marked) (firstLine (now line))) number
         × (at + length (standing (formOf marked) (firstLine (now line))) < length (now out)) ⌝ }
-    ensures { λ _. ⌜ now (out .exit) ≡ laid (now (out .entry)) at (standing (formOf marked) (firstLine (now (line .entry))) ++ (10 ∷ [])) ⌝ }
+    ensures { λ _. ⌜ now (out .exit)
+        ≡ laid (now (out .entry)) at (standing (formOf marked) (firstLine (now (line .entry))) ++ (10 ∷ [])) ⌝ }
 {
     if number == 0 {
         put_text(out, at, line);

@@ -95,7 +95,7 @@ statement-back (words es) s h g = reading.wordItems (s .0) (s .1) (items-text 32
 statement-back (pad a m) s h g =
     reading.aligned (decimal-is 255 a (omega (arith, s .0)) (omega (arith, s .0))) (decimal-is 256 m (s .2) (omega (arith, s .2))) (s .1)
 
--- "Two different statements have different lines": no more than the place that a target was carried from is lost
+-- "Two different statements have different lines": but for the place that an instruction carries, which reading sets
 pub different : (s r : Stmt) → SoundStmt s → plainStmt s ≡ true → isGone s ≡ false → SoundStmt r → plainStmt r ≡ true → isGone r ≡ false
     → lineText s ≡ lineText r → own 0 s ≡ own 0 r
 different s r a b c x y z e =

@@ -1,4 +1,4 @@
--- A line that is replaced is told with 1 or 2.
+-- What is told of a line: nothing, or 7B, 1 or 2, and its place.
 use mathlib.Core.Path.{_≡_, refl, sym, ap}
 use mathlib.Core.Bool.{true, false, _||_}
 use mathlib.Core.List.{List, [], _∷_}
