@@ -20,7 +20,8 @@ use Rattle.plans.specs.Lines.{alignPlan}
 use Rattle.grammar.proofs.Takes.{Took}
 use Rattle.grammar.proofs.Digits.{AllDigits, more-digits, digits-all}
 use Rattle.grammar.proofs.RoundTrip.{worth-append, digits-append}
-use Rattle.plans.proofs.Planned.{alike-look, NumTook, num-took, digit-head}
+use Rattle.plans.proofs.Planned.{alike-look, NumTook, num-took}
+use Rattle.plans.proofs.ReadOnce.{digit-head}
 use Rattle.plans.proofs.Parts.{Value, value-of, Byte, byte-of, comma}
 
 module _ (most : ℕ) (f : ℕ → Stmt) where

@@ -1,9 +1,11 @@
 -- The laws behind the reading of lines.
 pub mod Planned
+pub mod ReadOnce
 pub mod Worded
 pub mod Parts
 pub mod Counted
 pub mod Commented
+pub mod Narrowed
 pub mod Formed
 pub mod Lined
 pub mod Wholes

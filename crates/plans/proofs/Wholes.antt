@@ -23,7 +23,8 @@ use Rattle.plans.specs.Words.{Word, opening, closing, Says, In, here, th
 use Rattle.plans.specs.Families.{mnemonics}
 use Rattle.plans.specs.Finals.{comments}
 use Rattle.plans.specs.Lines.{globalPlan, localPlan, orgPlan, itemsPlan, alignPlan, dotWords, wordList, linePlan}
-use Rattle.plans.proofs.Planned.{Begun, Wrong, fine-walk, complete-walk, single, one-line, stuck-is, one-column}
+use Rattle.plans.proofs.Planned.{Begun, fine-walk}
+use Rattle.plans.proofs.ReadOnce.{Wrong, complete-walk, single, one-line, stuck-is, one-column}
 use Rattle.plans.proofs.Worded.{Found, trie-right}
 use Rattle.plans.proofs.Formed.{mnemonic-line, line-mnemonic}
 use Rattle.plans.proofs.Counted.{Aligned, align-of, of-align}
