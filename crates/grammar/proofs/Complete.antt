@@ -1,4 +1,5 @@
--- Every expression of the grammar is read, to the tree that the grammar gives it. So a text is an expression of one tree only. Assumes nothing.
+-- Every expression of the grammar is read, to the tree that the grammar gives it. So a text is an expression of one tree only. Assumes
+-- nothing.
 use mathlib.Core.Path.{_≡_, refl, sym, ap, _∙_, subst}
 use mathlib.Core.Logic.{_⊎_, inl, inr}
 use mathlib.Core.List.{List, [], _∷_, _++_, append-assoc, append-nil}

@@ -1,5 +1,5 @@
--- How the reader goes is right: what it takes is an expression of the grammar, where it gets stuck some expression begins with what it took, and it
--- does the same on every text that begins with what it took and looks alike behind it. Assumes nothing.
+-- How the reader goes is right: what it takes is an expression of the grammar, where it gets stuck some expression begins with what it
+-- took, and it does the same on every text that begins with what it took and looks alike behind it. Assumes nothing.
 use mathlib.Core.Path.{_≡_, refl, sym, ap, _∙_, subst}
 use mathlib.Core.Logic.{_⊎_, inl, inr}
 use mathlib.Core.List.{List, [], _∷_, _++_, append-assoc, append-nil}

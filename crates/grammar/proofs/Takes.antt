@@ -1,5 +1,5 @@
--- A reader that takes the front w of a text t and leaves r, and does the same where another text follows w that looks alike: one that has the same
--- first byte. Assumes nothing.
+-- A reader that takes the front w of a text t and leaves r, and does the same where another text follows w that looks alike: one that has
+-- the same first byte. Assumes nothing.
 use mathlib.Core.Path.{_≡_, refl, sym, ap, _∙_, subst}
 use mathlib.Core.List.{List, [], _∷_, _++_, append-assoc}
 use Prim.Native.Nat.{ℕ}

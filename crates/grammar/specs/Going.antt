@@ -1,5 +1,6 @@
--- How the reader of C-19 goes over an expression, byte by byte with one byte of look-ahead. The words of the code's contracts: `Goes m t o` says
--- that reading the text t in mode m comes to o. That this is the grammar of Reading.antt, and that it gets stuck at the right byte, is proved.
+-- How the reader of C-19 goes over an expression, byte by byte with one byte of look-ahead. The words of the code's contracts:
+-- `Goes m t o` says that reading the text t in mode m comes to o. That this is the grammar of Reading.antt, and that it gets stuck at the right
+-- byte, is proved.
 use mathlib.Core.Path.{_≡_}
 use mathlib.Core.List.{List, [], _∷_, _++_}
 use mathlib.Core.Option.{Option, none, some}
@@ -37,7 +38,8 @@ digits most v (d ∷ t) =
 unfoldable pub fixed : (most k v : ℕ) → List ℕ → Read ℕ
 fixed most zero v t = got v t
 fixed most (suc k) v [] = stuck []
-fixed most (suc k) v (d ∷ t) = cond (isDecimal d && leb ((10 * v + (d - 48)) * tens k) most) (fixed most k (10 * v + (d - 48)) t) (stuck (d ∷ t))
+fixed most (suc k) v (d ∷ t) =
+    cond (isDecimal d && leb ((10 * v + (d - 48)) * tens k) most) (fixed most k (10 * v + (d - 48)) t) (stuck (d ∷ t))
 
 unfoldable pub local : List ℕ → Read Expr
 local [] = stuck []
@@ -140,7 +142,8 @@ pub data Goes : Mode → List ℕ → Read Expr → Type 0 where
   firsts : {t r : List ℕ} {e : Expr} {o : Read Expr} {l : ℕ} → Goes (whole l) t (got e r) → Goes (rest l e) r o → Goes (whole (suc l)) t o
   sinks : {t r : List ℕ} {l : ℕ} → Goes (whole l) t (stuck r) → Goes (whole (suc l)) t (stuck r)
   stops : {r : List ℕ} {e : Expr} {l : ℕ} → opAt (suc l) (look r) ≡ none → Goes (rest l e) r (got e r)
-  agains : {r q : List ℕ} {e d : Expr} {l : ℕ} {o : Read Expr} (p : Op2) → opAt (suc l) (look r) ≡ some p → Goes (whole l) (skip (drop 1 r)) (got d q)
+  agains : {r q : List ℕ} {e d : Expr} {l : ℕ} {o : Read Expr} (p : Op2) → opAt (suc l) (look r) ≡ some p
+      → Goes (whole l) (skip (drop 1 r)) (got d q)
       → Goes (rest l (two p e d)) q o → Goes (rest l e) r o
   breaks : {r q : List ℕ} {e : Expr} {l : ℕ} (p : Op2) → opAt (suc l) (look r) ≡ some p → Goes (whole l) (skip (drop 1 r)) (stuck q)
       → Goes (rest l e) r (stuck q)

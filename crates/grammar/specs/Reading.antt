@@ -1,5 +1,6 @@
--- Document 02, C-19, "Read the people's listing": which texts are lines, of which statement, and the column of a text that is none.
--- A grammar: each constructor is one way to write something. `Exp l e t` says that the text t is an expression of level l that stands for the tree e.
+-- Document 02, C-19, "Read the people's listing": which texts are lines, of which statement, and the column of a text that is none. A
+-- grammar: each constructor is one way to write something. `Exp l e t` says that the text t is an expression of level l that stands for
+-- the tree e.
 use mathlib.Core.Path.{_≡_}
 use mathlib.Core.List.{List, [], _∷_, _++_}
 use mathlib.Core.Bool.{Bool, true, false, _&&_, cond}
@@ -72,12 +73,13 @@ touches Lower t = false
 abbrev pub spaces : ℕ → List ℕ
 spaces n = replicate n 32
 
--- "A sum is made of products, a product of operands, and an operand may be a parenthesised sum or any other expression; .. all grouped to the
--- left; prefix signs bind tightest"; "spaces beside operators only": on either side of an infix one, after a prefix one
+-- "A sum is made of products, a product of operands, and an operand may be a parenthesised sum or any other expression; .. all grouped to
+-- the left; prefix signs bind tightest"; "spaces beside operators only": on either side of an infix one, after a prefix one
 pub data Exp : ℕ → Expr → List ℕ → Type 0 where
   number : {z : ℤ} {t : List ℕ} → Number z t → Exp 0 (num z) t
   named : {n : ℕ} {t : List ℕ} → Name n t → Exp 0 (name n) t
-  signed : {e : Expr} {t : List ℕ} (o : Op1) (n : ℕ) → touches o (spaces n ++ t) ≡ false → Exp 0 e t → Exp 0 (one o e) (sign1 o ∷ (spaces n ++ t))
+  signed : {e : Expr} {t : List ℕ} (o : Op1) (n : ℕ) → touches o (spaces n ++ t) ≡ false → Exp 0 e t
+      → Exp 0 (one o e) (sign1 o ∷ (spaces n ++ t))
   parens : {e : Expr} {t : List ℕ} → Exp 5 e t → Exp 0 e (40 ∷ (t ++ (41 ∷ [])))
   tighter : {l : ℕ} {e : Expr} {t : List ℕ} → Exp l e t → Exp (suc l) e t
   joined : {l : ℕ} {e d : Expr} {s t : List ℕ} (o : Op2) (m n : ℕ) → levelOf o ≡ suc l → Exp (suc l) e s → Exp l d t
@@ -137,24 +139,7 @@ pub record WrongAt (t : List ℕ) (c : ℕ) : Type 0 where
   pub there : c < length t → Begins (take (suc c) t) → ⊥
   pub ends : c ≡ length t → Good t → ⊥
 
--- ---- the answers: "a line over 1,024 bytes is 2, first; text that isn't a line of this form .. is 15 ..; then a good line whose expression passes 32
--- bytes or whose frame passes 120 is 2; then 12"
+-- ---- "then a good line whose expression passes 32 bytes or whose frame passes 120 is 2"
 
 abbrev pub Fitting : Stmt → Type 0
 Fitting s = (overExprs (λ e. cond (leb (length (bytesOf e)) 32) 0 1) s ≡ 0) × (length (frameOf s) ≤ 120)
-
--- the line t is read as s, given a room of so many bytes for its frame; or it is refused
-pub data Answers (t : List ℕ) (room : ℕ) : Type 0 where
-  over : 1024 < length t → Answers t room
-  wrong : (c : ℕ) → length t ≤ 1024 → WrongAt t c → Answers t room
-  passes : (s : Stmt) → length t ≤ 1024 → Line s t → (Fitting s → ⊥) → Answers t room
-  short : (s : Stmt) → length t ≤ 1024 → Line s t → Fitting s → room < length (frameOf s) → Answers t room
-  reads : (s : Stmt) → length t ≤ 1024 → Line s t → Fitting s → length (frameOf s) ≤ room → Answers t room
-
--- "2, first; .. 15 ..; then .. 2; then 12", with 15's column
-abbrev pub numberOf : {t : List ℕ} {room : ℕ} → Answers t room → ℕ
-numberOf (over h) = 2
-numberOf (wrong c h w) = 15
-numberOf (passes s h l f) = 2
-numberOf (short s h l f r) = 12
-numberOf (reads s h l f r) = 0

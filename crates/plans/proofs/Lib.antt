@@ -7,7 +7,9 @@ pub mod Counted
 pub mod Commented
 pub mod Narrowed
 pub mod Formed
+pub mod Heads
 pub mod Lined
+pub mod Fronts
 pub mod Wholes
 pub mod Statements
 pub mod DifferentLines

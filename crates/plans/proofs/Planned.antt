@@ -1,5 +1,5 @@
--- Reading by a plan: what is read is a text of the plan's grammar; where the reader gets stuck some line begins with what it took, and none with one
--- byte more. Assumes nothing.
+-- Reading by a plan: what is read is a text of the plan's grammar; where the reader gets stuck some line begins with what it took, and
+-- none with one byte more. Assumes nothing.
 use mathlib.Core.Path.{_≡_, refl, sym, ap, _∙_, subst}
 use mathlib.Core.Logic.{_⊎_, inl, inr}
 use mathlib.Core.List.{List, [], _∷_, _++_, append-assoc, append-nil}

@@ -1,5 +1,5 @@
--- "What C-16 writes reads back as the same statement", and "two different statements have different lines", for every statement that a frame can hold. A
--- statement read alone has place 0. Assumes nothing.
+-- "What C-16 writes reads back as the same statement", and "two different statements have different lines", for every statement that a
+-- frame can hold. A statement read alone has place 0. Assumes nothing.
 use mathlib.Core.Path.{_≡_, refl, sym, ap, _∙_, subst}
 use mathlib.Core.List.{List, [], _∷_, _++_, map}
 use mathlib.Core.Bool.{Bool, true, false}

@@ -1,4 +1,5 @@
--- The plan of lines and the grammar of lines are the same: so each line has one reading, and where the reader is stuck is the column. Assumes nothing.
+-- The plan of lines and the grammar of lines are the same: so each line has one reading, and where the reader is stuck is the column.
+-- Assumes nothing.
 use mathlib.Core.Path.{_≡_, refl, sym, ap, _∙_, subst}
 use mathlib.Core.Logic.{_⊎_, inl, inr}
 use mathlib.Core.List.{List, [], _∷_, _++_, append-nil}

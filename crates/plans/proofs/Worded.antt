@@ -1,4 +1,5 @@
--- The plan of a list of words is right: its lines are those that begin with a word, and it is alive where what the words open is. Assumes nothing.
+-- The plan of a list of words is right: its lines are those that begin with a word, and it is alive where what the words open is. Assumes
+-- nothing.
 use mathlib.Core.Path.{_≡_, refl, sym, ap, _∙_, subst}
 use mathlib.Core.Logic.{_⊎_, inl, inr}
 use mathlib.Core.List.{List, [], _∷_, _++_}

@@ -1,5 +1,5 @@
--- Instructions as plans: the forms of one mnemonic, narrowed argument by argument by what stands before it, `#`, `@` or nothing. The mnemonics and what
--- each form takes come out of the table of forms.
+-- Instructions as plans: the forms of one mnemonic, narrowed argument by argument by what stands before it, `#`, `@` or nothing. The
+-- mnemonics and what each form takes come out of the table of forms.
 use mathlib.Core.Path.{_≡_}
 use mathlib.Core.List.{List, [], _∷_, _++_, map}
 use mathlib.Core.Option.{Option, none, some}
@@ -109,7 +109,8 @@ markFit g ws = not (some? ws) || behindFit g ws
 unfoldable pub waysFit : (n : ℕ) → List Way → Bool
 waysFit zero ws = false
 waysFit (suc n) ws =
-    (goOn ws && some? ws) && (markFit (waysFit n) (narrow hash ws) && (markFit (waysFit n) (narrow at ws) && markFit (waysFit n) (narrow plain ws)))
+    (goOn ws && some? ws)
+    && (markFit (waysFit n) (narrow hash ws) && (markFit (waysFit n) (narrow at ws) && markFit (waysFit n) (narrow plain ws)))
 
 -- ---- the words
 

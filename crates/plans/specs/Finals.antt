@@ -11,7 +11,8 @@ use Rattle.grammar.specs.Going.{Read, got, stuck, onGot, digits}
 unfoldable pub hexes : List ℕ → Read (List ℕ)
 hexes [] = got [] []
 hexes (c ∷ []) = cond (isDigit c) (stuck []) (stuck (c ∷ []))
-hexes (c ∷ d ∷ t) = cond (isDigit c) (cond (isDigit d) (onGot (λ s. (digit c * 16 + digit d) ∷ s) (hexes t)) (stuck (d ∷ t))) (stuck (c ∷ d ∷ t))
+hexes (c ∷ d ∷ t) =
+    cond (isDigit c) (cond (isDigit d) (onGot (λ s. (digit c * 16 + digit d) ∷ s) (hexes t)) (stuck (d ∷ t))) (stuck (c ∷ d ∷ t))
 
 -- behind the space there is at least one
 unfoldable pub comments : List ℕ → Read Stmt

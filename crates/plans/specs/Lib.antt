@@ -4,3 +4,4 @@ pub mod Words
 pub mod Families
 pub mod Finals
 pub mod Lines
+pub mod Fronts

@@ -1,5 +1,5 @@
--- How a line is read: by a plan, which says what may come next. Only the next byte decides. `Reads P s t` is the grammar of a plan: t is a text of
--- the statement s. `Walks P t o` is how the reader goes, with its answer.
+-- How a line is read: by a plan, which says what may come next. Only the next byte decides. `Reads P s t` is the grammar of a plan: t is
+-- a text of the statement s. `Walks P t o` is how the reader goes, with its answer.
 use mathlib.Core.Path.{_≡_}
 use mathlib.Core.List.{List, [], _∷_, _++_}
 use mathlib.Core.Option.{Option, none, some}
@@ -35,12 +35,15 @@ pub data Alike : List ℕ → List ℕ → Type 0 where
 pub data Reads : Plan → Stmt → List ℕ → Type 0 where
   last : {s : Stmt} → Reads (done s) s []
   ends : {s : Stmt} {ok : ℕ → Bool} {f : ℕ → Plan} → Reads (fork (some s) ok f) s []
-  byte : {end : Option Stmt} {s : Stmt} {ok : ℕ → Bool} {f : ℕ → Plan} {c : ℕ} {t : List ℕ} → ok c ≡ true → Reads (f c) s t → Reads (fork end ok f) s (c ∷ t)
+  byte : {end : Option Stmt} {s : Stmt} {ok : ℕ → Bool} {f : ℕ → Plan} {c : ℕ} {t : List ℕ} → ok c ≡ true → Reads (f c) s t
+      → Reads (fork end ok f) s (c ∷ t)
   tree : {s : Stmt} {f : Expr → Plan} {e : Expr} {w v : List ℕ} → Exp 5 e w → Reads (f e) s v → Reads (expression f) s (w ++ v)
   value : {s : Stmt} {most n : ℕ} {f : ℕ → Plan} {w v : List ℕ} → Decimal most n w → Reads (f n) s v → Reads (decimal most f) s (w ++ v)
   digits : {s : Stmt} {n : ℕ} {f : ℕ → Plan} {w v : List ℕ} → length w ≡ 5 → Decimal 32767 n w → Reads (f n) s v → Reads (five f) s (w ++ v)
-  marked : {s : Stmt} {ok : ℕ → Bool} {next : ℕ → Plan} {f : Expr → Plan} {c : ℕ} {t : List ℕ} → ok c ≡ true → Reads (next c) s t → Reads (either ok next f) s (c ∷ t)
-  bare : {s : Stmt} {ok : ℕ → Bool} {next : ℕ → Plan} {f : Expr → Plan} {e : Expr} {w v : List ℕ} → Exp 5 e w → Reads (f e) s v → Reads (either ok next f) s (w ++ v)
+  marked : {s : Stmt} {ok : ℕ → Bool} {next : ℕ → Plan} {f : Expr → Plan} {c : ℕ} {t : List ℕ} → ok c ≡ true → Reads (next c) s t
+      → Reads (either ok next f) s (c ∷ t)
+  bare : {s : Stmt} {ok : ℕ → Bool} {next : ℕ → Plan} {f : Expr → Plan} {e : Expr} {w v : List ℕ} → Exp 5 e w → Reads (f e) s v
+      → Reads (either ok next f) s (w ++ v)
   finished : {s : Stmt} {t : List ℕ} {read : List ℕ → Read Stmt} → read t ≡ got s [] → Reads (finish read) s t
 
 pub data Walks : Plan → List ℕ → Read Stmt → Type 0 where
@@ -48,19 +51,25 @@ pub data Walks : Plan → List ℕ → Read Stmt → Type 0 where
   over : {s : Stmt} {c : ℕ} {t : List ℕ} → Walks (done s) (c ∷ t) (stuck (c ∷ t))
   ended : {s : Stmt} {ok : ℕ → Bool} {f : ℕ → Plan} → Walks (fork (some s) ok f) [] (got s [])
   short : {ok : ℕ → Bool} {f : ℕ → Plan} → Walks (fork none ok f) [] (stuck [])
-  steps : {end : Option Stmt} {ok : ℕ → Bool} {f : ℕ → Plan} {c : ℕ} {t : List ℕ} {o : Read Stmt} → ok c ≡ true → Walks (f c) t o → Walks (fork end ok f) (c ∷ t) o
-  wrong : {end : Option Stmt} {ok : ℕ → Bool} {f : ℕ → Plan} {c : ℕ} {t : List ℕ} → ok c ≡ false → Walks (fork end ok f) (c ∷ t) (stuck (c ∷ t))
-  tree : {f : Expr → Plan} {e : Expr} {t r : List ℕ} {o : Read Stmt} → Goes (whole 5) t (got e r) → Walks (f e) r o → Walks (expression f) t o
+  steps : {end : Option Stmt} {ok : ℕ → Bool} {f : ℕ → Plan} {c : ℕ} {t : List ℕ} {o : Read Stmt} → ok c ≡ true → Walks (f c) t o
+      → Walks (fork end ok f) (c ∷ t) o
+  wrong : {end : Option Stmt} {ok : ℕ → Bool} {f : ℕ → Plan} {c : ℕ} {t : List ℕ} → ok c ≡ false
+      → Walks (fork end ok f) (c ∷ t) (stuck (c ∷ t))
+  tree : {f : Expr → Plan} {e : Expr} {t r : List ℕ} {o : Read Stmt} → Goes (whole 5) t (got e r) → Walks (f e) r o
+      → Walks (expression f) t o
   treeless : {f : Expr → Plan} {t r : List ℕ} → Goes (whole 5) t (stuck r) → Walks (expression f) t (stuck r)
-  value : {f : ℕ → Plan} {most n : ℕ} {t r : List ℕ} {o : Read Stmt} → isDecimal (look t) ≡ true → going.digits most 0 t ≡ got n r → Walks (f n) r o
+  value : {f : ℕ → Plan} {most n : ℕ} {t r : List ℕ} {o : Read Stmt} → isDecimal (look t) ≡ true
+      → going.digits most 0 t ≡ got n r → Walks (f n) r o
       → Walks (decimal most f) t o
-  large : {f : ℕ → Plan} {most : ℕ} {t r : List ℕ} → isDecimal (look t) ≡ true → going.digits most 0 t ≡ stuck r → Walks (decimal most f) t (stuck r)
+  large : {f : ℕ → Plan} {most : ℕ} {t r : List ℕ} → isDecimal (look t) ≡ true → going.digits most 0 t ≡ stuck r
+      → Walks (decimal most f) t (stuck r)
   valueless : {f : ℕ → Plan} {most : ℕ} {t : List ℕ} → isDecimal (look t) ≡ false → Walks (decimal most f) t (stuck t)
   digits : {f : ℕ → Plan} {n : ℕ} {t r : List ℕ} {o : Read Stmt} → going.fixed 32767 5 0 t ≡ got n r → Walks (f n) r o → Walks (five f) t o
   nameless : {f : ℕ → Plan} {t r : List ℕ} → going.fixed 32767 5 0 t ≡ stuck r → Walks (five f) t (stuck r)
   marked : {ok : ℕ → Bool} {next : ℕ → Plan} {f : Expr → Plan} {c : ℕ} {t : List ℕ} {o : Read Stmt} → ok c ≡ true → Walks (next c) t o
       → Walks (either ok next f) (c ∷ t) o
-  bare : {ok : ℕ → Bool} {next : ℕ → Plan} {f : Expr → Plan} {e : Expr} {t r : List ℕ} {o : Read Stmt} → ok (look t) ≡ false → Goes (whole 5) t (got e r)
+  bare : {ok : ℕ → Bool} {next : ℕ → Plan} {f : Expr → Plan} {e : Expr} {t r : List ℕ} {o : Read Stmt} → ok (look t) ≡ false
+      → Goes (whole 5) t (got e r)
       → Walks (f e) r o → Walks (either ok next f) t o
   bareless : {ok : ℕ → Bool} {next : ℕ → Plan} {f : Expr → Plan} {t r : List ℕ} → ok (look t) ≡ false → Goes (whole 5) t (stuck r)
       → Walks (either ok next f) t (stuck r)
@@ -76,8 +85,8 @@ Behind (five f) = ⊥
 Behind (either ok next f) = ⊥
 Behind (finish read) = ⊥
 
--- a reader of all that is left: it leaves nothing; where it is stuck it took w, some text that it reads begins with w, and it is stuck there in every text
--- that begins alike
+-- a reader of all that is left: it leaves nothing; where it is stuck it took w, some text that it reads begins with w, and it is stuck
+-- there in every text that begins alike
 pub record Halts (read : List ℕ → Read Stmt) (t r : List ℕ) : Type 0 where
   pub w : List ℕ
   pub split : t ≡ w ++ r
@@ -99,5 +108,6 @@ Alive (expression f) = (e : Expr) → Behind (f e) × Alive (f e)
 Alive (decimal most f) = (9 ≤ most) × ((n : ℕ) → Behind (f n) × Alive (f n))
 Alive (five f) = (n : ℕ) → Alive (f n)
 Alive (either ok next f) =
-    (((c : ℕ) → ok c ≡ true → going.classOf c ≡ going.other) × (ok 0 ≡ false)) × (((c : ℕ) → ok c ≡ true → Alive (next c)) × ((e : Expr) → Behind (f e) × Alive (f e)))
+    (((c : ℕ) → ok c ≡ true → going.classOf c ≡ going.other) × (ok 0 ≡ false))
+    × (((c : ℕ) → ok c ≡ true → Alive (next c)) × ((e : Expr) → Behind (f e) × Alive (f e)))
 Alive (finish read) = ((t : List ℕ) × ((s : Stmt) × (read t ≡ got s []))) × ((t : List ℕ) → Finishes read t (read t))

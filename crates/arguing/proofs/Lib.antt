@@ -1,0 +1,2 @@
+-- The laws behind the arguments of an instruction.
+pub mod Arguing

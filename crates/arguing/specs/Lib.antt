@@ -1,0 +1,2 @@
+-- C-19: the arguments of an instruction.
+pub mod Answers

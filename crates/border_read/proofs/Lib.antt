@@ -1,0 +1,2 @@
+-- What is shown of the function for C.
+pub mod Coincide

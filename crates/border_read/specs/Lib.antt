@@ -1,0 +1,2 @@
+-- What the function for C answers.
+pub mod Replies

@@ -1,0 +1,3 @@
+-- The laws behind a frame's bytes.
+pub mod Laying
+pub mod Speaking

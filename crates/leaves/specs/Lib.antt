@@ -1,0 +1,2 @@
+-- C-19: what the readers answer.
+pub mod Answering

@@ -1,0 +1,2 @@
+-- The laws behind the forms by mark.
+pub mod Narrowing

@@ -1,0 +1,2 @@
+-- C-19: the forms by mark.
+pub mod Narrowing

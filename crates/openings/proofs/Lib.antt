@@ -1,0 +1,3 @@
+-- The laws behind the words that lines begin with.
+pub mod Numbered
+pub mod Fronting

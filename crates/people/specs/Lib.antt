@@ -1,0 +1,2 @@
+-- C-19: a line, read.
+pub mod Reading

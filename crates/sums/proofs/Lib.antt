@@ -1,0 +1,2 @@
+-- The laws behind the readers of expressions.
+pub mod Readings
