@@ -2,4 +2,3 @@
 pub mod Jumps
 pub mod Targets
 pub mod Retargets
-pub mod Starts

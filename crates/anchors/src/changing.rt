@@ -6,6 +6,7 @@ use instruction::tables::NOT1;
 use patterns::targets::form_at;
 use rules::Outcome;
 use rules::Place;
+use slots::State;
 use slots::kind_at;
 ghost use mathlib.Core.Path.{_≡_};
 ghost use mathlib.Core.Option.{some};
@@ -22,22 +23,18 @@ ghost use Rattle.rules.specs.Rewriting.{nearest as nearestPlace};
 ghost use Rattle.listing.specs.Tables.{Held};
 ghost use Rattle.env.specs.Tables.{Any};
 ghost use Rattle.slots.specs.Slots.{slotAt, programOf};
-ghost use Rattle.image.specs.Tables.{Tables, tables, program, Ready};
+ghost use Rattle.image.specs.Tables.{Tables, tablesOf, program, Ready};
 ghost use Rattle.patterns.specs.Targets.{standsAt, formIn};
 ghost use Rattle.anchors.specs.Changes.{nearestAs};
+ghost use Rattle.slots.specs.State.{startsIn, formsIn};
 
 // "labels (inner ones too), variables and comments skipped". A slot that is gone holds no statement.
-fn skipped_at(
-    frames: &[u8],
-    starts: &[u16; 1025],
-    count: usize,
-    forms: &[u8; 1024],
-    at: Place,
-) -> bool
-    requires { ⌜ Held (now frames) (now starts) count × (at .0 < count) ⌝ }
-    ensures { λ r. ⌜ Any (now (frames .entry)) (now (starts .entry)) count (now (forms .entry)) (λ t. r ≡ skipped (slotAt t (at .0))) ⌝ }
+fn skipped_at(frames: &[u8], state: &State, count: usize, at: Place) -> bool
+    requires { ⌜ Held (now frames) (startsIn (now state)) count × (at .0 < count) ⌝ }
+    ensures { λ r. ⌜ Any (now (frames .entry)) (startsIn (now (state .entry))) count (formsIn (now (state .entry))) (λ t. r ≡ skipped
+        (slotAt t (at .0))) ⌝ }
 {
-    let kind = kind_at(frames, starts, count, forms, at);
+    let kind = kind_at(frames, state, count, at);
     if kind == 1 {
         return false;
     }
@@ -45,21 +42,15 @@ fn skipped_at(
 }
 
 // The last place below whose statement is not skipped.
-fn nearest(
-    frames: &[u8],
-    starts: &[u16; 1025],
-    count: usize,
-    forms: &[u8; 1024],
-    at: Place,
-) -> Nearest
-    requires { ⌜ Held (now frames) (now starts) count × (at .0 ≤ count) ⌝ }
-    ensures { λ r. ⌜ Any (now (frames .entry)) (now (starts .entry)) count (now (forms .entry))
+fn nearest(frames: &[u8], state: &State, count: usize, at: Place) -> Nearest
+    requires { ⌜ Held (now frames) (startsIn (now state)) count × (at .0 ≤ count) ⌝ }
+    ensures { λ r. ⌜ Any (now (frames .entry)) (startsIn (now (state .entry))) count (formsIn (now (state .entry)))
         (λ t. r ≡ nearestAs (nearestPlace (programOf t) (at .0))) ⌝ }
 {
     let mut j = at.0;
     while 0 < j {
         j -= 1;
-        if !skipped_at(frames, starts, count, forms, Place(j)) {
+        if !skipped_at(frames, state, count, Place(j)) {
             return Nearest::At(Place(j));
         }
     }
@@ -90,96 +81,50 @@ fn meets(positions: &[u32; 1025], j: Place, at: Place) -> bool
 // The `Not1` at j has "operands valued 0x10D and 0".
 fn valued_at(
     frames: &[u8],
-    starts: &[u16; 1025],
+    state: &State,
     count: usize,
-    forms: &[u8; 1024],
-    carry: &[u16; 1024],
-    owners: &[u16; 1024],
-    offsets: &[u16; 1024],
     links: &[u16; 28672],
     values: &[i64; 1024],
     positions: &[u32; 1025],
     j: Place,
 ) -> bool
-    requires { let d : Tables = tables (now frames) (now starts) count (now forms) (now carry) (now owners) (now offsets)
+    requires { let d : Tables = tablesOf (now frames) (now state) count
         (now links) (now values) (now positions) in
         ⌜ Ready d × (j .0 < count) × (formIn (standsAt (d .slots) (j .0)) ≡ not1) ⌝ }
-    ensures { λ r. let d : Tables = tables (now (frames .entry)) (now (starts .entry)) count (now (forms .entry)) (now (carry .entry))
-        (now (owners .entry)) (now (offsets .entry)) (now (links .entry)) (now (values .entry)) (now (positions .entry)) in
+    ensures { λ r. let d : Tables = tablesOf (now (frames .entry)) (now (state .entry)) count (now (links .entry)) (now (values .entry))
+        (now (positions .entry)) in
         ⌜ r ≡ valued10DAnd0 (worthOf (d .entries) (program d) (contextAt (program d) (j .0))) (argsOf (standsAt (d .slots) (j .0))) ⌝ }
 {
-    let bank = argument_worth(
-        frames,
-        starts,
-        count,
-        forms,
-        carry,
-        owners,
-        offsets,
-        links,
-        values,
-        positions,
-        j,
-        0,
-    );
+    let bank = argument_worth(frames, state, count, links, values, positions, j, 0);
     if !is_number(bank, 0x10D) {
         return false;
     }
-    let bit = argument_worth(
-        frames,
-        starts,
-        count,
-        forms,
-        carry,
-        owners,
-        offsets,
-        links,
-        values,
-        positions,
-        j,
-        1,
-    );
+    let bit = argument_worth(frames, state, count, links, values, positions, j, 1);
     is_number(bit, 0)
 }
 
 // The statement at j is `Not1` "with operands valued 0x10D and 0, ending where the jump begins".
 fn changes_at(
     frames: &[u8],
-    starts: &[u16; 1025],
+    state: &State,
     count: usize,
-    forms: &[u8; 1024],
-    carry: &[u16; 1024],
-    owners: &[u16; 1024],
-    offsets: &[u16; 1024],
     links: &[u16; 28672],
     values: &[i64; 1024],
     positions: &[u32; 1025],
     at: Place,
     j: Place,
 ) -> bool
-    requires { let d : Tables = tables (now frames) (now starts) count (now forms) (now carry) (now owners) (now offsets)
+    requires { let d : Tables = tablesOf (now frames) (now state) count
         (now links) (now values) (now positions) in
         ⌜ Ready d × (at .0 < count) × (j .0 < count) ⌝ }
-    ensures { λ r. let d : Tables = tables (now (frames .entry)) (now (starts .entry)) count (now (forms .entry)) (now (carry .entry))
-        (now (owners .entry)) (now (offsets .entry)) (now (links .entry)) (now (values .entry)) (now (positions .entry)) in
+    ensures { λ r. let d : Tables = tablesOf (now (frames .entry)) (now (state .entry)) count (now (links .entry)) (now (values .entry))
+        (now (positions .entry)) in
         ⌜ r ≡ changesAt (d .entries) (program d) (at .0) (some (j .0)) ⌝ }
 {
-    if form_at(frames, starts, count, forms, j) != NOT1 {
+    if form_at(frames, state, count, j) != NOT1 {
         return false;
     }
-    if !valued_at(
-        frames,
-        starts,
-        count,
-        forms,
-        carry,
-        owners,
-        offsets,
-        links,
-        values,
-        positions,
-        j,
-    ) {
+    if !valued_at(frames, state, count, links, values, positions, j) {
         return false;
     }
     meets(positions, j, at)
@@ -188,42 +133,25 @@ fn changes_at(
 // "a `Jmpf` whose nearest earlier statement .. is `Not1` with operands valued 0x10D and 0, ending where the jump begins"
 pub fn is_change_jump(
     frames: &[u8],
-    starts: &[u16; 1025],
+    state: &State,
     count: usize,
-    forms: &[u8; 1024],
-    carry: &[u16; 1024],
-    owners: &[u16; 1024],
-    offsets: &[u16; 1024],
     links: &[u16; 28672],
     values: &[i64; 1024],
     positions: &[u32; 1025],
     at: Place,
 ) -> bool
-    requires { let d : Tables = tables (now frames) (now starts) count (now forms) (now carry) (now owners) (now offsets)
+    requires { let d : Tables = tablesOf (now frames) (now state) count
         (now links) (now values) (now positions) in
         ⌜ Ready d × (at .0 < count) ⌝ }
-    ensures { λ r. let d : Tables = tables (now (frames .entry)) (now (starts .entry)) count (now (forms .entry)) (now (carry .entry))
-        (now (owners .entry)) (now (offsets .entry)) (now (links .entry)) (now (values .entry)) (now (positions .entry)) in
+    ensures { λ r. let d : Tables = tablesOf (now (frames .entry)) (now (state .entry)) count (now (links .entry)) (now (values .entry))
+        (now (positions .entry)) in
         ⌜ r ≡ isChangeJump (d .entries) (program d) (at .0) ⌝ }
 {
-    if form_at(frames, starts, count, forms, at) != JMPF {
+    if form_at(frames, state, count, at) != JMPF {
         return false;
     }
-    match nearest(frames, starts, count, forms, at) {
-        Nearest::At(j) => changes_at(
-            frames,
-            starts,
-            count,
-            forms,
-            carry,
-            owners,
-            offsets,
-            links,
-            values,
-            positions,
-            at,
-            j,
-        ),
+    match nearest(frames, state, count, at) {
+        Nearest::At(j) => changes_at(frames, state, count, links, values, positions, at, j),
         Nearest::Nothing => false,
     }
 }

@@ -15,13 +15,13 @@ use Rattle.rules.specs.Judging.{noNameTwice, positionsFit, defineAll, encodeAll
 use Rattle.rules.proofs.Laws.{next-ok}
 use Rattle.slots.specs.Slots.{Slots, programOf, Sound}
 use Rattle.slots.specs.Links.{contextsRead, Beside, Together}
-use Rattle.env.specs.declared.Checked.{Checked}
-use Rattle.env.specs.declared.Checked.the-variants.{Passes, Refused}
+use Rattle.slots.specs.declared.Checked.{Checked}
+use Rattle.slots.specs.declared.Checked.the-variants.{Passes, Refused}
 use Rattle.env.specs.Answers.{checkedAs as env·checkedAs}
 use Rattle.env.specs.Settling.{Settled}
 use Rattle.env.proofs.Programs.{length-program}
-use Rattle.image.specs.declared.Checked.{Checked as Encoded}
-use Rattle.image.specs.declared.Checked.the-variants.{Passes as Encodes, Refused as Encoded·Refused}
+use Rattle.slots.specs.declared.Checked.{Checked as Encoded}
+use Rattle.slots.specs.declared.Checked.the-variants.{Passes as Encodes, Refused as Encoded·Refused}
 use Rattle.image.specs.Tables.{Tables, program, Ready}
 use Rattle.image.specs.Encoding.{checkedAs, encodeSlots}
 use Rattle.asm.specs.declared.Verdict.{Verdict}

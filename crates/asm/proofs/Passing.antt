@@ -16,8 +16,8 @@ use Rattle.rules.specs.Names.{Entry, placed, placedFrom, enter}
 use Rattle.rules.specs.Judging.{settles, noNameTwice, positionsFit, defineAll, namesOf}
 use Rattle.rules.proofs.Laws.{next-ok, require-ok}
 use Rattle.slots.specs.Slots.{Slots, programOf, slotAt}
-use Rattle.env.specs.declared.Checked.{Checked}
-use Rattle.env.specs.declared.Checked.the-variants.{Passes, Refused}
+use Rattle.slots.specs.declared.Checked.{Checked}
+use Rattle.slots.specs.declared.Checked.the-variants.{Passes, Refused}
 use Rattle.env.specs.Answers.{checkedAs}
 use Rattle.expression.specs.Environment.{entriesOf}
 use Rattle.expression.proofs.Links.{links-say}

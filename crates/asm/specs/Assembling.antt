@@ -11,8 +11,8 @@ use Rattle.rules.specs.Names.{Entry, contextAt, placed}
 use Rattle.rules.specs.Judging.{noNameTwice, positionsFit, defineAll, namesOf}
 use Rattle.slots.specs.Slots.{Slots, goneForm, programOf}
 use Rattle.slots.specs.Links.{contextsRead, Says}
-use Rattle.env.specs.declared.Checked.{Checked}
-use Rattle.env.specs.declared.Checked.the-variants.{Passes}
+use Rattle.slots.specs.declared.Checked.{Checked}
+use Rattle.slots.specs.declared.Checked.the-variants.{Passes}
 use Rattle.env.specs.Answers.{checkedAs}
 
 -- "then 3, then 5 and 6, then variables (4, 7)": the names of a program, or the first refusal

@@ -2,53 +2,40 @@
 use crate::Verdict;
 use crate::names::find_names;
 use crate::names::lay_and_define;
-use env::Checked;
 use image::encode_all;
+use slots::Checked;
+use slots::State;
 ghost use mathlib.Core.Path.{_≡_};
 ghost use lib.ListN.{length};
 ghost use Rattle.env.specs.Tables.{Any};
 ghost use Rattle.slots.specs.Slots.{Slots, slots, Sound};
 ghost use Rattle.slots.specs.Links.{Beside, Together};
-ghost use Rattle.image.specs.Tables.{Tables, tables, Ready};
+ghost use Rattle.image.specs.Tables.{Tables, tablesOf, Ready};
 ghost use Rattle.image.specs.Encoding.{encodeSlots};
 ghost use Rattle.asm.specs.Assembling.{Placed, Whole, InPlace, Once};
 ghost use Rattle.asm.specs.declared.Verdict.the-variants.{Good};
 ghost use Rattle.asm.specs.Verdicts.{verdictAs, JudgedAs};
+ghost use Rattle.slots.specs.State.{startsIn, formsIn, tableOf};
 
 // "then encoding by statement and argument"
 fn encode_slots(
     frames: &[u8],
-    starts: &[u16; 1025],
+    state: &State,
     count: usize,
-    forms: &[u8; 1024],
-    carry: &[u16; 1024],
-    owners: &[u16; 1024],
-    offsets: &[u16; 1024],
     links: &[u16; 28672],
     values: &[i64; 1024],
     positions: &[u32; 1025],
 ) -> Verdict
-    requires { let d : Tables = tables (now frames) (now starts) count (now forms) (now carry) (now owners) (now offsets)
+    requires { let d : Tables = tablesOf (now frames) (now state) count
         (now links) (now values) (now positions) in
         ⌜ Ready d ⌝ }
-    ensures { λ r. let d : Tables = tables (now (frames .entry)) (now (starts .entry)) count (now (forms .entry)) (now (carry .entry))
-        (now (owners .entry)) (now (offsets .entry)) (now (links .entry)) (now (values .entry)) (now (positions .entry)) in
+    ensures { λ r. let d : Tables = tablesOf (now (frames .entry)) (now (state .entry)) count (now (links .entry)) (now (values .entry))
+        (now (positions .entry)) in
         ⌜ r ≡ verdictAs (encodeSlots d) ⌝ }
 {
-    match encode_all(
-        frames,
-        starts,
-        count,
-        forms,
-        carry,
-        owners,
-        offsets,
-        links,
-        values,
-        positions,
-    ) {
-        image::Checked::Passes => Verdict::Good,
-        image::Checked::Refused(r) => Verdict::Refused(r),
+    match encode_all(frames, state, count, links, values, positions) {
+        Checked::Passes => Verdict::Good,
+        Checked::Refused(r) => Verdict::Refused(r),
     }
 }
 
@@ -56,37 +43,22 @@ fn encode_slots(
 // values are left filled.
 pub fn judge_linked(
     frames: &[u8],
-    starts: &[u16; 1025],
+    state: &State,
     count: usize,
-    forms: &[u8; 1024],
-    carry: &[u16; 1024],
-    owners: &[u16; 1024],
-    offsets: &[u16; 1024],
     links: &[u16; 28672],
     positions: &mut [u32; 1025],
     values: &mut [i64; 1024],
 ) -> Verdict
-    requires { let t : Slots = slots (now frames) (now starts) count (now forms) (now carry) (now owners) (now offsets) in
-        ⌜ Sound t × Together t × Once t × Beside (now frames) (now starts) count (now links)
+    requires { let t : Slots = tableOf (now frames) (now state) count in
+        ⌜ Sound t × Together t × Once t × Beside (now frames) (startsIn (now state)) count (now links)
         × (length (now positions) ≡ 1025) × (length (now values) ≡ 1024)
-        × Any (now frames) (now starts) count (now forms) (λ u. InPlace u) ⌝ }
-    ensures { λ r. ⌜ JudgedAs (tables (now (frames .entry)) (now (starts .entry)) count (now (forms .entry)) (now (carry .entry))
-        (now (owners .entry)) (now (offsets .entry)) (now (links .entry)) (now (values .exit)) (now (positions .exit))) r ⌝ }
+        × Any (now frames) (startsIn (now state)) count (formsIn (now state)) (λ u. InPlace u) ⌝ }
+    ensures { λ r. ⌜ JudgedAs (tablesOf (now (frames .entry)) (now (state .entry)) count (now (links .entry)) (now (values .exit)) (now
+        (positions .exit))) r ⌝ }
 {
-    match lay_and_define(frames, starts, count, forms, links, positions, values) {
+    match lay_and_define(frames, state, count, links, positions, values) {
         Checked::Refused(r) => Verdict::Refused(r),
-        Checked::Passes => encode_slots(
-            frames,
-            starts,
-            count,
-            forms,
-            carry,
-            owners,
-            offsets,
-            links,
-            values,
-            positions,
-        ),
+        Checked::Passes => encode_slots(frames, state, count, links, values, positions),
     }
 }
 
@@ -94,37 +66,22 @@ pub fn judge_linked(
 // assembles, positions and values.
 pub fn judge(
     frames: &[u8],
-    starts: &[u16; 1025],
+    state: &State,
     count: usize,
-    forms: &[u8; 1024],
-    carry: &[u16; 1024],
-    owners: &[u16; 1024],
-    offsets: &[u16; 1024],
     contexts: &[u16; 1024],
     links: &mut [u16; 28672],
     positions: &mut [u32; 1025],
     values: &mut [i64; 1024],
 ) -> Verdict
-    requires { let t : Slots = slots (now frames) (now starts) count (now forms) (now carry) (now owners) (now offsets) in
+    requires { let t : Slots = tableOf (now frames) (now state) count in
         ⌜ Sound t × Together t × (length (now links) ≡ 28672) × (length (now positions) ≡ 1025) × (length (now values) ≡ 1024)
-        × Any (now frames) (now starts) count (now forms) (λ u. Placed u (now contexts) × Whole u) ⌝ }
-    ensures { λ r. ⌜ JudgedAs (tables (now (frames .entry)) (now (starts .entry)) count (now (forms .entry)) (now (carry .entry))
-        (now (owners .entry)) (now (offsets .entry)) (now (links .exit)) (now (values .exit)) (now (positions .exit))) r ⌝ }
-    ensures { λ r. ⌜ (r ≡ Good → Beside (now (frames .entry)) (now (starts .entry)) count (now (links .exit))) ⌝ }
+        × Any (now frames) (startsIn (now state)) count (formsIn (now state)) (λ u. Placed u (now contexts) × Whole u) ⌝ }
+    ensures { λ r. ⌜ JudgedAs (tablesOf (now (frames .entry)) (now (state .entry)) count (now (links .exit)) (now (values .exit)) (now
+        (positions .exit))) r ⌝ }
+    ensures { λ r. ⌜ (r ≡ Good → Beside (now (frames .entry)) (startsIn (now (state .entry))) count (now (links .exit))) ⌝ }
 {
-    match find_names(frames, starts, count, forms, contexts, links) {
+    match find_names(frames, state, count, contexts, links) {
         Checked::Refused(r) => Verdict::Refused(r),
-        Checked::Passes => judge_linked(
-            frames,
-            starts,
-            count,
-            forms,
-            carry,
-            owners,
-            offsets,
-            links,
-            positions,
-            values,
-        ),
+        Checked::Passes => judge_linked(frames, state, count, links, positions, values),
     }
 }

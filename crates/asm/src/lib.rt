@@ -13,8 +13,7 @@ pub use origins::address_of;
 pub use origins::origin_of;
 use rules::Place;
 use rules::Refusal;
-pub use start::start_carry;
-pub use start::start_forms;
+pub use start::start_state;
 
 // The program assembles, or the first refusal.
 pub enum Verdict {

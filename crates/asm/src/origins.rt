@@ -2,6 +2,7 @@
 use crate::Origin;
 use rules::Address;
 use rules::Place;
+use slots::State;
 use slots::size_at;
 ghost use mathlib.Core.Path.{_≡_};
 ghost use mathlib.Core.Bool.{_&&_};
@@ -12,6 +13,7 @@ ghost use Rattle.listing.specs.Tables.{Held};
 ghost use Rattle.slots.specs.Slots.{Positioned};
 ghost use Rattle.env.specs.Tables.{Any};
 ghost use Rattle.asm.specs.Belonging.{FoundAs};
+ghost use Rattle.slots.specs.State.{startsIn, formsIn};
 
 // A position of the table.
 fn position_in(x: u32) -> Address
@@ -33,20 +35,20 @@ fn has_byte(from: Address, size: usize, address: Address) -> bool
 // The statement that has the byte at an address, and the byte's place in it. `positions` are those of the slots.
 pub fn origin_of(
     frames: &[u8],
-    starts: &[u16; 1025],
+    state: &State,
     count: usize,
-    forms: &[u8; 1024],
     positions: &[u32; 1025],
     address: Address,
 ) -> Origin
-    requires { ⌜ Held (now frames) (now starts) count
-        × Any (now frames) (now starts) count (now forms) (λ t. Positioned t (now positions)) ⌝ }
-    ensures { λ r. ⌜ Any (now (frames .entry)) (now (starts .entry)) count (now (forms .entry)) (λ t. FoundAs t (address .0) r) ⌝ }
+    requires { ⌜ Held (now frames) (startsIn (now state)) count
+        × Any (now frames) (startsIn (now state)) count (formsIn (now state)) (λ t. Positioned t (now positions)) ⌝ }
+    ensures { λ r. ⌜ Any (now (frames .entry)) (startsIn (now (state .entry))) count (formsIn (now (state .entry))) (λ t. FoundAs t
+        (address .0) r) ⌝ }
 {
     let mut i = 0;
     while i < count {
         let from = position_in(positions[i]);
-        let size = size_at(frames, starts, count, forms, Place(i), from);
+        let size = size_at(frames, state, count, Place(i), from);
         if has_byte(from, size, address) {
             return Origin::At(Place(i), address.0 - from.0);
         }

@@ -1,5 +1,5 @@
 -- What an attempt leaves: the candidate where it counts, and else the tables as they were.
-use mathlib.Core.Path.{_≡_, refl, sym, subst, ap, _∙_}
+use mathlib.Core.Path.{_≡_, refl, sym, subst, ap, ap₂, _∙_}
 use mathlib.Core.List.{List}
 use mathlib.Core.Option.{Option, none, some}
 use mathlib.Core.Bool.{Bool, true, false, _&&_}
@@ -17,7 +17,9 @@ use Rattle.rules.specs.Names.{enter}
 use Rattle.rules.specs.Judging.{assembles}
 use Rattle.rules.specs.Rewriting.{everyInnerLabel, acceptable, candidate, localLabel, dropAll}
 use Rattle.slots.specs.Slots.{Slots, slots, goneForm, slotAt, programOf, Agree}
+use Rattle.slots.specs.State.{startsIn, formsIn, carryIn, ownersIn, offsetsIn, tableOf, Kept}
 use Rattle.slots.specs.Links.{Beside}
+use Rattle.slots.proofs.State.{table-kept}
 use Rattle.patterns.specs.Mentions.{Told}
 use Rattle.patterns.proofs.Programs.{at-program}
 use Rattle.attempts.specs.Standing.{Standing, Tried}
@@ -35,8 +37,8 @@ tried-not x t st e =
     record {
       says = sym (ap isSome e);
       leaves = sym (ap (λ (o : Option Program). getOr o (programOf t)) e);
-      forms-kept = λ h. refl;
-      carry-kept = λ h. refl;
+      kept = λ h. refl;
+      starts-kept = refl;
       stands = st;
     }
 
@@ -72,29 +74,43 @@ pub record Holding (u : Slots) (q : Program) : Type 0 where
   pub stands : Standing u
 
 module _ (q : Program) (t u : Slots) (h : Holding u q) (b : Bool) (e : b ≡ acceptable (programOf u)) where
-  pub tried-kept : b ≡ true → Tried (candidate q) t u true
-  tried-kept counts =
+  pub tried-kept : b ≡ true → u .starts ≡ t .starts → Tried (candidate q) t u true
+  tried-kept counts same =
       let is = candidate-is q b (e ∙ ap acceptable (h .is)) counts in
       record {
         says = sym (ap isSome is);
         leaves = h .is ∙ sym (ap (λ (o : Option Program). getOr o (programOf t)) is);
-        forms-kept = λ z. false-true (sym z);
-        carry-kept = λ z. false-true (sym z);
+        kept = λ z. false-true (sym z);
+        starts-kept = same;
         stands = h .stands;
       }
 
   pub tried-none : b ≡ false → candidate q ≡ none
   tried-none fails = candidate-not q b (e ∙ ap acceptable (h .is)) fails
 
+-- the tables as they were
+pub tried-back : (x : Option Program) (t u : Slots) → Standing t → x ≡ none → u ≡ t → Tried x t u false
+tried-back x t u st e same = subst (λ (z : Slots). Tried x t z false) (sym same) (tried-not x t st e)
+
+-- ---- a state whose other rows are kept
+
+module _ (frames : List ℕ) (old new : List (List ℕ)) (count : ℕ) (k : Kept old new) where
+  -- the slots that it holds are known by forms and carried places
+  pub held-kept : (q : Program) → Holding (slots frames (startsIn old) count (formsIn new) (carryIn new) (ownersIn old) (offsetsIn old)) q
+      → Holding (tableOf frames new count) q
+  held-kept q h = subst (λ (z : Slots). Holding z q) (sym (table-kept frames old new count k)) h
+
+  pub beside-kept : (links : List ℕ) → Beside frames (startsIn old) count links → Beside frames (startsIn new) count links
+  beside-kept links b = subst (λ (z : List ℕ). Beside frames z count links) (sym (k .starts)) b
+
+  pub table-same : formsIn new ≡ formsIn old → carryIn new ≡ carryIn old → tableOf frames new count ≡ tableOf frames old count
+  table-same f c =
+      table-kept frames old new count k
+      ∙ ap₂ (λ (x y : List ℕ). slots frames (startsIn old) count x y (ownersIn old) (offsetsIn old)) f c
+
 module _ (frames starts : List ℕ) (count : ℕ) (forms carry owners offsets : List ℕ) (st : Standing (slots frames starts count forms carry owners offsets)) where
   abbrev there : (forms carry : List ℕ) → Slots
   there forms carry = slots frames starts count forms carry owners offsets
-
-  -- the tables as they were, by equations
-  pub tried-back : (x : Option Program) (forms′ carry′ : List ℕ) → x ≡ none → forms′ ≡ forms → carry′ ≡ carry → Tried x (there forms carry) (there forms′ carry′) false
-  tried-back x forms′ carry′ e f c =
-      subst (λ (a : List ℕ). Tried x (there forms carry) (there a carry′) false) (sym f)
-      (subst (λ (a : List ℕ). Tried x (there forms carry) (there forms a) false) (sym c) (tried-not x (there forms carry) st e))
 
   -- ---- the folds
 
@@ -143,18 +159,19 @@ module _ (frames starts : List ℕ) (count : ℕ) (forms carry owners offsets : 
       → Holding (there forms′ carry′) (inverted (there forms carry) to i j)
   inverted-holds to i j forms′ carry′ h e d = holding-by (inverted (there forms carry) to i j) _ _ forms′ carry′ e d (inverted-held to i j h)
 
-  pub bounced-holds : (f i skip target last : ℕ) (forms′ : List ℕ) → Bounces (there forms carry) f i skip target last → forms′ ≡ set (set (set forms skip goneForm) target goneForm) last goneForm
-      → Holding (there forms′ (set carry i (getD carry last 0))) (bounced (there forms carry) f i skip target last)
-  bounced-holds f i skip target last forms′ h e =
-      holding-by (bounced (there forms carry) f i skip target last) _ _ forms′ (set carry i (getD carry last 0)) e refl (bounced-held f i skip target last h)
+  pub bounced-holds : (f i skip target last : ℕ) (forms′ carry′ : List ℕ) → Bounces (there forms carry) f i skip target last
+      → forms′ ≡ set (set (set forms skip goneForm) target goneForm) last goneForm → carry′ ≡ set carry i (getD carry last 0)
+      → Holding (there forms′ carry′) (bounced (there forms carry) f i skip target last)
+  bounced-holds f i skip target last forms′ carry′ h e d =
+      holding-by (bounced (there forms carry) f i skip target last) _ _ forms′ carry′ e d (bounced-held f i skip target last h)
 
   -- ---- a shorter form
 
-  pub formed-holds : (f i : ℕ) → i < count → kindOf (slotAt (there forms carry) i) ≡ 1 → Agree f (getD forms i 0)
-      → Holding (there (set forms i f) carry) (set (programOf (there forms carry)) i (instr f (argsOf (slotAt (there forms carry) i)) (getD carry i 0)))
-  formed-holds f i l kind a =
+  pub formed-holds : (f i : ℕ) (forms′ carry′ : List ℕ) → i < count → kindOf (slotAt (there forms carry) i) ≡ 1 → Agree f (getD forms i 0)
+      → forms′ ≡ set forms i f → carry′ ≡ carry → Holding (there forms′ carry′) (set (programOf (there forms carry)) i (instr f (argsOf (slotAt (there forms carry) i)) (getD carry i 0)))
+  formed-holds f i forms′ carry′ l kind a d c =
       let e = edit-form frames starts count forms carry owners offsets st i f l kind a in
-      record { is = e .is; stands = e .stands }
+      holding-by _ _ _ forms′ carry′ d c (record { is = e .is; stands = e .stands })
 
 -- ---- undone
 

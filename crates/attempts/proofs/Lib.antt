@@ -4,3 +4,4 @@ pub mod Edits
 pub mod Attempts
 pub mod Found
 pub mod Depths
+pub mod Missed

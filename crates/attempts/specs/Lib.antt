@@ -2,4 +2,5 @@
 pub mod Standing
 pub mod Deepest
 pub mod Shrinks
+pub mod Reach
 pub mod Folds

@@ -12,8 +12,8 @@ use Rattle.asm.specs.Assembling.{InPlace, Once}
 -- the tables hold a program whose contexts are those of the listing as it was read, whose targets stay in them, and which defines no name twice
 pub record Standing (t : Slots) : Type 0 where
   pub sound : Sound t
-  pub forms-full : length (t .forms) ≡ 1024
-  pub carry-full : length (t .carry) ≡ 1024
+  pub forms-full : length (t .forms) ≡ 1025
+  pub carry-full : length (t .carry) ≡ 1025
   pub context : InPlace t
   pub together : Together t
   pub named : Once t
@@ -22,6 +22,6 @@ pub record Standing (t : Slots) : Type 0 where
 pub record Tried (x : Option Program) (before after : Slots) (r : Bool) : Type 0 where
   pub says : r ≡ isSome x
   pub leaves : programOf after ≡ getOr x (programOf before)
-  pub forms-kept : r ≡ false → after .forms ≡ before .forms
-  pub carry-kept : r ≡ false → after .carry ≡ before .carry
+  pub kept : r ≡ false → after ≡ before
+  pub starts-kept : after .starts ≡ before .starts
   pub stands : Standing after

@@ -2,12 +2,14 @@
 use patterns::InnerLabel;
 use patterns::labels::inner_label_at;
 use rules::Place;
+use slots::State;
 ghost use mathlib.Core.Path.{_≡_};
 ghost use Prim.Native.Nat.{ℕ, max};
 ghost use lib.ListN.{length, getD, replicate};
 ghost use Rattle.slots.specs.Slots.{Slots, slots, Sound};
 ghost use Rattle.patterns.specs.Labels.{OwnerIn};
 ghost use Rattle.attempts.specs.Deepest.{depthOf, wantedOf, Deepest};
+ghost use Rattle.slots.specs.State.{tableOf};
 
 // One more than an offset.
 fn depth(offset: usize) -> u32
@@ -39,34 +41,15 @@ fn store_deeper(deepest: &mut [u32; 1024], label: InnerLabel)
 }
 
 // Fills for each slot one more than the largest offset that an inner label wants there.
-pub fn fill_deepest(
-    frames: &[u8],
-    starts: &[u16; 1025],
-    count: usize,
-    forms: &[u8; 1024],
-    carry: &[u16; 1024],
-    owners: &[u16; 1024],
-    offsets: &[u16; 1024],
-    deepest: &mut [u32; 1024],
-)
-    requires { let t : Slots = slots (now frames) (now starts) count (now forms) (now carry) (now owners) (now offsets) in
+pub fn fill_deepest(frames: &[u8], state: &State, count: usize, deepest: &mut [u32; 1024])
+    requires { let t : Slots = tableOf (now frames) (now state) count in
         ⌜ Sound t × (now deepest ≡ replicate 1024 0) ⌝ }
-    ensures { λ _. let t : Slots = slots (now (frames .entry)) (now (starts .entry)) count (now (forms .entry)) (now (carry .entry))
-        (now (owners .entry)) (now (offsets .entry)) in
+    ensures { λ _. let t : Slots = tableOf (now (frames .entry)) (now (state .entry)) count in
         ⌜ Deepest t (now (deepest .exit)) ⌝ }
 {
     let mut j = 0;
     while j < count {
-        let label = inner_label_at(
-            frames,
-            starts,
-            count,
-            forms,
-            carry,
-            owners,
-            offsets,
-            Place(j),
-        );
+        let label = inner_label_at(frames, state, count, Place(j));
         store_deeper(deepest, label);
         j += 1;
     }

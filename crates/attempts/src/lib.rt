@@ -2,6 +2,7 @@
 mod accepting; // whether a candidate counts
 mod deepest; // how deep inner labels reach
 mod folds; // the two shapes of a fold
+mod reach; // forms that cannot reach their target
 mod shrinks; // a shorter form
 
 pub use accepting::acceptable;

@@ -64,7 +64,7 @@ whole-start frames starts n forms old h e i l g =
 -- ---- anchored
 
 -- anchoring a program that assembles leaves one that assembles, and defines no name twice
-pub anchored-stands : (t u : Slots) → Anchored t u → assembles (programOf t) ≡ true → length (u .forms) ≡ 1024 → length (u .carry) ≡ 1024
+pub anchored-stands : (t u : Slots) → Anchored t u → assembles (programOf t) ≡ true → length (u .forms) ≡ 1025 → length (u .carry) ≡ 1025
     → InPlace u → Together u → Standing u × (assembles (programOf u) ≡ true)
 anchored-stands t u a g f c k w =
     let i = assembles-image (programOf t) g in
@@ -100,7 +100,7 @@ module _ (asked : Settings) (t : Slots) (forms : List ℕ) (h : Shown asked t (f
       context-is (getD (t .carry) i 0) ∙ s .together i l kind (ap isTransfer (sym form) ∙ m) ∙ sym (context-is i)
 
   -- a program without its comments stands as it stood
-  pub shown-stands : Standing t → assembles (programOf t) ≡ true → length forms ≡ 1024 → Standing u × (assembles (programOf u) ≡ true)
+  pub shown-stands : Standing t → assembles (programOf t) ≡ true → length forms ≡ 1025 → Standing u × (assembles (programOf u) ≡ true)
   shown-stands s g f =
       let i = assembles-image (programOf t) g in
       let j : judge (programOf u) ≡ ok (i .0) = ap judge (h .program) ∙ judge-shown asked (programOf t) ∙ i .1 in (

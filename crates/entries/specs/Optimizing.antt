@@ -14,9 +14,12 @@ use Rattle.rules.specs.Listing.{Beside}
 use Rattle.rules.specs.Judging.{judge, assembles}
 use Rattle.rules.specs.Rewriting.{Chain, anchor, chain, instrBytes}
 use Rattle.rules.specs.Output.{writeBack, shown, compact, stems, textOf}
-use Rattle.rules.specs.Run.{Output, fits, answerOf, listingAfter, imageAfter}
+use Rattle.rules.specs.Run.{Output, answerOf, listingAfter, imageAfter}
+use Rattle.output.specs.Stems.{keptTo}
+use Rattle.slots.specs.State.{formsIn, carryIn, ownersIn, offsetsIn}
 use Rattle.image.specs.Tables.{Tables, program, Ready}
 use Rattle.image.specs.Encoding.{encodeSlots}
+use Rattle.entries.specs.Stems.{fitsAll}
 
 -- what is handed out of an end form that n rewrites led to: its text, the places that the statements stem from, and its own image
 unfoldable pub resultOf : Beside → (end : Program) (n : ℕ) → Output
@@ -28,19 +31,27 @@ rewritten asked b q =
     let end : Chain = chain asked (total instrBytes q) q in
     resultOf b (shown asked (end .program)) (end .count)
 
--- "12: lent listing room .. or image room too short", with the statement count
-unfoldable pub roomed : (count listingRoom imageRoom : ℕ) → Output → Judged Output
-roomed count listingRoom imageRoom o = require (fits listingRoom imageRoom o) (Room count) (ok o)
+-- "12: lent listing room .. or image room too short", C-13: or the list's, with the statement count
+unfoldable pub roomed : (count listingRoom imageRoom listRoom : ℕ) → Output → Judged Output
+roomed count listingRoom imageRoom listRoom o = require (fitsAll listingRoom imageRoom listRoom o) (Room count) (ok o)
 
 -- a program as read: "After the first assembly only 12 can be given"
-unfoldable pub judgedRun : Settings → Beside → (listingRoom imageRoom : ℕ) → Program → Judged Output
-judgedRun asked b listingRoom imageRoom p = judge p >> roomed (length p) listingRoom imageRoom (rewritten asked b (anchor p))
+unfoldable pub judgedRun : Settings → Beside → (listingRoom imageRoom listRoom : ℕ) → Program → Judged Output
+judgedRun asked b listingRoom imageRoom listRoom p =
+    judge p >> roomed (length p) listingRoom imageRoom listRoom (rewritten asked b (anchor p))
 
 -- tables of a program that was judged good: what they encode to is its image
 pub record Assembled (d : Tables) : Type 0 where
   pub ready : Ready d
   pub encodes : judge (program d) ≡ encodeSlots d
   pub good : assembles (program d) ≡ true
+
+-- the rows of a state are whole
+pub record Full (state : List (List ℕ)) : Type 0 where
+  pub forms : length (formsIn state) ≡ 1025
+  pub carry : length (carryIn state) ≡ 1025
+  pub owners : length (ownersIn state) ≡ 1025
+  pub offsets : length (offsetsIn state) ≡ 1025
 
 -- the answer and both rooms at the end
 pub record Delivers (x : Judged Output) (r : Answer) (out image out′ image′ : List ℕ) : Type 0 where
@@ -49,5 +60,9 @@ pub record Delivers (x : Judged Output) (r : Answer) (out image out′ image′ 
   pub image-is : image′ ≡ imageAfter x image
 
 -- if only the rooms can be refused
-abbrev pub Fitted : (count : ℕ) → Output → Answer → (out image out′ image′ : List ℕ) → Type 0
-Fitted count o r out image out′ image′ = Delivers (roomed count (length out) (length image) o) r out image out′ image′
+abbrev pub Fitted : (count listRoom : ℕ) → Output → Answer → (out image out′ image′ : List ℕ) → Type 0
+Fitted count listRoom o r out image out′ image′ = Delivers (roomed count (length out) (length image) listRoom o) r out image out′ image′
+
+-- the slots that are left at the end are those that the output's statements stem from
+abbrev pub Left : Judged Output → (forms : List ℕ) (count : ℕ) → Type 0
+Left x forms count = (o : Output) → x ≡ ok o → keptTo forms count ≡ o .stems

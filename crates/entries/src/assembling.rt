@@ -1,8 +1,7 @@
 // A listing is read, judged as it stands, and its image written. Each phase declares the tables that it fills and hands them on.
 use asm::Verdict;
 use asm::judge;
-use asm::start_carry;
-use asm::start_forms;
+use asm::start_state;
 use env::fill_contexts;
 use image::image_length;
 use image::write_image;
@@ -11,6 +10,7 @@ use listing::read_listing;
 use rules::Answer;
 use rules::Refusal;
 use rules::Sizes;
+use slots::State;
 ghost use mathlib.Core.Path.{_≡_};
 ghost use mathlib.Core.Bool.{true};
 ghost use lib.ListN.{length};
@@ -19,51 +19,36 @@ ghost use Rattle.rules.specs.Programs.{Program};
 ghost use Rattle.rules.specs.Run.{assembled};
 ghost use Rattle.listing.specs.Tables.{inputOf, Held};
 ghost use Rattle.env.specs.Tables.{Any};
-ghost use Rattle.slots.specs.Slots.{Slots, slots, programOf, Sound};
+ghost use Rattle.slots.specs.Slots.{Slots, programOf, Sound};
 ghost use Rattle.slots.specs.Links.{Together};
-ghost use Rattle.image.specs.Tables.{Tables, tables, Ready};
+ghost use Rattle.image.specs.Tables.{Tables, tablesOf, Ready};
 ghost use Rattle.image.specs.Encoding.{encodeSlots};
 ghost use Rattle.asm.specs.Assembling.{Placed, Whole};
 ghost use Rattle.entries.specs.Assembling.{Leaves, imageIn, fitted};
+ghost use Rattle.slots.specs.State.{startsIn, formsIn, tableOf};
 
 // The image of slots that encode, if the room holds it.
 fn finish(
     frames: &[u8],
-    starts: &[u16; 1025],
+    state: &State,
     count: usize,
-    forms: &[u8; 1024],
-    carry: &[u16; 1024],
-    owners: &[u16; 1024],
-    offsets: &[u16; 1024],
     links: &[u16; 28672],
     values: &[i64; 1024],
     positions: &[u32; 1025],
     image: &mut [u8],
 ) -> Answer
-    requires { let d : Tables = tables (now frames) (now starts) count (now forms) (now carry) (now owners) (now offsets)
+    requires { let d : Tables = tablesOf (now frames) (now state) count
         (now links) (now values) (now positions) in
         ⌜ Ready d × (isOk (encodeSlots d) ≡ true) ⌝ }
-    ensures { λ r. let d : Tables = tables (now (frames .entry)) (now (starts .entry)) count (now (forms .entry)) (now (carry .entry))
-        (now (owners .entry)) (now (offsets .entry)) (now (links .entry)) (now (values .entry)) (now (positions .entry)) in
+    ensures { λ r. let d : Tables = tablesOf (now (frames .entry)) (now (state .entry)) count (now (links .entry)) (now (values .entry))
+        (now (positions .entry)) in
         ⌜ Leaves (fitted count (length (now (image .entry))) (encodeSlots d)) r (now (image .entry)) (now (image .exit)) ⌝ }
 {
-    let n = image_length(frames, starts, count, forms, positions);
+    let n = image_length(frames, state, count, positions);
     if image.len() < n {
         return Answer::Refused(Refusal::Room(count));
     }
-    write_image(
-        frames,
-        starts,
-        count,
-        forms,
-        carry,
-        owners,
-        offsets,
-        links,
-        values,
-        positions,
-        image,
-    );
+    write_image(frames, state, count, links, values, positions, image);
     Answer::Done(Sizes {
         listing: 0,
         rewrites: 0,
@@ -74,19 +59,15 @@ fn finish(
 // Judges the slots, and writes their image.
 fn judge_slots(
     frames: &[u8],
-    starts: &[u16; 1025],
+    state: &State,
     count: usize,
-    forms: &[u8; 1024],
-    carry: &[u16; 1024],
-    owners: &[u16; 1024],
-    offsets: &[u16; 1024],
     contexts: &[u16; 1024],
     image: &mut [u8],
 ) -> Answer
-    requires { let t : Slots = slots (now frames) (now starts) count (now forms) (now carry) (now owners) (now offsets) in
-        ⌜ Sound t × Together t × Any (now frames) (now starts) count (now forms) (λ u. Placed u (now contexts) × Whole u) ⌝ }
-    ensures { λ r. let t : Slots = slots (now (frames .entry)) (now (starts .entry)) count (now (forms .entry)) (now (carry .entry))
-        (now (owners .entry)) (now (offsets .entry)) in
+    requires { let t : Slots = tableOf (now frames) (now state) count in
+        ⌜ Sound t × Together t × Any (now frames) (startsIn (now state)) count (formsIn (now state)) (λ u. Placed u (now contexts)
+        × Whole u) ⌝ }
+    ensures { λ r. let t : Slots = tableOf (now (frames .entry)) (now (state .entry)) count in
         ⌜ Leaves (imageIn (length (now (image .entry))) (programOf t)) r (now (image .entry)) (now (image .exit)) ⌝ }
 {
     let mut links = [0u16; 28672];
@@ -94,64 +75,28 @@ fn judge_slots(
     let mut values = [0i64; 1024];
     match judge(
         frames,
-        starts,
+        state,
         count,
-        forms,
-        carry,
-        owners,
-        offsets,
         contexts,
         &mut links,
         &mut positions,
         &mut values,
     ) {
         Verdict::Refused(r) => Answer::Refused(r),
-        Verdict::Good => finish(
-            frames,
-            starts,
-            count,
-            forms,
-            carry,
-            owners,
-            offsets,
-            &links,
-            &values,
-            &positions,
-            image,
-        ),
+        Verdict::Good => finish(frames, state, count, &links, &values, &positions, image),
     }
 }
 
 // The contexts are found first: names are found by them.
-fn place_slots(
-    frames: &[u8],
-    starts: &[u16; 1025],
-    count: usize,
-    forms: &[u8; 1024],
-    carry: &[u16; 1024],
-    owners: &[u16; 1024],
-    offsets: &[u16; 1024],
-    image: &mut [u8],
-) -> Answer
-    requires { let t : Slots = slots (now frames) (now starts) count (now forms) (now carry) (now owners) (now offsets) in
+fn place_slots(frames: &[u8], state: &State, count: usize, image: &mut [u8]) -> Answer
+    requires { let t : Slots = tableOf (now frames) (now state) count in
         ⌜ Sound t × Together t × Whole t ⌝ }
-    ensures { λ r. let t : Slots = slots (now (frames .entry)) (now (starts .entry)) count (now (forms .entry)) (now (carry .entry))
-        (now (owners .entry)) (now (offsets .entry)) in
+    ensures { λ r. let t : Slots = tableOf (now (frames .entry)) (now (state .entry)) count in
         ⌜ Leaves (imageIn (length (now (image .entry))) (programOf t)) r (now (image .entry)) (now (image .exit)) ⌝ }
 {
     let mut contexts = [0u16; 1024];
-    fill_contexts(frames, starts, count, forms, &mut contexts);
-    judge_slots(
-        frames,
-        starts,
-        count,
-        forms,
-        carry,
-        owners,
-        offsets,
-        &contexts,
-        image,
-    )
+    fill_contexts(frames, state, count, &mut contexts);
+    judge_slots(frames, state, count, &contexts, image)
 }
 
 // The slots of a listing as read: no target is an inner label.
@@ -160,22 +105,8 @@ fn assemble_read(frames: &[u8], starts: &[u16; 1025], count: usize, image: &mut 
     ensures { λ r. let p : Program = inputOf (now (frames .entry)) (now (starts .entry)) count in
         ⌜ Leaves (imageIn (length (now (image .entry))) p) r (now (image .entry)) (now (image .exit)) ⌝ }
 {
-    let mut forms = [0u8; 1024];
-    let mut carry = [0u16; 1024];
-    start_forms(frames, starts, count, &mut forms);
-    start_carry(count, &mut carry);
-    let owners = [1024u16; 1024];
-    let offsets = [0u16; 1024];
-    place_slots(
-        frames,
-        starts,
-        count,
-        &forms,
-        &carry,
-        &owners,
-        &offsets,
-        image,
-    )
+    let state = start_state(frames, starts, count);
+    place_slots(frames, &state, count, image)
 }
 
 // Reads a listing, judges it as it stands and writes its image. On refusal no lent byte changes.

@@ -1,83 +1,72 @@
 // A listing is read, judged, anchored, rewritten and written, as it is asked for. Each phase declares the tables that it fills and hands them on.
+use crate::finishing::Wanted;
 use crate::finishing::judge_end;
 use anchors::anchor;
 use asm::Verdict;
 use asm::judge;
-use asm::start_carry;
-use asm::start_forms;
+use asm::start_state;
 use env::fill_contexts;
 use listing::Listed;
 use listing::new_form;
 use listing::read_listing;
 use optimize::optimize;
 use output::show;
+use output::write_stems;
 use rules::Answer;
+use rules::Refusal;
 use rules::Settings;
+use rules::Sizes;
+use slots::State;
 ghost use mathlib.Core.Path.{_≡_};
 ghost use mathlib.Core.Bool.{true};
 ghost use lib.ListN.{length};
 ghost use Rattle.rules.specs.Programs.{Program};
 ghost use Rattle.rules.specs.Listing.{Beside as Lines};
 ghost use Rattle.rules.specs.Judging.{assembles};
-ghost use Rattle.rules.specs.Rewriting as rewriting;
 ghost use Rattle.promises.specs.Demand2.{Answered};
 ghost use Rattle.listing.specs.Tables.{inputOf, Held};
 ghost use Rattle.env.specs.Tables.{Any};
 ghost use Rattle.output.specs.Lines.{besideIn};
-ghost use Rattle.slots.specs.Slots.{Slots, slots, programOf, Sound};
+ghost use Rattle.slots.specs.Slots.{Slots, programOf, Sound};
+ghost use Rattle.slots.specs.State.{startsIn, formsIn, tableOf};
 ghost use Rattle.slots.specs.Links.{Beside};
-ghost use Rattle.image.specs.Tables.{Tables, tables};
 ghost use Rattle.asm.specs.Assembling.{Placed, Whole};
 ghost use Rattle.attempts.specs.Standing.{Standing};
 ghost use Rattle.anchors.specs.Anchored.{AsRead};
-ghost use Rattle.entries.specs.Optimizing.{rewritten, judgedRun, Assembled, Delivers, Fitted};
+ghost use Rattle.rules.specs.Answers.{Judged};
+ghost use Rattle.rules.specs.Run.{Output};
+ghost use Rattle.output.specs.Stems.{keptTo};
+ghost use Rattle.entries.specs.Optimizing.{rewritten, judgedRun, Full, Delivers, Fitted, Left};
+ghost use Rattle.entries.specs.Stems.{runStems, Stems};
 
 // Rewrites an anchored program to its end form, and writes it, without its comments unless they are asked for.
 fn rewrite_anchored(
-    asked: Settings,
-    marked: bool,
+    wanted: Wanted,
     lines: &[u32; 1024],
     frames: &[u8],
-    starts: &[u16; 1025],
+    state: &mut State,
     count: usize,
-    forms: &mut [u8; 1024],
-    carry: &mut [u16; 1024],
-    owners: &[u16; 1024],
-    offsets: &[u16; 1024],
     links: &[u16; 28672],
     out: &mut [u8],
     image: &mut [u8],
 ) -> Answer
-    requires { let t : Slots = slots (now frames) (now starts) count (now forms) (now carry) (now owners) (now offsets) in
-        ⌜ Standing t × (assembles (programOf t) ≡ true) × Beside (now frames) (now starts) count (now links) ⌝ }
-    ensures { λ r. let t : Slots = slots (now (frames .entry)) (now (starts .entry)) count (now (forms .entry)) (now (carry .entry))
-        (now (owners .entry)) (now (offsets .entry)) in
-        let marks : Lines = besideIn marked (now (lines .entry)) count in
-        ⌜ Fitted count (rewritten asked marks (programOf t)) r (now (out .entry)) (now (image .entry))
-        (now (out .exit)) (now (image .exit)) ⌝ }
+    requires { let t : Slots = tableOf (now frames) (now state) count in
+        ⌜ Standing t × (assembles (programOf t) ≡ true) × Beside (now frames) (startsIn (now state)) count (now links) ⌝ }
+    ensures { λ r. let t : Slots = tableOf (now (frames .entry)) (now (state .entry)) count in
+        let marks : Lines = besideIn (wanted .marked) (now (lines .entry)) count in
+        let o : Output = rewritten (wanted .settings) marks (programOf t) in
+        ⌜ Fitted count (wanted .list) o r (now (out .entry)) (now (image .entry)) (now (out .exit)) (now (image .exit))
+        × (keptTo (formsIn (now (state .exit))) count ≡ o .stems) ⌝ }
 {
-    let rewrites = optimize(
-        asked,
-        frames,
-        starts,
-        count,
-        forms,
-        carry,
-        owners,
-        offsets,
-        links,
-    );
-    show(asked, frames, starts, count, forms);
+    let asked = wanted.settings;
+    let rewrites = optimize(asked, frames, state, count, links);
+    show(asked, frames, state, count);
     judge_end(
-        marked,
+        wanted,
         lines,
         frames,
-        starts,
+        state,
         count,
-        forms,
-        carry,
-        owners,
-        offsets,
         links,
         rewrites,
         out,
@@ -85,175 +74,88 @@ fn rewrite_anchored(
     )
 }
 
-// Anchors the targets of a program that assembles: `bare` and `none` say that no target is an inner label yet.
-fn anchor_judged(
-    asked: Settings,
-    marked: bool,
-    lines: &[u32; 1024],
-    frames: &[u8],
-    starts: &[u16; 1025],
-    count: usize,
-    forms: &mut [u8; 1024],
-    carry: &mut [u16; 1024],
-    bare: &[u16; 1024],
-    none: &[u16; 1024],
-    contexts: &[u16; 1024],
-    links: &[u16; 28672],
-    values: &[i64; 1024],
-    positions: &[u32; 1025],
-    out: &mut [u8],
-    image: &mut [u8],
-) -> Answer
-    requires { let d : Tables = tables (now frames) (now starts) count (now forms) (now carry) (now bare) (now none)
-        (now links) (now values) (now positions) in
-        ⌜ Assembled d × AsRead (d .slots) × (length (now forms) ≡ 1024) × (length (now carry) ≡ 1024)
-        × Placed (d .slots) (now contexts) × Beside (now frames) (now starts) count (now links) ⌝ }
-    ensures { λ r. let t : Slots = slots (now (frames .entry)) (now (starts .entry)) count (now (forms .entry)) (now (carry .entry))
-        (now (bare .entry)) (now (none .entry)) in
-        let marks : Lines = besideIn marked (now (lines .entry)) count in
-        ⌜ Fitted count (rewritten asked marks (rewriting.anchor (programOf t))) r (now (out .entry)) (now (image .entry))
-        (now (out .exit)) (now (image .exit)) ⌝ }
-{
-    let mut owners = [1024u16; 1024];
-    let mut offsets = [0u16; 1024];
-    anchor(
-        frames,
-        starts,
-        count,
-        forms,
-        carry,
-        bare,
-        none,
-        contexts,
-        links,
-        values,
-        positions,
-        &mut owners,
-        &mut offsets,
-    );
-    rewrite_anchored(
-        asked,
-        marked,
-        lines,
-        frames,
-        starts,
-        count,
-        forms,
-        carry,
-        &owners,
-        &offsets,
-        links,
-        out,
-        image,
-    )
-}
-
-// Judges a program as read: what does not assemble is refused before anything else.
+// Judges a program as read: what does not assemble is refused before anything else. Then its targets are anchored, by the state as it was
+// read.
 fn judge_read(
-    asked: Settings,
-    marked: bool,
+    wanted: Wanted,
     lines: &[u32; 1024],
     frames: &[u8],
-    starts: &[u16; 1025],
+    state: &mut State,
     count: usize,
-    forms: &mut [u8; 1024],
-    carry: &mut [u16; 1024],
-    bare: &[u16; 1024],
-    none: &[u16; 1024],
     contexts: &[u16; 1024],
     out: &mut [u8],
     image: &mut [u8],
 ) -> Answer
-    requires { let t : Slots = slots (now frames) (now starts) count (now forms) (now carry) (now bare) (now none) in
-        ⌜ Sound t × AsRead t × (length (now forms) ≡ 1024) × (length (now carry) ≡ 1024)
-        × Any (now frames) (now starts) count (now forms) (λ u. Placed u (now contexts) × Whole u) ⌝ }
-    ensures { λ r. let t : Slots = slots (now (frames .entry)) (now (starts .entry)) count (now (forms .entry)) (now (carry .entry))
-        (now (bare .entry)) (now (none .entry)) in
-        let marks : Lines = besideIn marked (now (lines .entry)) count in
-        ⌜ Delivers (judgedRun asked marks (length (now (out .entry))) (length (now (image .entry))) (programOf t)) r
-        (now (out .entry)) (now (image .entry)) (now (out .exit)) (now (image .exit)) ⌝ }
+    requires { let t : Slots = tableOf (now frames) (now state) count in
+        ⌜ Sound t × AsRead t × Full (now state)
+        × Any (now frames) (startsIn (now state)) count (formsIn (now state)) (λ u. Placed u (now contexts) × Whole u) ⌝ }
+    ensures { λ r. let t : Slots = tableOf (now (frames .entry)) (now (state .entry)) count in
+        let marks : Lines = besideIn (wanted .marked) (now (lines .entry)) count in
+        let x : Judged Output = judgedRun (wanted .settings) marks (length (now (out .entry))) (length (now (image .entry))) (wanted .list)
+        (programOf t) in
+        ⌜ Delivers x r (now (out .entry)) (now (image .entry)) (now (out .exit)) (now (image .exit))
+        × Left x (formsIn (now (state .exit))) count ⌝ }
 {
     let mut links = [0u16; 28672];
     let mut positions = [0u32; 1025];
     let mut values = [0i64; 1024];
     match judge(
         frames,
-        starts,
+        state,
         count,
-        forms,
-        carry,
-        bare,
-        none,
         contexts,
         &mut links,
         &mut positions,
         &mut values,
     ) {
-        Verdict::Refused(r) => Answer::Refused(r),
-        Verdict::Good => anchor_judged(
-            asked,
-            marked,
-            lines,
-            frames,
-            starts,
-            count,
-            forms,
-            carry,
-            bare,
-            none,
-            contexts,
-            &links,
-            &values,
-            &positions,
-            out,
-            image,
-        ),
+        Verdict::Refused(r) => return Answer::Refused(r),
+        Verdict::Good => {}
     }
+    let read = *state;
+    anchor(
+        frames,
+        &read,
+        count,
+        contexts,
+        &links,
+        &values,
+        &positions,
+        state,
+    );
+    rewrite_anchored(wanted, lines, frames, state, count, &links, out, image)
 }
 
 // The contexts are found first: they stay the same to the end, and links are made of them.
 fn place_read(
-    asked: Settings,
-    marked: bool,
+    wanted: Wanted,
     lines: &[u32; 1024],
     frames: &[u8],
-    starts: &[u16; 1025],
+    state: &mut State,
     count: usize,
-    forms: &mut [u8; 1024],
-    carry: &mut [u16; 1024],
-    bare: &[u16; 1024],
-    none: &[u16; 1024],
     out: &mut [u8],
     image: &mut [u8],
 ) -> Answer
-    requires { let t : Slots = slots (now frames) (now starts) count (now forms) (now carry) (now bare) (now none) in
-        ⌜ Sound t × AsRead t × (length (now forms) ≡ 1024) × (length (now carry) ≡ 1024) × Whole t ⌝ }
-    ensures { λ r. let t : Slots = slots (now (frames .entry)) (now (starts .entry)) count (now (forms .entry)) (now (carry .entry))
-        (now (bare .entry)) (now (none .entry)) in
-        let marks : Lines = besideIn marked (now (lines .entry)) count in
-        ⌜ Delivers (judgedRun asked marks (length (now (out .entry))) (length (now (image .entry))) (programOf t)) r
-        (now (out .entry)) (now (image .entry)) (now (out .exit)) (now (image .exit)) ⌝ }
+    requires { let t : Slots = tableOf (now frames) (now state) count in
+        ⌜ Sound t × AsRead t × Full (now state) × Whole t ⌝ }
+    ensures { λ r. let t : Slots = tableOf (now (frames .entry)) (now (state .entry)) count in
+        let marks : Lines = besideIn (wanted .marked) (now (lines .entry)) count in
+        let x : Judged Output = judgedRun (wanted .settings) marks (length (now (out .entry))) (length (now (image .entry))) (wanted .list)
+        (programOf t) in
+        ⌜ Delivers x r (now (out .entry)) (now (image .entry)) (now (out .exit)) (now (image .exit))
+        × Left x (formsIn (now (state .exit))) count ⌝ }
 {
     let mut contexts = [0u16; 1024];
-    fill_contexts(frames, starts, count, forms, &mut contexts);
-    judge_read(
-        asked,
-        marked,
-        lines,
-        frames,
-        starts,
-        count,
-        forms,
-        carry,
-        bare,
-        none,
-        &contexts,
-        out,
-        image,
-    )
+    fill_contexts(frames, state, count, &mut contexts);
+    judge_read(wanted, lines, frames, state, count, &contexts, out, image)
 }
 
-// The slots of a listing as read: no target is an inner label.
+// What is in the lent rooms, and how many statements came out: the list has two bytes for each.
+pub enum Stemmed {
+    Done(Sizes, usize),
+    Refused(Refusal),
+}
+
+// The slots of a listing as read: no target is an inner label. The list is written last, of the slots that are left.
 fn optimize_read(
     asked: Settings,
     marked: bool,
@@ -263,46 +165,70 @@ fn optimize_read(
     count: usize,
     out: &mut [u8],
     image: &mut [u8],
-) -> Answer
+    list: &mut [u8],
+) -> Stemmed
     requires { ⌜ Held (now frames) (now starts) count ⌝ }
     ensures { λ r. let marks : Lines = besideIn marked (now (lines .entry)) count in
         let p : Program = inputOf (now (frames .entry)) (now (starts .entry)) count in
-        ⌜ Delivers (judgedRun asked marks (length (now (out .entry))) (length (now (image .entry))) p) r
-        (now (out .entry)) (now (image .entry)) (now (out .exit)) (now (image .exit)) ⌝ }
+        let x : Judged Output = judgedRun asked marks (length (now (out .entry))) (length (now (image .entry)))
+        (length (now (list .entry))) p in
+        ⌜ Stems x r (now (out .entry)) (now (image .entry)) (now (list .entry))
+        (now (out .exit)) (now (image .exit)) (now (list .exit)) ⌝ }
 {
-    let mut forms = [0u8; 1024];
-    let mut carry = [0u16; 1024];
-    start_forms(frames, starts, count, &mut forms);
-    start_carry(count, &mut carry);
-    let bare = [1024u16; 1024];
-    let none = [0u16; 1024];
-    place_read(
-        asked,
+    let mut state = start_state(frames, starts, count);
+    let wanted = Wanted {
+        settings: asked,
         marked,
-        lines,
-        frames,
-        starts,
-        count,
-        &mut forms,
-        &mut carry,
-        &bare,
-        &none,
-        out,
-        image,
-    )
+        list: list.len(),
+    };
+    match place_read(wanted, lines, frames, &mut state, count, out, image) {
+        Answer::Refused(r) => Stemmed::Refused(r),
+        Answer::Done(sizes) => Stemmed::Done(sizes, write_stems(count, &state, list)),
+    }
 }
 
-// Reads a listing, judges it, rewrites it and writes the new listing and its image. On refusal no lent byte changes.
-pub fn optimize_jumps(asked: Settings, listing: &[u8], out: &mut [u8], image: &mut [u8]) -> Answer
-    ensures { λ r. ⌜ Answered asked (now (listing .entry)) (now (out .entry)) (now (image .entry)) r
-        (now (out .exit)) (now (image .exit)) ⌝ }
+// C-13: reads a listing, judges it, rewrites it and writes the new listing, its image and the list of the places that its statements
+// stem from. On refusal no lent byte changes.
+pub fn optimize_stems(
+    asked: Settings,
+    listing: &[u8],
+    out: &mut [u8],
+    image: &mut [u8],
+    list: &mut [u8],
+) -> Stemmed
+    ensures { λ r. let x : Judged Output = runStems asked (now (listing .entry)) (length (now (out .entry))) (length (now (image .entry)))
+        (length (now (list .entry))) in
+        ⌜ Stems x r (now (out .entry)) (now (image .entry)) (now (list .entry))
+        (now (out .exit)) (now (image .exit)) (now (list .exit)) ⌝ }
 {
     let mut frames = [0u8; 28672];
     let mut starts = [0u16; 1025];
     let mut lines = [0u32; 1024];
     let marked = new_form(listing);
     match read_listing(listing, &mut frames, &mut starts, &mut lines) {
-        Listed::Refused(r) => Answer::Refused(r),
-        Listed::Read(n) => optimize_read(asked, marked, &lines, &frames, &starts, n, out, image),
+        Listed::Refused(r) => Stemmed::Refused(r),
+        Listed::Read(n) => optimize_read(
+            asked,
+            marked,
+            &lines,
+            &frames,
+            &starts,
+            n,
+            out,
+            image,
+            list,
+        ),
+    }
+}
+
+// The same without the list: a room of 2,048 bytes is never too short for it.
+pub fn optimize_jumps(asked: Settings, listing: &[u8], out: &mut [u8], image: &mut [u8]) -> Answer
+    ensures { λ r. ⌜ Answered asked (now (listing .entry)) (now (out .entry)) (now (image .entry)) r
+        (now (out .exit)) (now (image .exit)) ⌝ }
+{
+    let mut list = [0u8; 2048];
+    match optimize_stems(asked, listing, out, image, &mut list) {
+        Stemmed::Refused(r) => Answer::Refused(r),
+        Stemmed::Done(sizes, _) => Answer::Done(sizes),
     }
 }

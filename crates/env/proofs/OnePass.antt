@@ -21,7 +21,7 @@ use Rattle.expression.specs.Environment.{entriesOf}
 use Rattle.listing.specs.Tables.{Held}
 use Rattle.slots.specs.Slots.{Slots, slotAt, programOf}
 use Rattle.slots.specs.Links.{contextsRead, namesNow}
-use Rattle.env.specs.declared.Checked.the-variants.{Refused as Checked·Refused}
+use Rattle.slots.specs.declared.Checked.the-variants.{Refused as Checked·Refused}
 use Rattle.env.specs.declared.Moved.the-variants.{To, Refused as Moved·Refused}
 use Rattle.env.specs.declared.Valued.the-variants.{Is, Refused}
 use Rattle.env.specs.Answers.{checkedAs, movedAs, valuedAs}

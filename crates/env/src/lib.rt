@@ -32,12 +32,6 @@ const LOCAL: u16 = 0x8000;
 // What stands in a table of names where a place has none.
 const NO_NAME: u32 = 65536;
 
-// What a pass over the statements comes to.
-pub enum Checked {
-    Passes,
-    Refused(Refusal),
-}
-
 // The position after a statement.
 enum Moved {
     To(Address),

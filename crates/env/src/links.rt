@@ -3,6 +3,9 @@
 use expression::defines;
 use expression::tag_of;
 use rules::Tag;
+use slots::START;
+use slots::State;
+use slots::wide;
 ghost use mathlib.Core.Path.{_≡_};
 ghost use mathlib.Core.Bool.{true, false};
 ghost use Prim.Native.Nat.{ℕ, suc, _+_, _*_, _<_, _≤_};
@@ -12,6 +15,7 @@ ghost use Rattle.rules.specs.Expressions.{tagOf, nameOf};
 ghost use Rattle.expression.specs.Linked.{Links};
 ghost use Rattle.listing.specs.Tables.{frameAt, Held};
 ghost use Rattle.env.specs.Linking.{OneAtMost, Means, LinkedTo};
+ghost use Rattle.slots.specs.State.{startsIn};
 
 // No place.
 const NONE: u16 = 65535;
@@ -97,30 +101,26 @@ fn link_frame(
     }
 }
 
-fn wide(x: u16) -> usize
-    ensures { λ r. ⌜ r ≡ x ⌝ }
-{
-    x as usize
-}
-
 // Links the bytes of every frame.
 pub fn fill_links(
     frames: &[u8],
-    starts: &[u16; 1025],
+    state: &State,
     count: usize,
     names: &[u32; 1024],
     contexts: &[u16; 1024],
     links: &mut [u16; 28672],
 )
-    requires { ⌜ Held (now frames) (now starts) count × (length (now links) ≡ 28672) × OneAtMost (now names) (now contexts) count ⌝ }
+    requires { ⌜ Held (now frames) (startsIn (now state)) count × (length (now links) ≡ 28672) × OneAtMost (now names)
+        (now contexts) count ⌝ }
     ensures room { λ _. ⌜ length (now (links .exit)) ≡ 28672 ⌝ }
     ensures { λ _. ⌜ ((c : ℕ) → c < count → Links (now (names .entry)) (now (contexts .entry)) count (getD (now (contexts .entry)) c 0)
-        (frameAt (now (frames .entry)) (now (starts .entry)) c) (frameAt (now (links .exit)) (now (starts .entry)) c)) ⌝ }
+        (frameAt (now (frames .entry)) (startsIn (now (state .entry))) c) (frameAt (now (links .exit))
+        (startsIn (now (state .entry))) c)) ⌝ }
 {
     let mut i = 0;
     while i < count {
-        let from = wide(starts[i]);
-        let end = wide(starts[i + 1]);
+        let from = wide(state[START][i]);
+        let end = wide(state[START][i + 1]);
         link_frame(
             frames,
             names,

@@ -5,6 +5,7 @@ use crate::VARIABLE;
 use crate::names::name_at;
 use expression::holds_label;
 use rules::Place;
+use slots::State;
 use slots::frame_at;
 use slots::kind_at;
 ghost use mathlib.Core.Path.{_≡_};
@@ -15,27 +16,27 @@ ghost use Rattle.expression.specs.Environment.{keysOf};
 ghost use Rattle.listing.specs.Tables.{Held};
 ghost use Rattle.slots.specs.Slots.{slotAt, programOf};
 ghost use Rattle.env.specs.Tables.{Any, InContext, MovesAs};
+ghost use Rattle.slots.specs.State.{startsIn, formsIn};
 
 // The name that the statement in a slot defines, if it moves; `moving` has those of the places above.
 fn moving_at(
     frames: &[u8],
-    starts: &[u16; 1025],
+    state: &State,
     count: usize,
-    forms: &[u8; 1024],
     contexts: &[u16; 1024],
     moving: &[u32; 1024],
     at: Place,
 ) -> u32
-    requires { ⌜ Held (now frames) (now starts) count × (at .0 < count) ⌝ }
-    ensures { λ r. ⌜ Any (now (frames .entry)) (now (starts .entry)) count (now (forms .entry))
+    requires { ⌜ Held (now frames) (startsIn (now state)) count × (at .0 < count) ⌝ }
+    ensures { λ r. ⌜ Any (now (frames .entry)) (startsIn (now (state .entry))) count (formsIn (now (state .entry)))
         (λ t. MovesAs (keysOf (now (moving .entry)) (now (contexts .entry)) (at .0)) (getD (now (contexts .entry)) (at .0) 0)
         (slotAt t (at .0)) r) ⌝ }
 {
-    let name = name_at(frames, starts, count, forms, at);
-    if kind_at(frames, starts, count, forms, at) != VARIABLE {
+    let name = name_at(frames, state, count, at);
+    if kind_at(frames, state, count, at) != VARIABLE {
         return name;
     }
-    let frame = frame_at(frames, starts, count, at);
+    let frame = frame_at(frames, state, count, at);
     let i = at.0;
     // "above it": the places below i
     if holds_label(&frame[3..], moving, contexts, i, contexts[i]) {
@@ -47,20 +48,19 @@ fn moving_at(
 // Fills the name that each place defines, if it moves.
 pub fn fill_moving(
     frames: &[u8],
-    starts: &[u16; 1025],
+    state: &State,
     count: usize,
-    forms: &[u8; 1024],
     contexts: &[u16; 1024],
     moving: &mut [u32; 1024],
 )
-    requires { ⌜ Held (now frames) (now starts) count × (length (now moving) ≡ 1024)
-        × Any (now frames) (now starts) count (now forms) (λ t. InContext t (now contexts)) ⌝ }
-    ensures { λ _. ⌜ Any (now (frames .entry)) (now (starts .entry)) count (now (forms .entry))
+    requires { ⌜ Held (now frames) (startsIn (now state)) count × (length (now moving) ≡ 1024)
+        × Any (now frames) (startsIn (now state)) count (formsIn (now state)) (λ t. InContext t (now contexts)) ⌝ }
+    ensures { λ _. ⌜ Any (now (frames .entry)) (startsIn (now (state .entry))) count (formsIn (now (state .entry)))
         (λ t. keysOf (now (moving .exit)) (now (contexts .entry)) count ≡ movingOf (programOf t)) ⌝ }
 {
     let mut i = 0;
     while i < count {
-        moving[i] = moving_at(frames, starts, count, forms, contexts, moving, Place(i));
+        moving[i] = moving_at(frames, state, count, contexts, moving, Place(i));
         i += 1;
     }
 }

@@ -5,6 +5,7 @@ use crate::layout::advance;
 use crate::variables::value_at;
 use rules::Address;
 use rules::Place;
+use slots::State;
 ghost use mathlib.Core.Path.{_≡_};
 ghost use Prim.Native.Nat.{_≤_};
 ghost use lib.ListN.{length, getD};
@@ -12,6 +13,7 @@ ghost use Rattle.listing.specs.Tables.{Held};
 ghost use Rattle.slots.specs.Links.{contextsRead, Beside};
 ghost use Rattle.env.specs.Tables.{Any, InContext};
 ghost use Rattle.env.specs.Settling.{Settled};
+ghost use Rattle.slots.specs.State.{startsIn, formsIn};
 
 // A number of the table of positions, as an address.
 fn address(q: u32) -> Address
@@ -24,43 +26,27 @@ fn address(q: u32) -> Address
 // settle or has no value.
 pub fn settle_all(
     frames: &[u8],
-    starts: &[u16; 1025],
+    state: &State,
     count: usize,
-    forms: &[u8; 1024],
     links: &[u16],
     positions: &mut [u32; 1025],
     values: &mut [i64; 1024],
 ) -> bool
-    requires { ⌜ Held (now frames) (now starts) count × (length (now positions) ≡ 1025) × (length (now values) ≡ 1024)
-        × Beside (now frames) (now starts) count (now links) ⌝ }
-    requires { ⌜ Any (now frames) (now starts) count (now forms) (λ t. InContext t (contextsRead (now frames) (now starts) count)) ⌝ }
-    ensures { λ r. ⌜ Any (now (frames .entry)) (now (starts .entry)) count (now (forms .entry))
+    requires { ⌜ Held (now frames) (startsIn (now state)) count × (length (now positions) ≡ 1025) × (length (now values) ≡ 1024)
+        × Beside (now frames) (startsIn (now state)) count (now links) ⌝ }
+    requires { ⌜ Any (now frames) (startsIn (now state)) count (formsIn (now state)) (λ t. InContext t
+        (contextsRead (now frames) (startsIn (now state)) count)) ⌝ }
+    ensures { λ r. ⌜ Any (now (frames .entry)) (startsIn (now (state .entry))) count (formsIn (now (state .entry)))
         (λ t. Settled t r (now (positions .exit)) (now (values .exit))) ⌝ }
 {
     positions[0] = 0;
     let mut i = 0;
     while i < count {
-        match advance(
-            frames,
-            starts,
-            count,
-            forms,
-            Place(i),
-            address(positions[i]),
-        ) {
+        match advance(frames, state, count, Place(i), address(positions[i])) {
             Moved::To(next) => positions[i + 1] = next.0 as u32,
             Moved::Refused(_) => return false,
         }
-        match value_at(
-            frames,
-            starts,
-            count,
-            forms,
-            links,
-            positions,
-            values,
-            Place(i),
-        ) {
+        match value_at(frames, state, count, links, positions, values, Place(i)) {
             Valued::Is(z) => values[i] = z,
             Valued::Refused(_) => return false,
         }

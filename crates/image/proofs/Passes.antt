@@ -15,7 +15,7 @@ use Rattle.rules.specs.Encoding.{byte, word}
 use Rattle.rules.specs.Judging.{items, encode, encodeAll}
 use Rattle.rules.proofs.Laws.{then-ok}
 use Rattle.slots.specs.Slots.{slotAt, isData}
-use Rattle.image.specs.declared.Checked.the-variants.{Passes, Refused}
+use Rattle.slots.specs.declared.Checked.the-variants.{Passes, Refused}
 use Rattle.image.specs.Tables.{Tables, program}
 use Rattle.image.specs.Encoding.{encodeAt, encodedAs, itemsOf, checkedAs, checkOf, encodeSlots}
 use Rattle.image.proofs.Answers.{bind-ok, bind-no}

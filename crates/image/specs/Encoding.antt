@@ -19,8 +19,8 @@ use Rattle.encoding.specs.Operands.{ranged}
 use Rattle.slots.specs.Slots.{slotAt}
 use Rattle.image.specs.declared.Encoded.{Encoded}
 use Rattle.image.specs.declared.Encoded.the-variants.{Is, Refused}
-use Rattle.image.specs.declared.Checked.{Checked}
-use Rattle.image.specs.declared.Checked.the-variants.{Passes, Refused as Checked·Refused}
+use Rattle.slots.specs.declared.Checked.{Checked}
+use Rattle.slots.specs.declared.Checked.the-variants.{Passes, Refused as Checked·Refused}
 use Rattle.image.specs.Tables.{Tables, program}
 
 -- an argument's value, and then its range: what the instruction at place i, in context k, that ends at n writes for argument j

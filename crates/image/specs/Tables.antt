@@ -15,6 +15,7 @@ use Rattle.rules.specs.Names.{Entry, contextAt}
 use Rattle.rules.specs.Judging.{namesOf}
 use Rattle.listing.specs.Tables.{Held}
 use Rattle.slots.specs.Slots.{Slots, slots, slotAt, programOf, noOwner, WroteTarget, Sound}
+use Rattle.slots.specs.State.{startsIn, formsIn, carryIn, ownersIn, offsetsIn}
 use Rattle.slots.specs.Links.{contextsRead, Says, Together}
 
 pub record Tables : Type 0 where
@@ -30,6 +31,9 @@ abbrev pub tables : (frames starts : List ℕ) (count : ℕ) (forms carry owners
 tables fs ss n f c w o links values positions =
     let t : Slots = slots fs ss n f c w o in
     record { slots = t; entries = namesOf (programOf t); contexts = contextsRead fs ss n; links = links; values = values; positions = positions }
+
+abbrev pub tablesOf : (frames : List ℕ) (state : List (List ℕ)) (count : ℕ) (links : List ℕ) (values : List ℤ) (positions : List ℕ) → Tables
+tablesOf fs s n links values positions = tables fs (startsIn s) n (formsIn s) (carryIn s) (ownersIn s) (offsetsIn s) links values positions
 
 abbrev pub program : Tables → Program
 program d = programOf (d .slots)

@@ -1,9 +1,10 @@
 // The encoding pass: whether each statement encodes, in order, and the first that does not.
-use crate::Checked;
 use crate::Encoded;
 use crate::codes::encode_at;
 use crate::data::check_items;
 use rules::Place;
+use slots::Checked;
+use slots::State;
 use slots::frame_at;
 use slots::is_data;
 use slots::kind_at;
@@ -11,7 +12,7 @@ use slots::links_at;
 ghost use mathlib.Core.Path.{_≡_};
 ghost use Prim.Native.Nat.{_<_};
 ghost use Rattle.rules.specs.Answers.{isOk};
-ghost use Rattle.image.specs.Tables.{Tables, tables, Ready};
+ghost use Rattle.image.specs.Tables.{Tables, tablesOf, Ready};
 ghost use Rattle.image.specs.Encoding.{encodeAt, encodeSlots, checkedAs, checkOf};
 
 // An instruction's answer without its bytes.
@@ -27,43 +28,27 @@ fn check_code(e: Encoded) -> Checked
 // Whether the statement in a slot encodes: an instruction by its operands, data by their items, any other always.
 fn check_at(
     frames: &[u8],
-    starts: &[u16; 1025],
+    state: &State,
     count: usize,
-    forms: &[u8; 1024],
-    carry: &[u16; 1024],
-    owners: &[u16; 1024],
-    offsets: &[u16; 1024],
     links: &[u16; 28672],
     values: &[i64; 1024],
     positions: &[u32; 1025],
     at: Place,
 ) -> Checked
-    requires { let d : Tables = tables (now frames) (now starts) count (now forms) (now carry) (now owners) (now offsets)
+    requires { let d : Tables = tablesOf (now frames) (now state) count
         (now links) (now values) (now positions) in
         ⌜ Ready d × (at .0 < count) ⌝ }
-    ensures { λ r. let d : Tables = tables (now (frames .entry)) (now (starts .entry)) count (now (forms .entry)) (now (carry .entry))
-        (now (owners .entry)) (now (offsets .entry)) (now (links .entry)) (now (values .entry)) (now (positions .entry)) in
+    ensures { λ r. let d : Tables = tablesOf (now (frames .entry)) (now (state .entry)) count (now (links .entry)) (now (values .entry))
+        (now (positions .entry)) in
         ⌜ r ≡ checkedAs (encodeAt d (at .0)) ⌝ }
 {
-    let kind = kind_at(frames, starts, count, forms, at);
+    let kind = kind_at(frames, state, count, at);
     if kind == 1 {
-        return check_code(encode_at(
-            frames,
-            starts,
-            count,
-            forms,
-            carry,
-            owners,
-            offsets,
-            links,
-            values,
-            positions,
-            at,
-        ));
+        return check_code(encode_at(frames, state, count, links, values, positions, at));
     }
     if is_data(kind) {
-        let frame = frame_at(frames, starts, count, at);
-        let beside = links_at(links, starts, at);
+        let frame = frame_at(frames, state, count, at);
+        let beside = links_at(links, state, at);
         return check_items(frame, at, beside, values, count);
     }
     Checked::Passes
@@ -72,37 +57,21 @@ fn check_at(
 // The same as a test: a candidate looks at the statement that it changed first.
 pub fn encodes_at(
     frames: &[u8],
-    starts: &[u16; 1025],
+    state: &State,
     count: usize,
-    forms: &[u8; 1024],
-    carry: &[u16; 1024],
-    owners: &[u16; 1024],
-    offsets: &[u16; 1024],
     links: &[u16; 28672],
     values: &[i64; 1024],
     positions: &[u32; 1025],
     at: Place,
 ) -> bool
-    requires { let d : Tables = tables (now frames) (now starts) count (now forms) (now carry) (now owners) (now offsets)
+    requires { let d : Tables = tablesOf (now frames) (now state) count
         (now links) (now values) (now positions) in
         ⌜ Ready d × (at .0 < count) ⌝ }
-    ensures { λ r. let d : Tables = tables (now (frames .entry)) (now (starts .entry)) count (now (forms .entry)) (now (carry .entry))
-        (now (owners .entry)) (now (offsets .entry)) (now (links .entry)) (now (values .entry)) (now (positions .entry)) in
+    ensures { λ r. let d : Tables = tablesOf (now (frames .entry)) (now (state .entry)) count (now (links .entry)) (now (values .entry))
+        (now (positions .entry)) in
         ⌜ r ≡ isOk (encodeAt d (at .0)) ⌝ }
 {
-    match check_at(
-        frames,
-        starts,
-        count,
-        forms,
-        carry,
-        owners,
-        offsets,
-        links,
-        values,
-        positions,
-        at,
-    ) {
+    match check_at(frames, state, count, links, values, positions, at) {
         Checked::Passes => true,
         Checked::Refused(_) => false,
     }
@@ -111,38 +80,22 @@ pub fn encodes_at(
 // All statements in order: 4 and 7 to 11, the first refusal.
 pub fn encode_all(
     frames: &[u8],
-    starts: &[u16; 1025],
+    state: &State,
     count: usize,
-    forms: &[u8; 1024],
-    carry: &[u16; 1024],
-    owners: &[u16; 1024],
-    offsets: &[u16; 1024],
     links: &[u16; 28672],
     values: &[i64; 1024],
     positions: &[u32; 1025],
 ) -> Checked
-    requires { let d : Tables = tables (now frames) (now starts) count (now forms) (now carry) (now owners) (now offsets)
+    requires { let d : Tables = tablesOf (now frames) (now state) count
         (now links) (now values) (now positions) in
         ⌜ Ready d ⌝ }
-    ensures { λ r. let d : Tables = tables (now (frames .entry)) (now (starts .entry)) count (now (forms .entry)) (now (carry .entry))
-        (now (owners .entry)) (now (offsets .entry)) (now (links .entry)) (now (values .entry)) (now (positions .entry)) in
+    ensures { λ r. let d : Tables = tablesOf (now (frames .entry)) (now (state .entry)) count (now (links .entry)) (now (values .entry))
+        (now (positions .entry)) in
         ⌜ r ≡ checkedAs (encodeSlots d) ⌝ }
 {
     let mut i = 0;
     while i < count {
-        match check_at(
-            frames,
-            starts,
-            count,
-            forms,
-            carry,
-            owners,
-            offsets,
-            links,
-            values,
-            positions,
-            Place(i),
-        ) {
+        match check_at(frames, state, count, links, values, positions, Place(i)) {
             Checked::Passes => {}
             Checked::Refused(r) => {
                 return Checked::Refused(r);

@@ -12,6 +12,8 @@ use rules::Address;
 use rules::Outcome;
 use rules::Place;
 use rules::Refusal;
+use slots::State;
+use slots::form_in;
 ghost use mathlib.Core.Path.{_≡_};
 ghost use Prim.Native.Nat.{_+_, _<_, _≤_};
 ghost use lib.ListN.{length, getD};
@@ -21,8 +23,9 @@ ghost use Rattle.rules.specs.Names.{contextAt};
 ghost use Rattle.encoding.specs.Operands.{fieldAs};
 ghost use Rattle.rules.specs.Programs.{kindOf};
 ghost use Rattle.slots.specs.Slots.{slotAt};
-ghost use Rattle.image.specs.Tables.{Tables, tables, program, operandAt, Ready};
+ghost use Rattle.image.specs.Tables.{Tables, tablesOf, program, operandAt, Ready};
 ghost use Rattle.image.specs.Encoding.{fieldOf, encodeAt, encodedAs};
+ghost use Rattle.slots.specs.State.{formsIn};
 
 // The address after an instruction.
 fn after(position: u32, size: usize) -> Address
@@ -35,12 +38,8 @@ fn after(position: u32, size: usize) -> Address
 // What the instruction in a slot, with n the address after it, writes for its argument j.
 fn field_at(
     frames: &[u8],
-    starts: &[u16; 1025],
+    state: &State,
     count: usize,
-    forms: &[u8; 1024],
-    carry: &[u16; 1024],
-    owners: &[u16; 1024],
-    offsets: &[u16; 1024],
     links: &[u16; 28672],
     values: &[i64; 1024],
     positions: &[u32; 1025],
@@ -48,25 +47,20 @@ fn field_at(
     j: usize,
     n: Address,
 ) -> Field
-    requires { let d : Tables = tables (now frames) (now starts) count (now forms) (now carry) (now owners) (now offsets)
+    requires { let d : Tables = tablesOf (now frames) (now state) count
         (now links) (now values) (now positions) in
         ⌜ Ready d × (at .0 < count) × (kindOf (slotAt (d .slots) (at .0)) ≡ 1) ⌝ }
-    requires { ⌜ (j < length (operandsAt (getD (now forms) (at .0) 0))) × (n .0 ≤ 65536) ⌝ }
-    ensures { λ r. let d : Tables = tables (now (frames .entry)) (now (starts .entry)) count (now (forms .entry)) (now (carry .entry))
-        (now (owners .entry)) (now (offsets .entry)) (now (links .entry)) (now (values .entry)) (now (positions .entry)) in
+    requires { ⌜ (j < length (operandsAt (getD (formsIn (now state)) (at .0) 0))) × (n .0 ≤ 65536) ⌝ }
+    ensures { λ r. let d : Tables = tablesOf (now (frames .entry)) (now (state .entry)) count (now (links .entry)) (now (values .entry))
+        (now (positions .entry)) in
         ⌜ r ≡ fieldAs (fieldOf (d .entries) (program d) (at .0) (contextAt (program d) (at .0)) (n .0) j
-        (getD (operandsAt (getD (now (forms .entry)) (at .0) 0)) j Reg) (operandAt (d .slots) (at .0) j)) ⌝ }
+        (getD (operandsAt (getD (formsIn (now (state .entry))) (at .0) 0)) j Reg) (operandAt (d .slots) (at .0) j)) ⌝ }
 {
-    let i = at.0;
-    match operand_kind(forms[i], j) {
+    match operand_kind(form_in(state, at), j) {
         Operand::Is(kind) => match argument_worth(
             frames,
-            starts,
+            state,
             count,
-            forms,
-            carry,
-            owners,
-            offsets,
             links,
             values,
             positions,
@@ -84,45 +78,27 @@ fn field_at(
 // The bytes of the instruction in a slot, or its first refusal.
 pub fn encode_at(
     frames: &[u8],
-    starts: &[u16; 1025],
+    state: &State,
     count: usize,
-    forms: &[u8; 1024],
-    carry: &[u16; 1024],
-    owners: &[u16; 1024],
-    offsets: &[u16; 1024],
     links: &[u16; 28672],
     values: &[i64; 1024],
     positions: &[u32; 1025],
     at: Place,
 ) -> Encoded
-    requires { let d : Tables = tables (now frames) (now starts) count (now forms) (now carry) (now owners) (now offsets)
+    requires { let d : Tables = tablesOf (now frames) (now state) count
         (now links) (now values) (now positions) in
         ⌜ Ready d × (at .0 < count) × (kindOf (slotAt (d .slots) (at .0)) ≡ 1) ⌝ }
-    ensures { λ r. let d : Tables = tables (now (frames .entry)) (now (starts .entry)) count (now (forms .entry)) (now (carry .entry))
-        (now (owners .entry)) (now (offsets .entry)) (now (links .entry)) (now (values .entry)) (now (positions .entry)) in
+    ensures { λ r. let d : Tables = tablesOf (now (frames .entry)) (now (state .entry)) count (now (links .entry)) (now (values .entry))
+        (now (positions .entry)) in
         ⌜ r ≡ encodedAs (encodeAt d (at .0)) ⌝ }
 {
     let i = at.0;
-    let form = forms[i];
+    let form = form_in(state, at);
     let n = after(positions[i], size(form));
     let mut fields: [u16; 3] = [0; 3];
     let mut j = 0;
     while j < operand_count(form) {
-        match field_at(
-            frames,
-            starts,
-            count,
-            forms,
-            carry,
-            owners,
-            offsets,
-            links,
-            values,
-            positions,
-            at,
-            j,
-            n,
-        ) {
+        match field_at(frames, state, count, links, values, positions, at, j, n) {
             Field::Is(v) => {
                 fields[j] = v;
             }

@@ -1,5 +1,4 @@
 // The items of data, one after the other: each its value, and then its range before the next.
-use crate::Checked;
 use encoding::operands::Field;
 use encoding::operands::byte_item;
 use encoding::operands::word_item;
@@ -7,6 +6,7 @@ use expression::linked_worth;
 use rules::Outcome;
 use rules::Place;
 use rules::Refusal;
+use slots::Checked;
 use slots::item_in;
 use slots::items_in;
 ghost use mathlib.Core.Path.{_≡_};

@@ -21,9 +21,3 @@ pub enum Encoded {
     Is(Code),
     Refused(Refusal),
 }
-
-// A check that only passes or refuses.
-pub enum Checked {
-    Passes,
-    Refused(Refusal),
-}

@@ -5,10 +5,16 @@ use instruction::tables::control_flow_target;
 use instruction::tables::operand_count;
 use rules::Outcome;
 use rules::Place;
+use slots::NO_OWNER;
+use slots::OFFSET;
+use slots::State;
 use slots::argument_in;
+use slots::carry_at;
+use slots::form_in;
 use slots::frame_at;
 use slots::is_register;
 use slots::links_at;
+use slots::owner_at;
 ghost use mathlib.Core.Path.{_≡_};
 ghost use mathlib.Core.List.{List, []};
 ghost use Prim.Native.Nat.{ℕ, _+_, _<_, _≤_};
@@ -20,14 +26,8 @@ ghost use Rattle.expression.specs.Linked.{Linked};
 ghost use Rattle.listing.specs.Tables.{frameAt};
 ghost use Rattle.rules.specs.Programs.{kindOf};
 ghost use Rattle.slots.specs.Slots.{slots, slotAt, targetOf, worthIn, InstrIn};
-ghost use Rattle.image.specs.Tables.{Tables, tables, isTarget, operandIn, operandAt, Aims, Ready};
-
-// A number of a table, as a place.
-fn wide(x: u16) -> usize
-    ensures { λ r. ⌜ r ≡ x ⌝ }
-{
-    x as usize
-}
+ghost use Rattle.image.specs.Tables.{Tables, tablesOf, isTarget, operandIn, operandAt, Aims, Ready};
+ghost use Rattle.slots.specs.State.{startsIn, formsIn, carryIn, ownersIn, offsetsIn};
 
 fn register_worth(register: u8) -> Outcome
     ensures { λ r. ⌜ r ≡ Outcome.Is (pos register) ⌝ }
@@ -68,42 +68,41 @@ pub fn own_worth(
 // The target that was written at place c: an inner label that it became, or the last argument of its frame.
 pub fn target_worth(
     frames: &[u8],
-    starts: &[u16; 1025],
+    state: &State,
     count: usize,
-    owners: &[u16; 1024],
-    offsets: &[u16; 1024],
     links: &[u16; 28672],
     values: &[i64; 1024],
     positions: &[u32; 1025],
     c: Place,
 ) -> Outcome
-    requires { ⌜ Aims (slots (now frames) (now starts) count [] [] (now owners) (now offsets)) (now positions) (c .0)
+    requires { ⌜ Aims (slots (now frames) (startsIn (now state)) count [] [] (ownersIn (now state)) (offsetsIn (now state)))
+        (now positions) (c .0)
         × (length (now links) ≡ 28672) ⌝ }
     ensures { λ r. ⌜ ((names : List Entry) (k : ℕ)
-        → Linked (λ m. lookup names (keyOf k m)) (frameAt (now (frames .entry)) (now (starts .entry)) (c .0))
-        (frameAt (now (links .entry)) (now (starts .entry)) (c .0)) (now (values .entry)) count
+        → Linked (λ m. lookup names (keyOf k m)) (frameAt (now (frames .entry)) (startsIn (now (state .entry))) (c .0))
+        (frameAt (now (links .entry)) (startsIn (now (state .entry))) (c .0)) (now (values .entry)) count
         → (forms carry : List ℕ) → r ≡ worthIn names (now (positions .entry)) k
-        (targetOf (slots (now (frames .entry)) (now (starts .entry)) count forms carry (now (owners .entry)) (now (offsets .entry)))
+        (targetOf (slots (now (frames .entry)) (startsIn (now (state .entry))) count forms carry (ownersIn (now (state .entry)))
+        (offsetsIn (now (state .entry))))
         (c .0))) ⌝ }
 {
     let i = c.0;
-    let owner = wide(owners[i]);
-    if owner < 1024 {
-        return inner_worth(positions[owner], offsets[i]);
+    let owner = owner_at(state, c);
+    if owner < NO_OWNER {
+        return inner_worth(positions[owner], state[OFFSET][i]);
     }
-    let frame = frame_at(frames, starts, count, c);
-    let beside = links_at(links, starts, c);
+    let frame = frame_at(frames, state, count, c);
+    let beside = links_at(links, state, c);
     let last = operand_count(frame[1]) - 1;
     own_worth(frame, c, last, beside, values, count)
 }
 
 // The place whose target stands in a slot.
-fn carried(carry: &[u16; 1024], at: Place) -> Place
+fn carried(state: &State, at: Place) -> Place
     requires { ⌜ at .0 < 1024 ⌝ }
-    ensures { λ r. ⌜ r .0 ≡ getD (now (carry .entry)) (at .0) 0 ⌝ }
+    ensures { λ r. ⌜ r .0 ≡ getD (carryIn (now (state .entry))) (at .0) 0 ⌝ }
 {
-    let i = at.0;
-    Place(wide(carry[i]))
+    Place(carry_at(state, at))
 }
 
 // Argument j of a form is its target.
@@ -119,42 +118,28 @@ fn is_target(form: u8, j: usize) -> bool
 // Argument j of the instruction in a slot. A transfer's last one is the target that the slot carries.
 pub fn argument_worth(
     frames: &[u8],
-    starts: &[u16; 1025],
+    state: &State,
     count: usize,
-    forms: &[u8; 1024],
-    carry: &[u16; 1024],
-    owners: &[u16; 1024],
-    offsets: &[u16; 1024],
     links: &[u16; 28672],
     values: &[i64; 1024],
     positions: &[u32; 1025],
     at: Place,
     j: usize,
 ) -> Outcome
-    requires { let d : Tables = tables (now frames) (now starts) count (now forms) (now carry) (now owners) (now offsets)
+    requires { let d : Tables = tablesOf (now frames) (now state) count
         (now links) (now values) (now positions) in
-        ⌜ Ready d × (at .0 < count) × (kindOf (slotAt (d .slots) (at .0)) ≡ 1) × (j < length (operandsAt (getD (now forms) (at .0) 0))) ⌝ }
-    ensures { λ r. let d : Tables = tables (now (frames .entry)) (now (starts .entry)) count (now (forms .entry)) (now (carry .entry))
-        (now (owners .entry)) (now (offsets .entry)) (now (links .entry)) (now (values .entry)) (now (positions .entry)) in
+        ⌜ Ready d × (at .0 < count) × (kindOf (slotAt (d .slots) (at .0)) ≡ 1) × (j < length
+        (operandsAt (getD (formsIn (now state)) (at .0) 0))) ⌝ }
+    ensures { λ r. let d : Tables = tablesOf (now (frames .entry)) (now (state .entry)) count (now (links .entry)) (now (values .entry))
+        (now (positions .entry)) in
         ⌜ r ≡ worthIn (d .entries) (d .positions) (getD (d .contexts) (at .0) 0) (operandAt (d .slots) (at .0) j) ⌝ }
 {
-    let i = at.0;
-    let form = forms[i];
+    let form = form_in(state, at);
     if is_target(form, j) {
-        let c = carried(carry, at);
-        return target_worth(
-            frames,
-            starts,
-            count,
-            owners,
-            offsets,
-            links,
-            values,
-            positions,
-            c,
-        );
+        let c = carried(state, at);
+        return target_worth(frames, state, count, links, values, positions, c);
     }
-    let frame = frame_at(frames, starts, count, at);
-    let beside = links_at(links, starts, at);
+    let frame = frame_at(frames, state, count, at);
+    let beside = links_at(links, state, at);
     own_worth(frame, at, j, beside, values, count)
 }

@@ -7,6 +7,7 @@ use encoding::operands::Field;
 use rules::Address;
 use rules::Code;
 use rules::Place;
+use slots::State;
 use slots::frame_at;
 use slots::is_data;
 use slots::items_in;
@@ -26,9 +27,10 @@ ghost use Rattle.expression.specs.Linked.{Linked};
 ghost use Rattle.encoding.specs.Encode.{bytesOfCode};
 ghost use Rattle.listing.specs.Tables.{Held};
 ghost use Rattle.slots.specs.Slots.{DataIn};
-ghost use Rattle.image.specs.Tables.{Tables, tables, Ready};
+ghost use Rattle.image.specs.Tables.{Tables, tables, tablesOf, Ready};
 ghost use Rattle.image.specs.Encoding.{encodeAt, encodeSlots, itemsIn, boundOf, writeOf};
 ghost use Rattle.image.specs.Image.{imageOf, put, widthOf, sizeOf};
+ghost use Rattle.slots.specs.State.{startsIn, formsIn};
 
 // A position, as an index of the room.
 fn address(position: u32) -> usize
@@ -38,23 +40,18 @@ fn address(position: u32) -> usize
 }
 
 // The end of the last statement that has bytes; 0 where none has.
-pub fn image_length(
-    frames: &[u8],
-    starts: &[u16; 1025],
-    count: usize,
-    forms: &[u8; 1024],
-    positions: &[u32; 1025],
-) -> usize
-    requires { ⌜ Held (now frames) (now starts) count ⌝ }
+pub fn image_length(frames: &[u8], state: &State, count: usize, positions: &[u32; 1025]) -> usize
+    requires { ⌜ Held (now frames) (startsIn (now state)) count ⌝ }
     ensures { λ r. ⌜ ((carry owners offsets links : List ℕ) (values : List ℤ) →
-        (let d = tables (now (frames .entry)) (now (starts .entry)) count (now (forms .entry)) carry owners offsets links values
+        (let d = tables (now (frames .entry)) (startsIn (now (state .entry))) count (formsIn
+        (now (state .entry))) carry owners offsets links values
         (now (positions .entry)) in Ready d → isOk (encodeSlots d) ≡ true → r ≡ length (imageOf d))) ⌝ }
 {
     let mut i = count;
     while 0 < i {
         i -= 1;
         let q = Address(address(positions[i]));
-        if 0 < size_at(frames, starts, count, forms, Place(i), q) {
+        if 0 < size_at(frames, state, count, Place(i), q) {
             return address(positions[i + 1]);
         }
     }
@@ -154,95 +151,67 @@ fn write_items(
 // The bytes of the statement in a slot, at its position. Zeros, if any, where it is neither an instruction nor data: a pad has them.
 fn write_at(
     frames: &[u8],
-    starts: &[u16; 1025],
+    state: &State,
     count: usize,
-    forms: &[u8; 1024],
-    carry: &[u16; 1024],
-    owners: &[u16; 1024],
-    offsets: &[u16; 1024],
     links: &[u16; 28672],
     values: &[i64; 1024],
     positions: &[u32; 1025],
     at: Place,
     image: &mut [u8],
 )
-    requires { ⌜ (let d = tables (now frames) (now starts) count (now forms) (now carry) (now owners) (now offsets)
+    requires { ⌜ (let d = tablesOf (now frames) (now state) count
         (now links) (now values) (now positions) in
         Ready d × (at .0 < count) × (0 < sizeOf d (at .0) → getD (now positions) (at .0) 0 + sizeOf d (at .0) ≤ length (now image))) ⌝ }
-    ensures { λ r. let d : Tables = tables (now (frames .entry)) (now (starts .entry)) count (now (forms .entry)) (now (carry .entry))
-        (now (owners .entry)) (now (offsets .entry)) (now (links .entry)) (now (values .entry)) (now (positions .entry)) in
+    ensures { λ r. let d : Tables = tablesOf (now (frames .entry)) (now (state .entry)) count (now (links .entry)) (now (values .entry))
+        (now (positions .entry)) in
         ⌜ ((b : List ℕ) → encodeAt d (at .0) ≡ ok b
         → now (image .exit) ≡ put (now (image .entry)) (getD (now (positions .entry)) (at .0) 0) b) ⌝ }
 {
     let i = at.0;
     let q = address(positions[i]);
-    let kind = kind_at(frames, starts, count, forms, at);
+    let kind = kind_at(frames, state, count, at);
     if kind == 1 {
-        let Encoded::Is(code) = encode_at(
-            frames,
-            starts,
-            count,
-            forms,
-            carry,
-            owners,
-            offsets,
-            links,
-            values,
-            positions,
-            at,
-        ) else {
+        let Encoded::Is(code) = encode_at(frames, state, count, links, values, positions, at) else {
             return;
         };
         write_code(image, q, code);
         return;
     }
     if is_data(kind) {
-        let frame = frame_at(frames, starts, count, at);
-        let beside = links_at(links, starts, at);
+        let frame = frame_at(frames, state, count, at);
+        let beside = links_at(links, state, at);
         write_items(frame, at, beside, values, count, q, image);
         return;
     }
-    let n = size_at(frames, starts, count, forms, at, Address(q));
+    let n = size_at(frames, state, count, at, Address(q));
     clear(image, q, n);
 }
 
 // The image of slots that encode, in a room that holds it. From the last statement to the first: what follows is always in place.
 pub fn write_image(
     frames: &[u8],
-    starts: &[u16; 1025],
+    state: &State,
     count: usize,
-    forms: &[u8; 1024],
-    carry: &[u16; 1024],
-    owners: &[u16; 1024],
-    offsets: &[u16; 1024],
     links: &[u16; 28672],
     values: &[i64; 1024],
     positions: &[u32; 1025],
     image: &mut [u8],
 )
-    requires { let d : Tables = tables (now frames) (now starts) count (now forms) (now carry) (now owners) (now offsets)
+    requires { let d : Tables = tablesOf (now frames) (now state) count
         (now links) (now values) (now positions) in
         ⌜ Ready d × (isOk (encodeSlots d) ≡ true) × (length (imageOf d) ≤ length (now image)) ⌝ }
-    ensures { λ r. let d : Tables = tables (now (frames .entry)) (now (starts .entry)) count (now (forms .entry)) (now (carry .entry))
-        (now (owners .entry)) (now (offsets .entry)) (now (links .entry)) (now (values .entry)) (now (positions .entry)) in
+    ensures { λ r. let d : Tables = tablesOf (now (frames .entry)) (now (state .entry)) count (now (links .entry)) (now (values .entry))
+        (now (positions .entry)) in
         ⌜ (let bytes = imageOf d in now (image .exit) ≡ bytes ++ drop (length bytes) (now (image .entry))) ⌝ }
 {
-    clear(
-        image,
-        0,
-        image_length(frames, starts, count, forms, positions),
-    );
+    clear(image, 0, image_length(frames, state, count, positions));
     let mut i = count;
     while 0 < i {
         i -= 1;
         write_at(
             frames,
-            starts,
+            state,
             count,
-            forms,
-            carry,
-            owners,
-            offsets,
             links,
             values,
             positions,

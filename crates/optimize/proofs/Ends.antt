@@ -95,8 +95,8 @@ module _ {asked : Settings} (t₀ t u : Slots) (r : ℕ) {s : Bool} (h : Led ask
       let rewritten : step asked p ≡ some q = said-some (step asked p) p (sym (d .says) ∙ e) ∙ ap some (sym (d .leaves)) in
       record { less = step-shorter asked p q rewritten; led = led-more asked (programOf t₀) p q r h rewritten }
 
-  pub stopped : Standing t₀ → s ≡ false → Optimized asked t₀ u r
-  stopped start e =
+  pub stopped : Standing t₀ → s ≡ false → t .starts ≡ t₀ .starts → Optimized asked t₀ u r
+  stopped start e k =
       let p = programOf t in
       let stays = tried-missed (step asked p) d e in
       let same : programOf u ≡ p = d .leaves ∙ left stays in
@@ -105,6 +105,7 @@ module _ {asked : Settings} (t₀ t u : Slots) (r : ℕ) {s : Bool} (h : Led ask
             (h .goes fuel l ∙ ap (ahead r) (chain-end asked (fuel - r) p stays)
             ∙ ap₂ (λ (q : Program) (n : ℕ). record { program = q; count = n }) (sym same) (omega arith));
         stands = d .stands;
+        starts-kept = d .starts-kept ∙ k;
         good = ap assembles same ∙ h .good;
         few = omega (arith, h .few);
         bounded = omega (arith, h .few, few-bytes t₀ start);

@@ -10,8 +10,8 @@ use Rattle.rules.specs.Answers.{Judged, ok, no, isOk}
 use Rattle.rules.specs.Judging.{judge, assembles}
 use Rattle.slots.specs.Slots.{Slots, slots, programOf}
 use Rattle.slots.specs.Links.{contextsRead}
-use Rattle.env.specs.declared.Checked.{Checked}
-use Rattle.env.specs.declared.Checked.the-variants.{Refused}
+use Rattle.slots.specs.declared.Checked.{Checked}
+use Rattle.slots.specs.declared.Checked.the-variants.{Refused}
 use Rattle.env.specs.Tables.{Any}
 use Rattle.asm.specs.Assembling.{InPlace, Prepared}
 use Rattle.asm.specs.declared.Verdict.the-variants.{Refused as Bad}

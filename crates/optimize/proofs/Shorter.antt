@@ -7,12 +7,12 @@ use mathlib.Core.Bool.{true, false}
 use Prim.Native.Nat.{ℕ, _<_}
 use native.Mathlib.Omega.{arith}
 use lib.Dec.{eqb}
-use lib.ListN.{getD, set}
+use lib.ListN.{getD, set, length}
 use borrow.Author.Tests.{ne-eqb, eqb-true}
 use Rattle.laws.specs.Lists.{isOneOf}
 use Rattle.laws.proofs.Tests.{or-true, false-true}
 use Rattle.laws.specs.Options.{orElse, given, firstOf, bind}
-use Rattle.rules.specs.Forms.{formAt, isTransfer, jmp, jmpf, br, call, callf}
+use Rattle.rules.specs.Forms.{formAt, isTransfer, operandsAt, jmp, jmpf, br, call, callf}
 use Rattle.rules.specs.Programs.{Placeℕ, Stmt, gone, instr, label, variable, comment, org, bytes, words, pad, onInstr, asInstr, argsOf, Program, at, kindOf}
 use Rattle.rules.specs.declared.Settings.{Settings}
 use Rattle.rules.specs.Names.{Entry}
@@ -35,6 +35,22 @@ jmp-fits = record { known = omega arith; registers = refl; transfer = refl }
 call-fits : Agree call callf
 unfolding isTransfer formAt
 call-fits = record { known = omega arith; registers = refl; transfer = refl }
+
+-- each is a transfer whose only operand is its target
+abbrev pub Alone : ℕ → Type 0
+Alone f = (isTransfer f ≡ true) × (length (operandsAt f) ≡ 1)
+
+pub br-alone : Alone br
+unfolding isTransfer formAt
+br-alone = (refl, refl)
+
+pub jmp-alone : Alone jmp
+unfolding isTransfer formAt
+jmp-alone = (refl, refl)
+
+pub call-alone : Alone call
+unfolding isTransfer formAt
+call-alone = (refl, refl)
 
 -- "tries Br, then Jmp": either may stand there, so that their order is told by the answer alone
 pub jump-for : (g f : ℕ) → isOneOf (br ∷ jmp ∷ []) g ≡ true → f ≡ jmpf → Agree g f

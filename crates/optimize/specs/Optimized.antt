@@ -12,6 +12,7 @@ use Rattle.attempts.specs.Standing.{Standing}
 pub record Optimized (asked : Settings) (before after : Slots) (r : ℕ) : Type 0 where
   pub chain-is : (fuel : ℕ) → total instrBytes (programOf before) ≤ fuel → chain asked fuel (programOf before) ≡ record { program = programOf after; count = r }
   pub stands : Standing after
+  pub starts-kept : after .starts ≡ before .starts
   pub good : assembles (programOf after) ≡ true
   pub few : r ≤ total instrBytes (programOf before)
   -- at most three bytes an instruction, and at most 1,024 of them

@@ -4,3 +4,4 @@ mod scanning; // the first fold
 mod shrinking; // the first shrink
 
 pub use rewriting::optimize;
+pub use rewriting::rewrite;

@@ -3,7 +3,6 @@ use anchors::is_change_jump;
 use asm::lay_and_define;
 use attempts::fill_deepest;
 use attempts::try_form;
-use env::Checked;
 use instruction::tables::BR;
 use instruction::tables::CALL;
 use instruction::tables::CALLF;
@@ -11,6 +10,9 @@ use instruction::tables::JMP;
 use instruction::tables::JMPF;
 use rules::Place;
 use rules::Settings;
+use slots::Checked;
+use slots::State;
+use slots::form_in;
 use slots::kind_at;
 ghost use mathlib.Core.Path.{_≡_};
 ghost use mathlib.Core.Bool.{true};
@@ -21,162 +23,95 @@ ghost use Rattle.rules.specs.Forms.{jmpf, br, jmp};
 ghost use Rattle.rules.specs.Judging.{namesOf, assembles};
 ghost use Rattle.rules.specs.Rewriting.{shrinkAt, anywhere};
 ghost use Rattle.rules.specs.Programs.{kindOf};
-ghost use Rattle.slots.specs.Slots.{Slots, slots, slotAt, programOf};
+ghost use Rattle.slots.specs.Slots.{Slots, slotAt, programOf, Positioned};
 ghost use Rattle.slots.specs.Links.{Beside};
-ghost use Rattle.image.specs.Tables.{Tables, tables, Ready};
+ghost use Rattle.image.specs.Tables.{Tables, tablesOf, Ready};
 ghost use Rattle.attempts.specs.Standing.{Standing, Tried};
 ghost use Rattle.attempts.specs.Deepest.{Deepest};
 ghost use Rattle.attempts.specs.Shrinks.{shrunk};
+ghost use Rattle.slots.specs.State.{startsIn, formsIn, carryIn, ownersIn, offsetsIn, tableOf};
 
 // "tries Br, then Jmp"
 fn try_br_then_jmp(
     frames: &[u8],
-    starts: &[u16; 1025],
+    state: &mut State,
     count: usize,
-    forms: &mut [u8; 1024],
-    carry: &[u16; 1024],
-    owners: &[u16; 1024],
-    offsets: &[u16; 1024],
     links: &[u16; 28672],
+    positions: &[u32; 1025],
     deepest: &[u32; 1024],
     at: Place,
 ) -> bool
-    requires { let t : Slots = slots (now frames) (now starts) count (now forms) (now carry) (now owners) (now offsets) in
-        ⌜ Standing t × Deepest t (now deepest) × (at .0 < count) × (kindOf (slotAt t (at .0)) ≡ 1) × (getD (now forms) (at .0) 0 ≡ jmpf)
-        × Beside (now frames) (now starts) count (now links) ⌝ }
-    ensures { λ r. let t : Slots = slots (now (frames .entry)) (now (starts .entry)) count (now (forms .entry)) (now (carry .entry))
-        (now (owners .entry)) (now (offsets .entry)) in
-        let u : Slots = slots (now (frames .entry)) (now (starts .entry)) count (now (forms .exit)) (now (carry .entry))
-        (now (owners .entry)) (now (offsets .entry)) in
+    requires { let t : Slots = tableOf (now frames) (now state) count in
+        ⌜ Standing t × Deepest t (now deepest) × (at .0 < count) × (kindOf (slotAt t (at .0)) ≡ 1) × (getD (formsIn (now state))
+        (at .0) 0 ≡ jmpf)
+        × Beside (now frames) (startsIn (now state)) count (now links) × Positioned t (now positions) ⌝ }
+    ensures { λ r. let t : Slots = tableOf (now (frames .entry)) (now (state .entry)) count in
+        let u : Slots = tableOf (now (frames .entry)) (now (state .exit)) count in
         ⌜ Tried (orElse (shrunk t (at .0) br) (shrunk t (at .0) jmp)) t u r ⌝ }
 {
-    if try_form(
-        frames,
-        starts,
-        count,
-        forms,
-        carry,
-        owners,
-        offsets,
-        links,
-        deepest,
-        BR,
-        at,
-    ) {
+    if try_form(frames, state, count, links, positions, deepest, BR, at) {
         return true;
     }
-    try_form(
-        frames,
-        starts,
-        count,
-        forms,
-        carry,
-        owners,
-        offsets,
-        links,
-        deepest,
-        JMP,
-        at,
-    )
+    try_form(frames, state, count, links, positions, deepest, JMP, at)
 }
 
 // "Jmpf not a change jump"
 fn shrink_jump(
     asked: Settings,
     frames: &[u8],
-    starts: &[u16; 1025],
+    state: &mut State,
     count: usize,
-    forms: &mut [u8; 1024],
-    carry: &[u16; 1024],
-    owners: &[u16; 1024],
-    offsets: &[u16; 1024],
     links: &[u16; 28672],
     values: &[i64; 1024],
     positions: &[u32; 1025],
     deepest: &[u32; 1024],
     at: Place,
 ) -> bool
-    requires { let d : Tables = tables (now frames) (now starts) count (now forms) (now carry) (now owners) (now offsets)
+    requires { let d : Tables = tablesOf (now frames) (now state) count
         (now links) (now values) (now positions) in
         ⌜ Standing (d .slots) × Deepest (d .slots) (now deepest) × Ready d
-        × Beside (now frames) (now starts) count (now links) × (at .0 < count) × (kindOf (slotAt (d .slots) (at .0)) ≡ 1)
-        × (getD (now forms) (at .0) 0 ≡ jmpf) ⌝ }
-    ensures { λ r. let t : Slots = slots (now (frames .entry)) (now (starts .entry)) count (now (forms .entry)) (now (carry .entry))
-        (now (owners .entry)) (now (offsets .entry)) in
-        let u : Slots = slots (now (frames .entry)) (now (starts .entry)) count (now (forms .exit)) (now (carry .entry))
-        (now (owners .entry)) (now (offsets .entry)) in
+        × Beside (now frames) (startsIn (now state)) count (now links) × (at .0 < count) × (kindOf (slotAt (d .slots) (at .0)) ≡ 1)
+        × (getD (formsIn (now state)) (at .0) 0 ≡ jmpf) ⌝ }
+    ensures { λ r. let t : Slots = tableOf (now (frames .entry)) (now (state .entry)) count in
+        let u : Slots = tableOf (now (frames .entry)) (now (state .exit)) count in
         ⌜ Tried (shrinkAt asked (namesOf (programOf t)) (programOf t) (at .0)) t u r ⌝ }
 {
-    if is_change_jump(
-        frames,
-        starts,
-        count,
-        forms,
-        carry,
-        owners,
-        offsets,
-        links,
-        values,
-        positions,
-        at,
-    ) {
+    if is_change_jump(frames, state, count, links, values, positions, at) {
         return false;
     }
-    try_br_then_jmp(
-        frames,
-        starts,
-        count,
-        forms,
-        carry,
-        owners,
-        offsets,
-        links,
-        deepest,
-        at,
-    )
+    try_br_then_jmp(frames, state, count, links, positions, deepest, at)
 }
 
 // The shorter forms of the instruction at a place.
 fn shrink_at(
     asked: Settings,
     frames: &[u8],
-    starts: &[u16; 1025],
+    state: &mut State,
     count: usize,
-    forms: &mut [u8; 1024],
-    carry: &[u16; 1024],
-    owners: &[u16; 1024],
-    offsets: &[u16; 1024],
     links: &[u16; 28672],
     values: &[i64; 1024],
     positions: &[u32; 1025],
     deepest: &[u32; 1024],
     at: Place,
 ) -> bool
-    requires { let d : Tables = tables (now frames) (now starts) count (now forms) (now carry) (now owners) (now offsets)
+    requires { let d : Tables = tablesOf (now frames) (now state) count
         (now links) (now values) (now positions) in
         ⌜ Standing (d .slots) × Deepest (d .slots) (now deepest) × Ready d
-        × Beside (now frames) (now starts) count (now links) × (at .0 < count) ⌝ }
-    ensures { λ r. let t : Slots = slots (now (frames .entry)) (now (starts .entry)) count (now (forms .entry)) (now (carry .entry))
-        (now (owners .entry)) (now (offsets .entry)) in
-        let u : Slots = slots (now (frames .entry)) (now (starts .entry)) count (now (forms .exit)) (now (carry .entry))
-        (now (owners .entry)) (now (offsets .entry)) in
+        × Beside (now frames) (startsIn (now state)) count (now links) × (at .0 < count) ⌝ }
+    ensures { λ r. let t : Slots = tableOf (now (frames .entry)) (now (state .entry)) count in
+        let u : Slots = tableOf (now (frames .entry)) (now (state .exit)) count in
         ⌜ Tried (shrinkAt asked (namesOf (programOf t)) (programOf t) (at .0)) t u r ⌝ }
 {
-    if kind_at(frames, starts, count, forms, at) != 1 {
+    if kind_at(frames, state, count, at) != 1 {
         return false;
     }
-    let i = at.0;
-    let form = forms[i];
+    let form = form_in(state, at);
     if form == JMPF {
         return shrink_jump(
             asked,
             frames,
-            starts,
+            state,
             count,
-            forms,
-            carry,
-            owners,
-            offsets,
             links,
             values,
             positions,
@@ -188,19 +123,7 @@ fn shrink_at(
         if !asked.callf {
             return false;
         }
-        return try_form(
-            frames,
-            starts,
-            count,
-            forms,
-            carry,
-            owners,
-            offsets,
-            links,
-            deepest,
-            CALL,
-            at,
-        );
+        return try_form(frames, state, count, links, positions, deepest, CALL, at);
     }
     false
 }
@@ -209,24 +132,19 @@ fn shrink_at(
 fn shrink_first(
     asked: Settings,
     frames: &[u8],
-    starts: &[u16; 1025],
+    state: &mut State,
     count: usize,
-    forms: &mut [u8; 1024],
-    carry: &[u16; 1024],
-    owners: &[u16; 1024],
-    offsets: &[u16; 1024],
     links: &[u16; 28672],
     values: &[i64; 1024],
     positions: &[u32; 1025],
     deepest: &[u32; 1024],
 ) -> bool
-    requires { let d : Tables = tables (now frames) (now starts) count (now forms) (now carry) (now owners) (now offsets)
+    requires { let d : Tables = tablesOf (now frames) (now state) count
         (now links) (now values) (now positions) in
-        ⌜ Standing (d .slots) × Deepest (d .slots) (now deepest) × Ready d × Beside (now frames) (now starts) count (now links) ⌝ }
-    ensures { λ r. let t : Slots = slots (now (frames .entry)) (now (starts .entry)) count (now (forms .entry)) (now (carry .entry))
-        (now (owners .entry)) (now (offsets .entry)) in
-        let u : Slots = slots (now (frames .entry)) (now (starts .entry)) count (now (forms .exit)) (now (carry .entry))
-        (now (owners .entry)) (now (offsets .entry)) in
+        ⌜ Standing (d .slots) × Deepest (d .slots) (now deepest) × Ready d × Beside (now frames) (startsIn (now state)) count
+        (now links) ⌝ }
+    ensures { λ r. let t : Slots = tableOf (now (frames .entry)) (now (state .entry)) count in
+        let u : Slots = tableOf (now (frames .entry)) (now (state .exit)) count in
         ⌜ Tried (anywhere (shrinkAt asked (namesOf (programOf t)) (programOf t)) (programOf t)) t u r ⌝ }
 {
     let mut i = 0;
@@ -234,12 +152,8 @@ fn shrink_first(
         if shrink_at(
             asked,
             frames,
-            starts,
+            state,
             count,
-            forms,
-            carry,
-            owners,
-            offsets,
             links,
             values,
             positions,
@@ -257,54 +171,27 @@ fn shrink_first(
 pub fn shrink(
     asked: Settings,
     frames: &[u8],
-    starts: &[u16; 1025],
+    state: &mut State,
     count: usize,
-    forms: &mut [u8; 1024],
-    carry: &[u16; 1024],
-    owners: &[u16; 1024],
-    offsets: &[u16; 1024],
     links: &[u16; 28672],
 ) -> bool
-    requires { let t : Slots = slots (now frames) (now starts) count (now forms) (now carry) (now owners) (now offsets) in
-        ⌜ Standing t × (assembles (programOf t) ≡ true) × Beside (now frames) (now starts) count (now links) ⌝ }
-    ensures { λ r. let t : Slots = slots (now (frames .entry)) (now (starts .entry)) count (now (forms .entry)) (now (carry .entry))
-        (now (owners .entry)) (now (offsets .entry)) in
-        let u : Slots = slots (now (frames .entry)) (now (starts .entry)) count (now (forms .exit)) (now (carry .entry))
-        (now (owners .entry)) (now (offsets .entry)) in
+    requires { let t : Slots = tableOf (now frames) (now state) count in
+        ⌜ Standing t × (assembles (programOf t) ≡ true) × Beside (now frames) (startsIn (now state)) count (now links) ⌝ }
+    ensures { λ r. let t : Slots = tableOf (now (frames .entry)) (now (state .entry)) count in
+        let u : Slots = tableOf (now (frames .entry)) (now (state .exit)) count in
         ⌜ Tried (anywhere (shrinkAt asked (namesOf (programOf t)) (programOf t)) (programOf t)) t u r ⌝ }
 {
     let mut positions = [0u32; 1025];
     let mut values = [0i64; 1024];
     let mut deepest = [0u32; 1024];
-    fill_deepest(
-        frames,
-        starts,
-        count,
-        forms,
-        carry,
-        owners,
-        offsets,
-        &mut deepest,
-    );
-    match lay_and_define(
-        frames,
-        starts,
-        count,
-        forms,
-        links,
-        &mut positions,
-        &mut values,
-    ) {
+    fill_deepest(frames, state, count, &mut deepest);
+    match lay_and_define(frames, state, count, links, &mut positions, &mut values) {
         Checked::Refused(_) => false,
         Checked::Passes => shrink_first(
             asked,
             frames,
-            starts,
+            state,
             count,
-            forms,
-            carry,
-            owners,
-            offsets,
             links,
             &values,
             &positions,

@@ -3,5 +3,6 @@ pub mod Frames
 pub mod Targets
 pub mod Slots
 pub mod Listings
+pub mod Left
 pub mod Shows
 pub mod Sizes

@@ -21,7 +21,7 @@ use Rattle.slots.specs.Slots.{Slots, noOwner, written, slotAt, programOf, Instr
 use Rattle.slots.proofs.Slots.{kind-read, written-frame}
 use Rattle.slots.proofs.Tables.{bounds, length-frame, frame-is}
 use Rattle.output.specs.Lines.{lineIn, bytesIn, ownEnd, ownBytes, targetBytes, carriedBytes, bytesAt, InstrAt, Drawn}
-use Rattle.output.proofs.Rooms.{length-line}
+use Rattle.digits.proofs.Rooms.{length-line}
 use Rattle.output.proofs.Slots.{line-kept, kind-kept-first}
 use Rattle.output.proofs.Targets.{end-within}
 

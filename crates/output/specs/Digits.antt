@@ -1,17 +1,9 @@
--- Bytes as digit pairs, and a piece stored in a room.
+-- Bytes stored in a room as digits, one piece behind the other.
 use mathlib.Core.Path.{_≡_}
-use mathlib.Core.List.{List, _++_}
+use mathlib.Core.List.{List}
 use Prim.Native.Nat.{ℕ, _+_, _*_}
-use lib.ListN.{length, take, drop}
-use Rattle.laws.specs.Lists.{each}
-use Rattle.rules.specs.Output.{hexByte}
-
-abbrev pub hexOf : List ℕ → List ℕ
-hexOf s = each (λ b. hexByte b) s
-
--- the room d with x stored from place a on
-unfoldable pub laid : (d : List ℕ) (a : ℕ) (x : List ℕ) → List ℕ
-laid d a x = take a d ++ (x ++ drop (a + length x) d)
+use lib.ListN.{length}
+use Rattle.digits.specs.Digits.{hexOf, laid}
 
 -- `after` is `room` with the digits of these bytes stored from `at` on; they end at `end`
 pub record Put (room : List ℕ) (at : ℕ) (bytes after : List ℕ) (end : ℕ) : Type 0 where

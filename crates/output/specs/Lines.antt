@@ -16,7 +16,7 @@ use Rattle.rules.specs.Output.{plainTarget, writeBack, compact, stems, lineOf, 
 use Rattle.rules.specs.Statements.{argumentAt}
 use Rattle.listing.specs.Form.{formOf}
 use Rattle.listing.specs.Tables.{frameAt, Held}
-use Rattle.output.specs.Digits.{hexOf, laid}
+use Rattle.digits.specs.Digits.{hexOf, laid}
 use Rattle.slots.specs.Slots.{Slots, slots, noOwner, slotAt, programOf, InstrIn, Sound}
 
 -- ---- the definition, slot by slot

@@ -1,6 +1,6 @@
 // The last line: how many rewrites and how long an image, or what was refused.
-use crate::digits::low_byte;
-use crate::digits::put_bytes;
+use crate::low_byte;
+use digits::put_bytes;
 ghost use mathlib.Core.Path.{_≡_};
 ghost use Prim.Native.Nat.{_*_, _<_, _≤_};
 ghost use lib.ListN.{length};

@@ -3,9 +3,15 @@ use instruction::tables::is_transfer;
 use instruction::tables::operand_count;
 use listing::line_bytes;
 use rules::Place;
+use slots::CARRY;
+use slots::NO_OWNER;
+use slots::State;
 use slots::argument_in;
+use slots::form_in;
 use slots::frame_at;
 use slots::kind_at;
+use slots::owner_at;
+use slots::wide;
 ghost use mathlib.Core.Path.{_≡_};
 ghost use Prim.Native.Nat.{_<_, _≤_};
 ghost use lib.ListN.{length};
@@ -14,15 +20,7 @@ ghost use Rattle.listing.specs.Form.{formOf};
 ghost use Rattle.listing.specs.Tables.{Held};
 ghost use Rattle.slots.specs.Slots.{InstrIn};
 ghost use Rattle.output.specs.Lines.{ownEnd, InstrAt, Drawn, SoundWithout, TargetHas, InstrHas, LineHas, TextHas};
-
-// An owner from here on is none.
-pub const NO_OWNER: u16 = 1024;
-
-pub fn wide(x: u16) -> usize
-    ensures { λ r. ⌜ r ≡ x ⌝ }
-{
-    x as usize
-}
+ghost use Rattle.slots.specs.State.{startsIn, formsIn, carryIn, ownersIn};
 
 // Where the target of an instruction begins in its frame; the frame's end where it has none. `at` is the frame's place.
 pub fn own_end(frame: &[u8], at: Place) -> usize
@@ -38,73 +36,52 @@ pub fn own_end(frame: &[u8], at: Place) -> usize
 }
 
 // How many bytes the target that a place wrote has; as a plain number it has five.
-fn target_length(
-    frames: &[u8],
-    starts: &[u16; 1025],
-    count: usize,
-    owners: &[u16; 1024],
-    from: Place,
-) -> usize
-    requires { ⌜ Held (now frames) (now starts) count × InstrAt (now frames) (now starts) count (from .0) ⌝ }
-    ensures { λ r. ⌜ (r ≤ 28672) × TargetHas (now (frames .entry)) (now (starts .entry)) (now (owners .entry)) (from .0) r ⌝ }
+fn target_length(frames: &[u8], state: &State, count: usize, from: Place) -> usize
+    requires { ⌜ Held (now frames) (startsIn (now state)) count × InstrAt (now frames) (startsIn (now state)) count (from .0) ⌝ }
+    ensures { λ r. ⌜ (r ≤ 28672) × TargetHas (now (frames .entry)) (startsIn (now (state .entry))) (ownersIn (now (state .entry)))
+        (from .0) r ⌝ }
 {
-    let c = from.0;
-    if owners[c] < NO_OWNER {
+    if owner_at(state, from) < NO_OWNER {
         return 5;
     }
-    let frame = frame_at(frames, starts, count, from);
+    let frame = frame_at(frames, state, count, from);
     frame.len() - own_end(frame, from)
 }
 
 // How many bytes an instruction has: its own, and the target that it carries.
-fn instruction_length(
-    frames: &[u8],
-    starts: &[u16; 1025],
-    count: usize,
-    forms: &[u8; 1024],
-    carry: &[u16; 1024],
-    owners: &[u16; 1024],
-    at: Place,
-) -> usize
-    requires { ⌜ Drawn (now frames) (now starts) count (now forms) (now carry) (at .0) ⌝ }
-    ensures { λ r. ⌜ (r ≤ 57344) × InstrHas (now (frames .entry)) (now (starts .entry)) count (now (forms .entry))
-        (now (carry .entry)) (now (owners .entry)) (at .0) r ⌝ }
+fn instruction_length(frames: &[u8], state: &State, count: usize, at: Place) -> usize
+    requires { ⌜ Drawn (now frames) (startsIn (now state)) count (formsIn (now state)) (carryIn (now state)) (at .0) ⌝ }
+    ensures { λ r. ⌜ (r ≤ 57344) × InstrHas (now (frames .entry)) (startsIn (now (state .entry))) count (formsIn (now (state .entry)))
+        (carryIn (now (state .entry))) (ownersIn (now (state .entry))) (at .0) r ⌝ }
 {
     let i = at.0;
-    let frame = frame_at(frames, starts, count, at);
+    let frame = frame_at(frames, state, count, at);
     let own = own_end(frame, at);
-    if is_transfer(forms[i]) {
-        let c = wide(carry[i]);
-        own + target_length(frames, starts, count, owners, Place(c))
+    if is_transfer(form_in(state, at)) {
+        let c = wide(state[CARRY][i]);
+        own + target_length(frames, state, count, Place(c))
     } else {
         own
     }
 }
 
 // How many characters the line of a slot has, with its line feed; 0 where the slot is gone.
-pub fn line_length_at(
-    marked: bool,
-    frames: &[u8],
-    starts: &[u16; 1025],
-    count: usize,
-    forms: &[u8; 1024],
-    carry: &[u16; 1024],
-    owners: &[u16; 1024],
-    at: Place,
-) -> usize
-    requires { ⌜ SoundWithout (now frames) (now starts) count (now forms) (now carry) (now owners) × (at .0 < count) ⌝ }
-    ensures { λ r. ⌜ (r ≤ 114697) × LineHas (formOf marked) (now (frames .entry)) (now (starts .entry)) count (now (forms .entry))
-        (now (carry .entry)) (now (owners .entry)) (at .0) r ⌝ }
+pub fn line_length_at(marked: bool, frames: &[u8], state: &State, count: usize, at: Place) -> usize
+    requires { ⌜ SoundWithout (now frames) (startsIn (now state)) count (formsIn (now state)) (carryIn (now state)) (ownersIn
+        (now state)) × (at .0 < count) ⌝ }
+    ensures { λ r. ⌜ (r ≤ 114697) × LineHas (formOf marked) (now (frames .entry)) (startsIn (now (state .entry))) count (formsIn
+        (now (state .entry)))
+        (carryIn (now (state .entry))) (ownersIn (now (state .entry))) (at .0) r ⌝ }
 {
-    let kind = kind_at(frames, starts, count, forms, at);
+    let kind = kind_at(frames, state, count, at);
     if kind == 0 {
         return 0;
     }
     let b = line_bytes(marked);
     if kind == 1 {
-        return 2 * (instruction_length(frames, starts, count, forms, carry, owners, at) + b) + 1;
+        return 2 * (instruction_length(frames, state, count, at) + b) + 1;
     }
-    let frame = frame_at(frames, starts, count, at);
+    let frame = frame_at(frames, state, count, at);
     2 * (frame.len() + b) + 1
 }
 
@@ -119,32 +96,16 @@ pub fn mark_length(marked: bool) -> usize
 }
 
 // How many characters the text has.
-pub fn text_length(
-    marked: bool,
-    frames: &[u8],
-    starts: &[u16; 1025],
-    count: usize,
-    forms: &[u8; 1024],
-    carry: &[u16; 1024],
-    owners: &[u16; 1024],
-) -> usize
-    requires { ⌜ SoundWithout (now frames) (now starts) count (now forms) (now carry) (now owners) ⌝ }
-    ensures { λ r. ⌜ TextHas (formOf marked) (now (frames .entry)) (now (starts .entry)) count (now (forms .entry))
-        (now (carry .entry)) (now (owners .entry)) r ⌝ }
+pub fn text_length(marked: bool, frames: &[u8], state: &State, count: usize) -> usize
+    requires { ⌜ SoundWithout (now frames) (startsIn (now state)) count (formsIn (now state)) (carryIn (now state)) (ownersIn
+        (now state)) ⌝ }
+    ensures { λ r. ⌜ TextHas (formOf marked) (now (frames .entry)) (startsIn (now (state .entry))) count (formsIn (now (state .entry)))
+        (carryIn (now (state .entry))) (ownersIn (now (state .entry))) r ⌝ }
 {
     let mut n = mark_length(marked);
     let mut i = 0;
     while i < count {
-        n += line_length_at(
-            marked,
-            frames,
-            starts,
-            count,
-            forms,
-            carry,
-            owners,
-            Place(i),
-        );
+        n += line_length_at(marked, frames, state, count, Place(i));
         i += 1;
     }
     n

@@ -2,13 +2,16 @@
 use rules::Place;
 use rules::Settings;
 use slots::GONE;
+use slots::State;
+use slots::form_in;
 use slots::frame_at;
+use slots::put_form;
 ghost use mathlib.Core.Path.{_≡_};
 ghost use mathlib.Core.List.{List};
 ghost use Prim.Native.Nat.{ℕ};
 ghost use lib.ListN.{length};
-ghost use Rattle.listing.specs.Tables.{Held};
-ghost use Rattle.slots.specs.Slots.{Slots, slots, Sound};
+ghost use Rattle.slots.specs.Slots.{Slots, Sound};
+ghost use Rattle.slots.specs.State.{startsIn, formsIn, tableOf};
 ghost use Rattle.output.specs.Showing.{shownForm, formed, Shown};
 
 // A comment's frame begins with this byte.
@@ -31,23 +34,18 @@ fn shown_form(asked: Settings, frame: &[u8], form: u8) -> u8
 }
 
 // Comments that are not asked for become slots that are gone.
-pub fn show(
-    asked: Settings,
-    frames: &[u8],
-    starts: &[u16; 1025],
-    count: usize,
-    forms: &mut [u8; 1024],
-)
-    requires { ⌜ Held (now frames) (now starts) count × (length (now forms) ≡ 1024) ⌝ }
-    ensures room { λ _. ⌜ length (now (forms .exit)) ≡ 1024 ⌝ }
-    ensures shows { λ _. ⌜ ((carry owners offsets : List ℕ) →
-        (let t : Slots = slots (now (frames .entry)) (now (starts .entry)) count (now (forms .entry)) carry owners offsets in
-        Sound t → Shown asked t (formed t (now (forms .exit))))) ⌝ }
+pub fn show(asked: Settings, frames: &[u8], state: &mut State, count: usize)
+    requires { ⌜ Sound (tableOf (now frames) (now state) count) × (length (formsIn (now state)) ≡ 1025) ⌝ }
+    ensures room { λ _. ⌜ (length (formsIn (now (state .exit))) ≡ 1025) × (startsIn (now (state .exit)) ≡ startsIn (now (state .entry))) ⌝ }
+    ensures shows { λ _. let t : Slots = tableOf (now (frames .entry)) (now (state .entry)) count in
+        let forms : List ℕ = formsIn (now (state .exit)) in
+        ⌜ (tableOf (now (frames .entry)) (now (state .exit)) count ≡ formed t forms) × Shown asked t (formed t forms) ⌝ }
 {
     let mut i = 0;
     while i < count {
-        let form = forms[i];
-        forms[i] = shown_form(asked, frame_at(frames, starts, count, Place(i)), form);
+        let form = form_in(state, Place(i));
+        let shown = shown_form(asked, frame_at(frames, state, count, Place(i)), form);
+        put_form(state, Place(i), shown);
         i += 1;
     }
 }

@@ -1,16 +1,21 @@
 // The lines of the slots, one behind the other: each piece is stored where the one before ended, and its function returns where it ends.
-use crate::digits::low_byte;
-use crate::digits::put_byte;
-use crate::digits::put_bytes;
-use crate::lines::NO_OWNER;
 use crate::lines::own_end;
-use crate::lines::wide;
+use crate::low_byte;
+use digits::put_byte;
+use digits::put_bytes;
 use instruction::tables::is_transfer;
 use listing::line_bytes;
 use rules::Place;
+use slots::CARRY;
 use slots::GONE;
+use slots::NO_OWNER;
+use slots::OFFSET;
+use slots::State;
+use slots::form_in;
 use slots::frame_at;
 use slots::kind_at;
+use slots::owner_at;
+use slots::wide;
 ghost use mathlib.Core.Path.{_≡_};
 ghost use mathlib.Core.Bool.{true};
 ghost use mathlib.Core.List.{List, _∷_, []};
@@ -24,9 +29,11 @@ ghost use Rattle.rules.specs.Run.{front};
 ghost use Rattle.listing.specs.Form.{formOf};
 ghost use Rattle.listing.specs.Tables.{Held};
 ghost use Rattle.slots.specs.Slots.{Slots, slots, InstrIn, Sound};
-ghost use Rattle.output.specs.Digits.{hexOf, laid, Put};
+ghost use Rattle.digits.specs.Digits.{hexOf, laid};
+ghost use Rattle.output.specs.Digits.{Put};
 ghost use Rattle.output.specs.Lines.{lineAt, listingOf, besideIn, sourced, ownEnd, ownBytes, targetBytes, instrBytes, bytesAt};
 ghost use Rattle.output.specs.Lines.{InstrAt, Drawn, NumberLow, Positioned};
+ghost use Rattle.slots.specs.State.{startsIn, formsIn, carryIn, ownersIn, offsetsIn, tableOf};
 
 // A byte, and the four bytes of a number behind it, high byte first.
 fn put_five(out: &mut [u8], at: usize, first: u8, n: u32)
@@ -71,30 +78,28 @@ fn widen(x: u16) -> u32
 // The target that a place wrote: the number that its inner label stands for, or as it stands there.
 fn put_target(
     frames: &[u8],
-    starts: &[u16; 1025],
+    state: &State,
     count: usize,
-    owners: &[u16; 1024],
-    offsets: &[u16; 1024],
     positions: &[u32; 1025],
     from: Place,
     out: &mut [u8],
     at: usize,
 ) -> usize
-    requires { let target : List ℕ = targetBytes (now frames) (now starts) (now owners) (now offsets) (now positions) (from .0) in
-        ⌜ Held (now frames) (now starts) count × InstrAt (now frames) (now starts) count (from .0)
-        × NumberLow (now owners) (now positions) (from .0) × (at + 2 * length target ≤ length (now out)) ⌝ }
-    ensures { λ r. let target : List ℕ = targetBytes (now (frames .entry)) (now (starts .entry)) (now (owners .entry))
-        (now (offsets .entry)) (now (positions .entry)) (from .0) in
+    requires { let target : List ℕ = targetBytes (now frames) (startsIn (now state)) (ownersIn (now state)) (offsetsIn (now state))
+        (now positions) (from .0) in
+        ⌜ Held (now frames) (startsIn (now state)) count × InstrAt (now frames) (startsIn (now state)) count (from .0)
+        × NumberLow (ownersIn (now state)) (now positions) (from .0) × (at + 2 * length target ≤ length (now out)) ⌝ }
+    ensures { λ r. let target : List ℕ = targetBytes (now (frames .entry)) (startsIn (now (state .entry))) (ownersIn (now (state .entry)))
+        (offsetsIn (now (state .entry))) (now (positions .entry)) (from .0) in
         ⌜ Put (now (out .entry)) at target (now (out .exit)) r ⌝ }
 {
     let c = from.0;
-    let owner = owners[c];
+    let owner = owner_at(state, from);
     if owner < NO_OWNER {
-        let w = wide(owner);
-        put_number(out, at, positions[w] + widen(offsets[c]));
+        put_number(out, at, positions[owner] + widen(state[OFFSET][c]));
         return at + 10;
     }
-    let frame = frame_at(frames, starts, count, from);
+    let frame = frame_at(frames, state, count, from);
     let e = own_end(frame, from);
     put_bytes(out, at, &frame[e..]);
     at + 2 * (frame.len() - e)
@@ -115,42 +120,28 @@ fn put_own(frame: &[u8], place: Place, form: u8, out: &mut [u8], at: usize) -> u
 // An instruction: its own bytes, and a transfer's target.
 fn put_instruction(
     frames: &[u8],
-    starts: &[u16; 1025],
+    state: &State,
     count: usize,
-    forms: &[u8; 1024],
-    carry: &[u16; 1024],
-    owners: &[u16; 1024],
-    offsets: &[u16; 1024],
     positions: &[u32; 1025],
     place: Place,
     out: &mut [u8],
     at: usize,
 ) -> usize
-    requires { let t : Slots = slots (now frames) (now starts) count (now forms) (now carry) (now owners) (now offsets) in
-        ⌜ Drawn (now frames) (now starts) count (now forms) (now carry) (place .0)
-        × (isTransfer (getD (now forms) (place .0) 0) ≡ true → NumberLow (now owners) (now positions) (getD (now carry) (place .0) 0))
+    requires { let t : Slots = tableOf (now frames) (now state) count in
+        ⌜ Drawn (now frames) (startsIn (now state)) count (formsIn (now state)) (carryIn (now state)) (place .0)
+        × (isTransfer (getD (formsIn (now state)) (place .0) 0) ≡ true → NumberLow (ownersIn (now state)) (now positions) (getD
+        (carryIn (now state)) (place .0) 0))
         × (at + 2 * length (instrBytes t (now positions) (place .0)) ≤ length (now out)) ⌝ }
-    ensures { λ r. let t : Slots = slots (now (frames .entry)) (now (starts .entry)) count (now (forms .entry)) (now (carry .entry))
-        (now (owners .entry)) (now (offsets .entry)) in
+    ensures { λ r. let t : Slots = tableOf (now (frames .entry)) (now (state .entry)) count in
         ⌜ Put (now (out .entry)) at (instrBytes t (now (positions .entry)) (place .0)) (now (out .exit)) r ⌝ }
 {
     let i = place.0;
-    let form = forms[i];
-    let frame = frame_at(frames, starts, count, place);
+    let form = form_in(state, place);
+    let frame = frame_at(frames, state, count, place);
     let end = put_own(frame, place, form, out, at);
     if is_transfer(form) {
-        let c = wide(carry[i]);
-        return put_target(
-            frames,
-            starts,
-            count,
-            owners,
-            offsets,
-            positions,
-            Place(c),
-            out,
-            end,
-        );
+        let c = wide(state[CARRY][i]);
+        return put_target(frames, state, count, positions, Place(c), out, end);
     }
     end
 }
@@ -158,41 +149,24 @@ fn put_instruction(
 // A statement that is not gone: an instruction, or the frame as it stands.
 fn put_statement(
     frames: &[u8],
-    starts: &[u16; 1025],
+    state: &State,
     count: usize,
-    forms: &[u8; 1024],
-    carry: &[u16; 1024],
-    owners: &[u16; 1024],
-    offsets: &[u16; 1024],
     positions: &[u32; 1025],
     place: Place,
     out: &mut [u8],
     at: usize,
 ) -> usize
-    requires { let t : Slots = slots (now frames) (now starts) count (now forms) (now carry) (now owners) (now offsets) in
+    requires { let t : Slots = tableOf (now frames) (now state) count in
         ⌜ Sound t × Positioned t (now positions) × (place .0 < count)
         × (at + 2 * length (bytesAt t (now positions) (place .0)) ≤ length (now out)) ⌝ }
-    ensures { λ r. let t : Slots = slots (now (frames .entry)) (now (starts .entry)) count (now (forms .entry)) (now (carry .entry))
-        (now (owners .entry)) (now (offsets .entry)) in
+    ensures { λ r. let t : Slots = tableOf (now (frames .entry)) (now (state .entry)) count in
         ⌜ Put (now (out .entry)) at (bytesAt t (now (positions .entry)) (place .0)) (now (out .exit)) r ⌝ }
 {
-    let kind = kind_at(frames, starts, count, forms, place);
+    let kind = kind_at(frames, state, count, place);
     if kind == 1 {
-        return put_instruction(
-            frames,
-            starts,
-            count,
-            forms,
-            carry,
-            owners,
-            offsets,
-            positions,
-            place,
-            out,
-            at,
-        );
+        return put_instruction(frames, state, count, positions, place, out, at);
     }
-    let frame = frame_at(frames, starts, count, place);
+    let frame = frame_at(frames, state, count, place);
     put_bytes(out, at, frame);
     at + 2 * frame.len()
 }
@@ -210,44 +184,27 @@ fn put_line(
     marked: bool,
     lines: &[u32; 1024],
     frames: &[u8],
-    starts: &[u16; 1025],
+    state: &State,
     count: usize,
-    forms: &[u8; 1024],
-    carry: &[u16; 1024],
-    owners: &[u16; 1024],
-    offsets: &[u16; 1024],
     positions: &[u32; 1025],
     place: Place,
     out: &mut [u8],
     at: usize,
 ) -> usize
-    requires { let t : Slots = slots (now frames) (now starts) count (now forms) (now carry) (now owners) (now offsets) in
+    requires { let t : Slots = tableOf (now frames) (now state) count in
         ⌜ Sound t × Positioned t (now positions) × (place .0 < count)
         × (at + length (lineAt (formOf marked) (now lines) t (place .0)) ≤ length (now out)) ⌝ }
-    ensures { λ r. let t : Slots = slots (now (frames .entry)) (now (starts .entry)) count (now (forms .entry)) (now (carry .entry))
-        (now (owners .entry)) (now (offsets .entry)) in
+    ensures { λ r. let t : Slots = tableOf (now (frames .entry)) (now (state .entry)) count in
         ⌜ (now (out .exit) ≡ laid (now (out .entry)) at (lineAt (formOf marked) (now (lines .entry)) t (place .0)))
         × (r ≡ at + length (lineAt (formOf marked) (now (lines .entry)) t (place .0))) ⌝ }
 {
     let i = place.0;
-    if forms[i] == GONE {
+    if form_in(state, place) == GONE {
         return at;
     }
     let b = line_bytes(marked);
-    let end = put_statement(
-        frames,
-        starts,
-        count,
-        forms,
-        carry,
-        owners,
-        offsets,
-        positions,
-        place,
-        out,
-        at + 2 * b,
-    );
-    let kind = kind_at(frames, starts, count, forms, place);
+    let end = put_statement(frames, state, count, positions, place, out, at + 2 * b);
+    let kind = kind_at(frames, state, count, place);
     put_source(marked, kind, lines[i], out, at);
     end_line(out, end)
 }
@@ -271,20 +228,15 @@ pub fn write_text(
     marked: bool,
     lines: &[u32; 1024],
     frames: &[u8],
-    starts: &[u16; 1025],
+    state: &State,
     count: usize,
-    forms: &[u8; 1024],
-    carry: &[u16; 1024],
-    owners: &[u16; 1024],
-    offsets: &[u16; 1024],
     positions: &[u32; 1025],
     out: &mut [u8],
 )
-    requires { let t : Slots = slots (now frames) (now starts) count (now forms) (now carry) (now owners) (now offsets) in
+    requires { let t : Slots = tableOf (now frames) (now state) count in
         ⌜ Sound t × Positioned t (now positions)
         × (length (listingOf (besideIn marked (now lines) count) t) ≤ length (now out)) ⌝ }
-    ensures { λ _. let t : Slots = slots (now (frames .entry)) (now (starts .entry)) count (now (forms .entry)) (now (carry .entry))
-        (now (owners .entry)) (now (offsets .entry)) in
+    ensures { λ _. let t : Slots = tableOf (now (frames .entry)) (now (state .entry)) count in
         ⌜ now (out .exit) ≡ front (listingOf (besideIn marked (now (lines .entry)) count) t) (now (out .entry)) ⌝ }
 {
     let first = put_mark(marked, out);
@@ -295,12 +247,8 @@ pub fn write_text(
             marked,
             lines,
             frames,
-            starts,
+            state,
             count,
-            forms,
-            carry,
-            owners,
-            offsets,
             positions,
             Place(i),
             out,

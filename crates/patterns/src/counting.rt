@@ -1,13 +1,15 @@
 // References to a statement: "in instructions, data and variables", the links to its place.
-use crate::targets::NO_OWNER;
-use crate::targets::number_at;
 use crate::targets::target_in;
 use crate::targets::target_links;
 use expression::count_links;
 use instruction::tables::is_transfer;
 use instruction::tables::operand_count;
 use rules::Place;
+use slots::NO_OWNER;
+use slots::State;
 use slots::argument_in;
+use slots::carry_at;
+use slots::form_in;
 use slots::frame_at;
 use slots::is_data;
 use slots::is_register;
@@ -15,6 +17,7 @@ use slots::item_in;
 use slots::items_in;
 use slots::kind_at;
 use slots::links_at;
+use slots::owner_at;
 ghost use mathlib.Core.Path.{_≡_};
 ghost use mathlib.Core.Bool.{Bool};
 ghost use mathlib.Core.List.{List};
@@ -31,31 +34,33 @@ ghost use Rattle.listing.specs.Tables.{frameAt, Held};
 ghost use Rattle.slots.specs.Slots.{slots, slotAt, targetOf, InstrIn, DataIn, Sound};
 ghost use Rattle.patterns.specs.Targets.{TargetIn};
 ghost use Rattle.patterns.specs.Mentions.{readAs, itemsOf, VariableIn, Short, Refers, RefersAll};
+ghost use Rattle.slots.specs.State.{startsIn, formsIn, carryIn, ownersIn};
 
 // In the target that was written at a place; one that became an inner label holds no name. A frame has at most 120 bytes, so no more names
 // than that.
 fn in_target(
     frames: &[u8],
-    starts: &[u16; 1025],
+    state: &State,
     count: usize,
-    owners: &[u16; 1024],
     links: &[u16; 28672],
     at: Place,
     place: usize,
 ) -> usize
-    requires { ⌜ Held (now frames) (now starts) count × TargetIn (now frames) (now starts) count (at .0) × (length (now links) ≡ 28672) ⌝ }
+    requires { ⌜ Held (now frames) (startsIn (now state)) count × TargetIn (now frames) (startsIn (now state)) count (at .0) × (length
+        (now links) ≡ 28672) ⌝ }
     ensures few { λ r. ⌜ r ≤ 120 ⌝ }
-    ensures { λ r. ⌜ ((f : ℕ → Bool) → Referred f (frameAt (now (frames .entry)) (now (starts .entry)) (at .0))
-        (frameAt (now (links .entry)) (now (starts .entry)) (at .0)) place
+    ensures { λ r. ⌜ ((f : ℕ → Bool) → Referred f (frameAt (now (frames .entry)) (startsIn (now (state .entry))) (at .0))
+        (frameAt (now (links .entry)) (startsIn (now (state .entry))) (at .0)) place
         → (forms carry offsets : List ℕ) → r ≡ inOperand (mentions f)
-        (targetOf (slots (now (frames .entry)) (now (starts .entry)) count forms carry (now (owners .entry)) offsets) (at .0))) ⌝ }
+        (targetOf (slots (now (frames .entry)) (startsIn (now (state .entry))) count forms carry (ownersIn
+        (now (state .entry))) offsets) (at .0))) ⌝ }
 {
-    if number_at(owners, at) < NO_OWNER {
+    if owner_at(state, at) < NO_OWNER {
         return 0;
     }
     count_links(
-        target_in(frames, starts, count, at),
-        target_links(frames, starts, count, links, at),
+        target_in(frames, state, count, at),
+        target_links(frames, state, count, links, at),
         place,
     )
 }
@@ -102,31 +107,30 @@ fn in_arguments(frame: &[u8], links: &[u16], at: Place, m: usize, place: usize) 
 // In the instruction at a place: a transfer has the target that it carries instead of the one that its frame has.
 fn in_instruction(
     frames: &[u8],
-    starts: &[u16; 1025],
+    state: &State,
     count: usize,
-    forms: &[u8; 1024],
-    carry: &[u16; 1024],
-    owners: &[u16; 1024],
     links: &[u16; 28672],
     at: Place,
     place: usize,
 ) -> usize
     requires { ⌜ (at .0 < count) × (length (now links) ≡ 28672) × ((offsets : List ℕ) →
-        (let t = slots (now frames) (now starts) count (now forms) (now carry) (now owners) offsets in
+        (let t = slots (now frames) (startsIn (now state)) count (formsIn (now state)) (carryIn (now state)) (ownersIn
+        (now state)) offsets in
         Sound t × (kindOf (slotAt t (at .0)) ≡ 1))) ⌝ }
     ensures few { λ r. ⌜ r ≤ 2048 ⌝ }
     ensures { λ r. ⌜ ((f : ℕ → Bool) (offsets : List ℕ) →
-        (let t = slots (now (frames .entry)) (now (starts .entry)) count (now (forms .entry)) (now (carry .entry))
-        (now (owners .entry)) offsets in
+        (let t = slots (now (frames .entry)) (startsIn (now (state .entry))) count (formsIn (now (state .entry))) (carryIn
+        (now (state .entry)))
+        (ownersIn (now (state .entry))) offsets in
         Refers f t (now (links .entry)) (at .0) place → r ≡ overExprs (mentions f) (slotAt t (at .0)))) ⌝ }
 {
     let i = at.0;
-    let frame = frame_at(frames, starts, count, at);
-    let beside = links_at(links, starts, at);
+    let frame = frame_at(frames, state, count, at);
+    let beside = links_at(links, state, at);
     let own = operand_count(frame[1]);
-    if is_transfer(forms[i]) {
-        let written = Place(number_at(carry, at));
-        let carried = in_target(frames, starts, count, owners, links, written, place);
+    if is_transfer(form_in(state, at)) {
+        let written = Place(carry_at(state, at));
+        let carried = in_target(frames, state, count, links, written, place);
         return in_arguments(frame, beside, at, own - 1, place) + carried;
     }
     in_arguments(frame, beside, at, own, place)
@@ -172,39 +176,28 @@ fn in_items(frame: &[u8], links: &[u16], at: Place, place: usize) -> usize
 // In the statement at a place.
 fn in_statement(
     frames: &[u8],
-    starts: &[u16; 1025],
+    state: &State,
     count: usize,
-    forms: &[u8; 1024],
-    carry: &[u16; 1024],
-    owners: &[u16; 1024],
     links: &[u16; 28672],
     at: Place,
     place: usize,
 ) -> usize
     requires { ⌜ (at .0 < count) × (length (now links) ≡ 28672)
-        × ((offsets : List ℕ) → Sound (slots (now frames) (now starts) count (now forms) (now carry) (now owners) offsets)) ⌝ }
+        × ((offsets : List ℕ) → Sound (slots (now frames) (startsIn (now state)) count (formsIn (now state)) (carryIn (now state))
+        (ownersIn (now state)) offsets)) ⌝ }
     ensures few { λ r. ⌜ r ≤ 2048 ⌝ }
     ensures { λ r. ⌜ ((f : ℕ → Bool) (offsets : List ℕ) →
-        (let t = slots (now (frames .entry)) (now (starts .entry)) count (now (forms .entry)) (now (carry .entry))
-        (now (owners .entry)) offsets in
+        (let t = slots (now (frames .entry)) (startsIn (now (state .entry))) count (formsIn (now (state .entry))) (carryIn
+        (now (state .entry)))
+        (ownersIn (now (state .entry))) offsets in
         Refers f t (now (links .entry)) (at .0) place → r ≡ overExprs (mentions f) (slotAt t (at .0)))) ⌝ }
 {
-    let kind = kind_at(frames, starts, count, forms, at);
+    let kind = kind_at(frames, state, count, at);
     if kind == 1 {
-        return in_instruction(
-            frames,
-            starts,
-            count,
-            forms,
-            carry,
-            owners,
-            links,
-            at,
-            place,
-        );
+        return in_instruction(frames, state, count, links, at, place);
     }
-    let frame = frame_at(frames, starts, count, at);
-    let beside = links_at(links, starts, at);
+    let frame = frame_at(frames, state, count, at);
+    let beside = links_at(links, state, at);
     if kind == 3 {
         return in_variable(frame, beside, at, place);
     }
@@ -218,35 +211,24 @@ fn in_statement(
 // frame's 120 bytes: the sum fits.
 pub fn references(
     frames: &[u8],
-    starts: &[u16; 1025],
+    state: &State,
     count: usize,
-    forms: &[u8; 1024],
-    carry: &[u16; 1024],
-    owners: &[u16; 1024],
     links: &[u16; 28672],
     place: usize,
 ) -> usize
     requires { ⌜ (length (now links) ≡ 28672)
-        × ((offsets : List ℕ) → Sound (slots (now frames) (now starts) count (now forms) (now carry) (now owners) offsets)) ⌝ }
+        × ((offsets : List ℕ) → Sound (slots (now frames) (startsIn (now state)) count (formsIn (now state)) (carryIn (now state))
+        (ownersIn (now state)) offsets)) ⌝ }
     ensures { λ r. ⌜ ((F : ℕ → ℕ → Bool) (offsets : List ℕ) →
-        (let t = slots (now (frames .entry)) (now (starts .entry)) count (now (forms .entry)) (now (carry .entry))
-        (now (owners .entry)) offsets in
+        (let t = slots (now (frames .entry)) (startsIn (now (state .entry))) count (formsIn (now (state .entry))) (carryIn
+        (now (state .entry)))
+        (ownersIn (now (state .entry))) offsets in
         RefersAll F t (now (links .entry)) place → r ≡ sumTo (λ j. overExprs (mentions (F j)) (slotAt t j)) count)) ⌝ }
 {
     let mut found = 0;
     let mut j = 0;
     while j < count {
-        found += in_statement(
-            frames,
-            starts,
-            count,
-            forms,
-            carry,
-            owners,
-            links,
-            Place(j),
-            place,
-        );
+        found += in_statement(frames, state, count, links, Place(j), place);
         j += 1;
     }
     found

@@ -11,6 +11,7 @@ use crate::targets::local_label_at;
 use crate::targets::names_bare;
 use crate::targets::unconditional_at;
 use rules::Place;
+use slots::State;
 ghost use mathlib.Core.Path.{_≡_};
 ghost use mathlib.Core.Bool.{true, _&&_};
 ghost use mathlib.Core.List.{List};
@@ -21,6 +22,7 @@ ghost use Rattle.listing.specs.Tables.{Held};
 ghost use Rattle.slots.specs.Slots.{Slots, slots, programOf, Sound};
 ghost use Rattle.patterns.specs.Mentions.{Told};
 ghost use Rattle.patterns.specs.Matches.{JumpAfter, LandingAfter, OpeningIs, InvertedIs, TrampolineIs};
+ghost use Rattle.slots.specs.State.{startsIn, formsIn, tableOf};
 
 // The place of an unconditional.
 enum Jump {
@@ -41,90 +43,60 @@ enum Opening {
 }
 
 // The unconditional that comes next behind a place.
-fn jump_after(
-    frames: &[u8],
-    starts: &[u16; 1025],
-    count: usize,
-    forms: &[u8; 1024],
-    at: Place,
-) -> Jump
-    requires { ⌜ Held (now frames) (now starts) count × (at .0 < count) ⌝ }
+fn jump_after(frames: &[u8], state: &State, count: usize, at: Place) -> Jump
+    requires { ⌜ Held (now frames) (startsIn (now state)) count × (at .0 < count) ⌝ }
     ensures { λ r. ⌜ ((carry owners offsets : List ℕ) →
-        (let t = slots (now (frames .entry)) (now (starts .entry)) count (now (forms .entry)) carry owners offsets in
+        (let t = slots (now (frames .entry)) (startsIn (now (state .entry))) count (formsIn (now (state .entry))) carry owners offsets in
         JumpAfter t (at .0) r)) ⌝ }
 {
-    let jump = next(frames, starts, count, forms, Place(at.0 + 1));
-    if unconditional_at(frames, starts, count, forms, jump) {
+    let jump = next(frames, state, count, Place(at.0 + 1));
+    if unconditional_at(frames, state, count, jump) {
         return Jump::At(jump);
     }
     Jump::Nothing
 }
 
 // The local label that comes next behind a place.
-fn landing_after(
-    frames: &[u8],
-    starts: &[u16; 1025],
-    count: usize,
-    forms: &[u8; 1024],
-    at: Place,
-) -> Landing
-    requires { ⌜ Held (now frames) (now starts) count × (at .0 < count) ⌝ }
+fn landing_after(frames: &[u8], state: &State, count: usize, at: Place) -> Landing
+    requires { ⌜ Held (now frames) (startsIn (now state)) count × (at .0 < count) ⌝ }
     ensures { λ r. ⌜ ((carry owners offsets : List ℕ) →
-        (let t = slots (now (frames .entry)) (now (starts .entry)) count (now (forms .entry)) carry owners offsets in
+        (let t = slots (now (frames .entry)) (startsIn (now (state .entry))) count (formsIn (now (state .entry))) carry owners offsets in
         LandingAfter t (at .0) r)) ⌝ }
 {
-    let label = next(frames, starts, count, forms, Place(at.0 + 1));
-    match local_label_at(frames, starts, count, forms, label) {
+    let label = next(frames, state, count, Place(at.0 + 1));
+    match local_label_at(frames, state, count, label) {
         LocalLabel::Name(n) => Landing::At(label, n),
         LocalLabel::Nothing => Landing::Nothing,
     }
 }
 
 // What both shapes begin with: a branch, an unconditional, a local label. `form` is that of the branch.
-fn opening_at(
-    frames: &[u8],
-    starts: &[u16; 1025],
-    count: usize,
-    forms: &[u8; 1024],
-    form: u8,
-    at: Place,
-) -> Opening
-    requires { ⌜ Held (now frames) (now starts) count × (at .0 < count) × (isTransfer form ≡ true) ⌝ }
+fn opening_at(frames: &[u8], state: &State, count: usize, form: u8, at: Place) -> Opening
+    requires { ⌜ Held (now frames) (startsIn (now state)) count × (at .0 < count) × (isTransfer form ≡ true) ⌝ }
     ensures { λ r. ⌜ ((carry owners offsets : List ℕ) →
-        (let t = slots (now (frames .entry)) (now (starts .entry)) count (now (forms .entry)) carry owners offsets in
+        (let t = slots (now (frames .entry)) (startsIn (now (state .entry))) count (formsIn (now (state .entry))) carry owners offsets in
         OpeningIs t form (at .0) r)) ⌝ }
 {
-    if !branch_at(frames, starts, count, forms, form, at) {
+    if !branch_at(frames, state, count, form, at) {
         return Opening::Nothing;
     }
-    let Jump::At(jump) = jump_after(frames, starts, count, forms, at) else {
+    let Jump::At(jump) = jump_after(frames, state, count, at) else {
         return Opening::Nothing;
     };
-    let Landing::At(label, n) = landing_after(frames, starts, count, forms, jump) else {
+    let Landing::At(label, n) = landing_after(frames, state, count, jump) else {
         return Opening::Nothing;
     };
     Opening::At(jump, label, n)
 }
 
 // No inner label stands in the way: none between the statements of a pattern, and none inside its branch.
-fn is_free(
-    frames: &[u8],
-    starts: &[u16; 1025],
-    count: usize,
-    forms: &[u8; 1024],
-    carry: &[u16; 1024],
-    owners: &[u16; 1024],
-    offsets: &[u16; 1024],
-    at: Place,
-    m: Place,
-) -> bool
-    requires { ⌜ Sound (slots (now frames) (now starts) count (now forms) (now carry) (now owners) (now offsets)) ⌝ }
-    ensures { λ r. ⌜ (let p = programOf (slots (now (frames .entry)) (now (starts .entry)) count (now (forms .entry))
-        (now (carry .entry)) (now (owners .entry)) (now (offsets .entry))) in
+fn is_free(frames: &[u8], state: &State, count: usize, at: Place, m: Place) -> bool
+    requires { ⌜ Sound (tableOf (now frames) (now state) count) ⌝ }
+    ensures { λ r. ⌜ (let p = programOf (tableOf (now (frames .entry)) (now (state .entry)) count) in
         r ≡ noInnerLabelBetween p (at .0) (m .0) && noInteriorLabelAt p (at .0)) ⌝ }
 {
-    if no_inner_label_between(frames, starts, count, forms, carry, owners, offsets, at, m) {
-        return no_interior_label_at(frames, starts, count, forms, carry, owners, offsets, at);
+    if no_inner_label_between(frames, state, count, at, m) {
+        return no_interior_label_at(frames, state, count, at);
     }
     false
 }
@@ -132,29 +104,24 @@ fn is_free(
 // "Inverted: branch, unconditional, local label that the branch names bare." `from` is the form of the branch; m is the place of the label.
 pub fn inverted_at(
     frames: &[u8],
-    starts: &[u16; 1025],
+    state: &State,
     count: usize,
-    forms: &[u8; 1024],
-    carry: &[u16; 1024],
-    owners: &[u16; 1024],
-    offsets: &[u16; 1024],
     links: &[u16; 28672],
     from: u8,
     at: Place,
 ) -> Inverted
-    requires { let t : Slots = slots (now frames) (now starts) count (now forms) (now carry) (now owners) (now offsets) in
+    requires { let t : Slots = tableOf (now frames) (now state) count in
         ⌜ Sound t × Told t (now links) × (at .0 < count) × (isTransfer from ≡ true) ⌝ }
-    ensures { λ r. let t : Slots = slots (now (frames .entry)) (now (starts .entry)) count (now (forms .entry)) (now (carry .entry))
-        (now (owners .entry)) (now (offsets .entry)) in
+    ensures { λ r. let t : Slots = tableOf (now (frames .entry)) (now (state .entry)) count in
         ⌜ InvertedIs t from (at .0) r ⌝ }
 {
-    let Opening::At(jump, m, _) = opening_at(frames, starts, count, forms, from, at) else {
+    let Opening::At(jump, m, _) = opening_at(frames, state, count, from, at) else {
         return Inverted::Nothing;
     };
-    if !names_bare(frames, starts, count, carry, owners, links, at, m.0) {
+    if !names_bare(frames, state, count, links, at, m.0) {
         return Inverted::Nothing;
     }
-    if is_free(frames, starts, count, forms, carry, owners, offsets, at, m) {
+    if is_free(frames, state, count, at, m) {
         return Inverted::At(jump, m);
     }
     Inverted::Nothing
@@ -164,41 +131,36 @@ pub fn inverted_at(
 // the places of T and S. "T has exactly one reference in the whole listing".
 pub fn trampoline_at(
     frames: &[u8],
-    starts: &[u16; 1025],
+    state: &State,
     count: usize,
-    forms: &[u8; 1024],
-    carry: &[u16; 1024],
-    owners: &[u16; 1024],
-    offsets: &[u16; 1024],
     links: &[u16; 28672],
     form: u8,
     at: Place,
 ) -> Trampoline
-    requires { let t : Slots = slots (now frames) (now starts) count (now forms) (now carry) (now owners) (now offsets) in
+    requires { let t : Slots = tableOf (now frames) (now state) count in
         ⌜ Sound t × Told t (now links) × (at .0 < count) × (isTransfer form ≡ true) ⌝ }
-    ensures { λ r. let t : Slots = slots (now (frames .entry)) (now (starts .entry)) count (now (forms .entry)) (now (carry .entry))
-        (now (owners .entry)) (now (offsets .entry)) in
+    ensures { λ r. let t : Slots = tableOf (now (frames .entry)) (now (state .entry)) count in
         ⌜ TrampolineIs t form (at .0) r ⌝ }
 {
-    let Opening::At(skip, t, _) = opening_at(frames, starts, count, forms, form, at) else {
+    let Opening::At(skip, t, _) = opening_at(frames, state, count, form, at) else {
         return Trampoline::Nothing;
     };
-    let Jump::At(last) = jump_after(frames, starts, count, forms, t) else {
+    let Jump::At(last) = jump_after(frames, state, count, t) else {
         return Trampoline::Nothing;
     };
-    let Landing::At(s, _) = landing_after(frames, starts, count, forms, last) else {
+    let Landing::At(s, _) = landing_after(frames, state, count, last) else {
         return Trampoline::Nothing;
     };
-    if !names_bare(frames, starts, count, carry, owners, links, at, t.0) {
+    if !names_bare(frames, state, count, links, at, t.0) {
         return Trampoline::Nothing;
     }
-    if !names_bare(frames, starts, count, carry, owners, links, skip, s.0) {
+    if !names_bare(frames, state, count, links, skip, s.0) {
         return Trampoline::Nothing;
     }
-    if references(frames, starts, count, forms, carry, owners, links, t.0) != 1 {
+    if references(frames, state, count, links, t.0) != 1 {
         return Trampoline::Nothing;
     }
-    if is_free(frames, starts, count, forms, carry, owners, offsets, at, s) {
+    if is_free(frames, state, count, at, s) {
         return Trampoline::At(skip, t, last, s);
     }
     Trampoline::Nothing

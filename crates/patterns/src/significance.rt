@@ -1,5 +1,6 @@
 // Which statements a pattern consists of.
 use rules::Place;
+use slots::State;
 use slots::kind_at;
 ghost use mathlib.Core.Path.{_≡_};
 ghost use mathlib.Core.List.{List};
@@ -9,21 +10,16 @@ ghost use Rattle.rules.specs.Rewriting.{insignificant};
 ghost use Rattle.rules.specs.Rewriting.{next as nextPlace};
 ghost use Rattle.listing.specs.Tables.{Held};
 ghost use Rattle.slots.specs.Slots.{slots, slotAt, programOf};
+ghost use Rattle.slots.specs.State.{startsIn, formsIn};
 
 // "All but comments are significant." A slot that is gone holds no statement.
-fn significant_at(
-    frames: &[u8],
-    starts: &[u16; 1025],
-    count: usize,
-    forms: &[u8; 1024],
-    at: Place,
-) -> bool
-    requires { ⌜ Held (now frames) (now starts) count × (at .0 < count) ⌝ }
+fn significant_at(frames: &[u8], state: &State, count: usize, at: Place) -> bool
+    requires { ⌜ Held (now frames) (startsIn (now state)) count × (at .0 < count) ⌝ }
     ensures { λ r. ⌜ ((carry owners offsets : List ℕ) →
-        (let t = slots (now (frames .entry)) (now (starts .entry)) count (now (forms .entry)) carry owners offsets in
+        (let t = slots (now (frames .entry)) (startsIn (now (state .entry))) count (formsIn (now (state .entry))) carry owners offsets in
         r ≡ not (insignificant (slotAt t (at .0))))) ⌝ }
 {
-    let kind = kind_at(frames, starts, count, forms, at);
+    let kind = kind_at(frames, state, count, at);
     if kind == 0 {
         return false;
     }
@@ -31,21 +27,15 @@ fn significant_at(
 }
 
 // The first significant place from a place on; where there is none, a place behind the last.
-pub fn next(
-    frames: &[u8],
-    starts: &[u16; 1025],
-    count: usize,
-    forms: &[u8; 1024],
-    from: Place,
-) -> Place
-    requires { ⌜ Held (now frames) (now starts) count ⌝ }
+pub fn next(frames: &[u8], state: &State, count: usize, from: Place) -> Place
+    requires { ⌜ Held (now frames) (startsIn (now state)) count ⌝ }
     ensures { λ r. ⌜ ((carry owners offsets : List ℕ) →
-        (let t = slots (now (frames .entry)) (now (starts .entry)) count (now (forms .entry)) carry owners offsets in
+        (let t = slots (now (frames .entry)) (startsIn (now (state .entry))) count (formsIn (now (state .entry))) carry owners offsets in
         r .0 ≡ nextPlace (programOf t) (from .0))) ⌝ }
 {
     let mut j = from.0;
     while j < count {
-        if significant_at(frames, starts, count, forms, Place(j)) {
+        if significant_at(frames, state, count, Place(j)) {
             return Place(j);
         }
         j += 1;

@@ -5,10 +5,15 @@ use instruction::tables::is_unconditional;
 use instruction::tables::operand_count;
 use rules::Place;
 use slots::GONE;
+use slots::NO_OWNER;
+use slots::State;
 use slots::argument_in;
+use slots::carry_at;
+use slots::form_in;
 use slots::frame_at;
 use slots::kind_at;
 use slots::links_at;
+use slots::owner_at;
 use slots::pair_in;
 ghost use mathlib.Core.Path.{_≡_};
 ghost use mathlib.Core.Bool.{true};
@@ -24,99 +29,57 @@ ghost use Rattle.listing.specs.Tables.{frameAt, Held};
 ghost use Rattle.rules.specs.Programs.{kindOf};
 ghost use Rattle.slots.specs.Slots.{slots, slotAt, targetOf, Sound};
 ghost use Rattle.patterns.specs.Targets.{standsAt, formIn, instrAt, labelAs, TargetIn, lastBytes, lastLinks};
-
-// An owner from here on is none.
-pub const NO_OWNER: usize = 1024;
-
-fn wide(x: u16) -> usize
-    ensures { λ r. ⌜ r ≡ x ⌝ }
-{
-    x as usize
-}
-
-// The number that a table has for a place.
-pub fn number_at(table: &[u16; 1024], at: Place) -> usize
-    requires { ⌜ at .0 < 1024 ⌝ }
-    ensures { λ r. ⌜ r ≡ getD (now (table .entry)) (at .0) 0 ⌝ }
-{
-    let i = at.0;
-    wide(table[i])
-}
+ghost use Rattle.slots.specs.State.{startsIn, formsIn, carryIn, ownersIn};
 
 // The form of the instruction at a place; GONE where none stands.
-pub fn form_at(
-    frames: &[u8],
-    starts: &[u16; 1025],
-    count: usize,
-    forms: &[u8; 1024],
-    at: Place,
-) -> u8
-    requires { ⌜ Held (now frames) (now starts) count ⌝ }
+pub fn form_at(frames: &[u8], state: &State, count: usize, at: Place) -> u8
+    requires { ⌜ Held (now frames) (startsIn (now state)) count ⌝ }
     ensures { λ r. ⌜ ((carry owners offsets : List ℕ) →
-        (let t = slots (now (frames .entry)) (now (starts .entry)) count (now (forms .entry)) carry owners offsets in
+        (let t = slots (now (frames .entry)) (startsIn (now (state .entry))) count (formsIn (now (state .entry))) carry owners offsets in
         r ≡ formIn (standsAt t (at .0)))) ⌝ }
 {
     let i = at.0;
     if count <= i {
         return GONE;
     }
-    if kind_at(frames, starts, count, forms, at) == 1 {
-        return forms[i];
+    if kind_at(frames, state, count, at) == 1 {
+        return form_in(state, at);
     }
     GONE
 }
 
-pub fn branch_at(
-    frames: &[u8],
-    starts: &[u16; 1025],
-    count: usize,
-    forms: &[u8; 1024],
-    form: u8,
-    at: Place,
-) -> bool
-    requires { ⌜ Held (now frames) (now starts) count × (form < 70) ⌝ }
+pub fn branch_at(frames: &[u8], state: &State, count: usize, form: u8, at: Place) -> bool
+    requires { ⌜ Held (now frames) (startsIn (now state)) count × (form < 70) ⌝ }
     ensures { λ r. ⌜ ((carry owners offsets : List ℕ) →
-        (let t = slots (now (frames .entry)) (now (starts .entry)) count (now (forms .entry)) carry owners offsets in
+        (let t = slots (now (frames .entry)) (startsIn (now (state .entry))) count (formsIn (now (state .entry))) carry owners offsets in
         r ≡ isSome (branch form (standsAt t (at .0))))) ⌝ }
 {
-    form_at(frames, starts, count, forms, at) == form
+    form_at(frames, state, count, at) == form
 }
 
-pub fn unconditional_at(
-    frames: &[u8],
-    starts: &[u16; 1025],
-    count: usize,
-    forms: &[u8; 1024],
-    at: Place,
-) -> bool
-    requires { ⌜ Held (now frames) (now starts) count ⌝ }
+pub fn unconditional_at(frames: &[u8], state: &State, count: usize, at: Place) -> bool
+    requires { ⌜ Held (now frames) (startsIn (now state)) count ⌝ }
     ensures { λ r. ⌜ ((carry owners offsets : List ℕ) →
-        (let t = slots (now (frames .entry)) (now (starts .entry)) count (now (forms .entry)) carry owners offsets in
+        (let t = slots (now (frames .entry)) (startsIn (now (state .entry))) count (formsIn (now (state .entry))) carry owners offsets in
         r ≡ isSome (unconditional (standsAt t (at .0))))) ⌝ }
 {
-    is_unconditional(form_at(frames, starts, count, forms, at))
+    is_unconditional(form_at(frames, state, count, at))
 }
 
-pub fn local_label_at(
-    frames: &[u8],
-    starts: &[u16; 1025],
-    count: usize,
-    forms: &[u8; 1024],
-    at: Place,
-) -> LocalLabel
-    requires { ⌜ Held (now frames) (now starts) count ⌝ }
+pub fn local_label_at(frames: &[u8], state: &State, count: usize, at: Place) -> LocalLabel
+    requires { ⌜ Held (now frames) (startsIn (now state)) count ⌝ }
     ensures { λ r. ⌜ ((carry owners offsets : List ℕ) →
-        (let t = slots (now (frames .entry)) (now (starts .entry)) count (now (forms .entry)) carry owners offsets in
+        (let t = slots (now (frames .entry)) (startsIn (now (state .entry))) count (formsIn (now (state .entry))) carry owners offsets in
         r ≡ labelAs (localLabel (standsAt t (at .0))))) ⌝ }
 {
     let i = at.0;
     if count <= i {
         return LocalLabel::Nothing;
     }
-    if kind_at(frames, starts, count, forms, at) != 2 {
+    if kind_at(frames, state, count, at) != 2 {
         return LocalLabel::Nothing;
     }
-    let name = pair_in(frame_at(frames, starts, count, at));
+    let name = pair_in(frame_at(frames, state, count, at));
     if name < 0x8000 {
         return LocalLabel::Nothing;
     }
@@ -124,11 +87,11 @@ pub fn local_label_at(
 }
 
 // The bytes of a transfer's frame from its target on.
-pub fn target_in<'a>(frames: &'a [u8], starts: &[u16; 1025], count: usize, at: Place) -> &'a [u8]
-    requires { ⌜ Held (now frames) (now starts) count × TargetIn (now frames) (now starts) count (at .0) ⌝ }
-    ensures { λ r. ⌜ now r ≡ lastBytes (frameAt (now (frames .entry)) (now (starts .entry)) (at .0)) ⌝ }
+pub fn target_in<'a>(frames: &'a [u8], state: &State, count: usize, at: Place) -> &'a [u8]
+    requires { ⌜ Held (now frames) (startsIn (now state)) count × TargetIn (now frames) (startsIn (now state)) count (at .0) ⌝ }
+    ensures { λ r. ⌜ now r ≡ lastBytes (frameAt (now (frames .entry)) (startsIn (now (state .entry))) (at .0)) ⌝ }
 {
-    let frame = frame_at(frames, starts, count, at);
+    let frame = frame_at(frames, state, count, at);
     let a = argument_in(frame, at, operand_count(frame[1]) - 1);
     &frame[a..]
 }
@@ -136,17 +99,18 @@ pub fn target_in<'a>(frames: &'a [u8], starts: &[u16; 1025], count: usize, at: P
 // The links beside them.
 pub fn target_links<'a>(
     frames: &[u8],
-    starts: &[u16; 1025],
+    state: &State,
     count: usize,
     links: &'a [u16],
     at: Place,
 ) -> &'a [u16]
-    requires { ⌜ Held (now frames) (now starts) count × TargetIn (now frames) (now starts) count (at .0) × (length (now links) ≡ 28672) ⌝ }
-    ensures { λ r. ⌜ now r ≡ lastLinks (frameAt (now (frames .entry)) (now (starts .entry)) (at .0))
-        (frameAt (now (links .entry)) (now (starts .entry)) (at .0)) ⌝ }
+    requires { ⌜ Held (now frames) (startsIn (now state)) count × TargetIn (now frames) (startsIn (now state)) count (at .0) × (length
+        (now links) ≡ 28672) ⌝ }
+    ensures { λ r. ⌜ now r ≡ lastLinks (frameAt (now (frames .entry)) (startsIn (now (state .entry))) (at .0))
+        (frameAt (now (links .entry)) (startsIn (now (state .entry))) (at .0)) ⌝ }
 {
-    let frame = frame_at(frames, starts, count, at);
-    let beside = links_at(links, starts, at);
+    let frame = frame_at(frames, state, count, at);
+    let beside = links_at(links, state, at);
     let a = argument_in(frame, at, operand_count(frame[1]) - 1);
     &beside[a..]
 }
@@ -154,25 +118,25 @@ pub fn target_links<'a>(
 // The target that was written at a place is one name, which the statement at `place` defines. One that became an inner label is not.
 fn is_bare_target(
     frames: &[u8],
-    starts: &[u16; 1025],
+    state: &State,
     count: usize,
-    owners: &[u16; 1024],
     links: &[u16; 28672],
     at: Place,
     place: usize,
 ) -> bool
-    requires { ⌜ Held (now frames) (now starts) count × TargetIn (now frames) (now starts) count (at .0) × (length (now links) ≡ 28672) ⌝ }
-    ensures { λ r. ⌜ ((n : ℕ) → Referred (λ m. eqb m n) (frameAt (now (frames .entry)) (now (starts .entry)) (at .0))
-        (frameAt (now (links .entry)) (now (starts .entry)) (at .0)) place → (forms carry offsets : List ℕ)
-        → (let t = slots (now (frames .entry)) (now (starts .entry)) count forms carry (now (owners .entry)) offsets in
+    requires { ⌜ Held (now frames) (startsIn (now state)) count × TargetIn (now frames) (startsIn (now state)) count (at .0) × (length
+        (now links) ≡ 28672) ⌝ }
+    ensures { λ r. ⌜ ((n : ℕ) → Referred (λ m. eqb m n) (frameAt (now (frames .entry)) (startsIn (now (state .entry))) (at .0))
+        (frameAt (now (links .entry)) (startsIn (now (state .entry))) (at .0)) place → (forms carry offsets : List ℕ)
+        → (let t = slots (now (frames .entry)) (startsIn (now (state .entry))) count forms carry (ownersIn (now (state .entry))) offsets in
         r ≡ bareIn n (targetOf t (at .0)))) ⌝ }
 {
-    if number_at(owners, at) < NO_OWNER {
+    if owner_at(state, at) < NO_OWNER {
         return false;
     }
     is_bare(
-        target_in(frames, starts, count, at),
-        target_links(frames, starts, count, links, at),
+        target_in(frames, state, count, at),
+        target_links(frames, state, count, links, at),
         place,
     )
 }
@@ -180,23 +144,22 @@ fn is_bare_target(
 // The target that the transfer at a place carries is one name, which the statement at `place` defines.
 pub fn names_bare(
     frames: &[u8],
-    starts: &[u16; 1025],
+    state: &State,
     count: usize,
-    carry: &[u16; 1024],
-    owners: &[u16; 1024],
     links: &[u16; 28672],
     at: Place,
     place: usize,
 ) -> bool
-    requires { ⌜ Held (now frames) (now starts) count × (at .0 < count)
-        × TargetIn (now frames) (now starts) count (getD (now carry) (at .0) 0) × (length (now links) ≡ 28672) ⌝ }
-    ensures { λ r. ⌜ (let c = getD (now (carry .entry)) (at .0) 0 in
-        (n : ℕ) → Referred (λ m. eqb m n) (frameAt (now (frames .entry)) (now (starts .entry)) c)
-        (frameAt (now (links .entry)) (now (starts .entry)) c) place → (forms offsets : List ℕ) →
-        (let t = slots (now (frames .entry)) (now (starts .entry)) count forms (now (carry .entry)) (now (owners .entry)) offsets in
+    requires { ⌜ Held (now frames) (startsIn (now state)) count × (at .0 < count)
+        × TargetIn (now frames) (startsIn (now state)) count (getD (carryIn (now state)) (at .0) 0) × (length (now links) ≡ 28672) ⌝ }
+    ensures { λ r. ⌜ (let c = getD (carryIn (now (state .entry))) (at .0) 0 in
+        (n : ℕ) → Referred (λ m. eqb m n) (frameAt (now (frames .entry)) (startsIn (now (state .entry))) c)
+        (frameAt (now (links .entry)) (startsIn (now (state .entry))) c) place → (forms offsets : List ℕ) →
+        (let t = slots (now (frames .entry)) (startsIn (now (state .entry))) count forms (carryIn (now (state .entry))) (ownersIn
+        (now (state .entry))) offsets in
         Sound t → kindOf (slotAt t (at .0)) ≡ 1 → isTransfer (getD forms (at .0) 0) ≡ true
         → r ≡ namesBare n (instrAt t (at .0)))) ⌝ }
 {
-    let written = Place(number_at(carry, at));
-    is_bare_target(frames, starts, count, owners, links, written, place)
+    let written = Place(carry_at(state, at));
+    is_bare_target(frames, state, count, links, written, place)
 }

@@ -15,7 +15,7 @@ use Rattle.rules.specs.Answers.{no}
 use Rattle.rules.specs.Expressions.{pair, four}
 use Rattle.rules.specs.Output.{refusedLine}
 use Rattle.rules.specs.Run.{run, front}
-use Rattle.output.proofs.Rooms.{length-line}
+use Rattle.digits.proofs.Rooms.{length-line}
 use Rattle.printing.specs.Page.{lowBytes, refusalLine}
 use Rattle.printing.proofs.Places.{refused-early, refused-argument}
 

@@ -19,7 +19,7 @@ use Rattle.rules.specs.Output.{doneLine}
 use Rattle.rules.specs.Run.{Output, run, answerOf, front, listingAfter, imageAfter, listingRoomOfProgram, imageRoomOfProgram}
 use Rattle.promises.specs.Demand2.{Answered}
 use Rattle.promises.proofs.Accepted.{accepted-iff}
-use Rattle.output.proofs.Rooms.{length-line}
+use Rattle.digits.proofs.Rooms.{length-line}
 use Rattle.printing.specs.Page.{Lent, LineFits, Printable, lastAfter, pageLength, onPage, PrintedRun}
 use Rattle.printing.proofs.Places.{few-rewrites}
 

@@ -1,6 +1,6 @@
 // The lines of the statements in the tables: how long they are, and the lines themselves in a lent room.
 use rules::Place;
-use slots::frame_at;
+use slots::frame_in;
 use wording::line;
 ghost use mathlib.Core.Path.{_≡_};
 ghost use Prim.Native.Nat.{_+_, _*_, _≤_, _<_};
@@ -22,7 +22,7 @@ fn line_at(
     ensures { λ r. ⌜ Stands (inputAt (now (frames .entry)) (now (starts .entry)) i) (now (room .exit)) r
         × (length (now (room .exit)) ≡ 1024) ⌝ }
 {
-    let frame = frame_at(frames, starts, count, Place(i));
+    let frame = frame_in(frames, starts, count, Place(i));
     line(frame, room)
 }
 

@@ -16,8 +16,8 @@ use Rattle.rules.specs.Names.{placed}
 use Rattle.rules.specs.Judging.{positionsFit}
 use Rattle.listing.specs.Tables.{frameAt, inputAt, inputOf, Held}
 use Rattle.slots.specs.Slots.{Slots, slots, noOwner, programOf}
-use Rattle.env.specs.declared.Checked.{Checked}
-use Rattle.env.specs.declared.Checked.the-variants.{Passes, Refused}
+use Rattle.slots.specs.declared.Checked.{Checked}
+use Rattle.slots.specs.declared.Checked.the-variants.{Passes, Refused}
 use Rattle.env.specs.Answers.{checkedAs}
 use Rattle.env.specs.Tables.{Any, LaidOut}
 use Rattle.env.proofs.Filled.{get-filled}

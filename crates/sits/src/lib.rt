@@ -1,13 +1,13 @@
 // C-17: where statement n sits, answered from the frames before n alone.
 use asm::address_of;
-use asm::start_forms;
-use env::Checked;
+use asm::start_state;
 use env::lay_out;
 use listing::Listed;
 use listing::read_listing;
 use rules::Address;
 use rules::Place;
 use rules::Refusal;
+use slots::Checked;
 ghost use mathlib.Core.Path.{_≡_};
 ghost use Rattle.listing.specs.Tables.{inputOf, Held};
 ghost use Rattle.sits.specs.Sits.{sitsAmong, sits, sitsAs};
@@ -25,10 +25,9 @@ fn sits_behind(frames: &[u8], starts: &[u16; 1025], count: usize, n: usize) -> S
     requires { ⌜ Held (now frames) (now starts) count ⌝ }
     ensures { λ r. ⌜ r ≡ sitsAs (sitsAmong n (inputOf (now (frames .entry)) (now (starts .entry)) count)) ⌝ }
 {
-    let mut forms = [0u8; 1024];
     let mut positions = [0u32; 1025];
-    start_forms(frames, starts, count, &mut forms);
-    match lay_out(frames, starts, count, &forms, &mut positions) {
+    let state = start_state(frames, starts, count);
+    match lay_out(frames, &state, count, &mut positions) {
         Checked::Refused(r) => return Sits::Refused(r),
         Checked::Passes => {}
     }

@@ -4,6 +4,7 @@ use lib.ListN.{length}
 use native.Mathlib.Omega.{arith}
 use borrow.Author.Needs.{needs}
 use Rattle.slots.proofs.Linking.{part-ends, part-at}
+use Rattle.slots.specs.State.{startsIn}
 use Rattle.slots.proofs.links_at.Statement.{statement}
 use Rattle.slots.proofs.links_at.Tie as tie
 
@@ -11,7 +12,7 @@ ends : (c : tie.After-wide2)
     → (c .before .before .wide .result ≤ c .wide2 .result) × (c .wide2 .result ≤ length (c .before .before .before .before .before .args .links .now))
 ends c =
     let s = c .before .before .before .before .before in
-    part-ends (s .args .links .now) (s .args .starts .now) (s .args .at .0) (s .pre) (c .before .before .wide .result) (c .wide2 .result)
+    part-ends (s .args .links .now) (startsIn (s .args .state .now)) (s .args .at .0) (s .pre) (c .before .before .wide .result) (c .wide2 .result)
     (c .before .before .wide .ensures) (c .wide2 .ensures)
 
 sub-result : tie.Need-sub-result
@@ -27,7 +28,7 @@ returns : tie.Need-returns
 returns c =
     let d = c .before in
     let s = d .before .before .before .before .before in
-    part-at (s .args .links .now) (s .args .starts .now) (s .args .at .0) (d .before .before .wide .result) (d .wide2 .result)
+    part-at (s .args .links .now) (startsIn (s .args .state .now)) (s .args .at .0) (d .before .before .wide .result) (d .wide2 .result)
     (d .before .before .wide .ensures) (d .wide2 .ensures)
 
 pub links-at-spec : {M : Type 1} → statement M
@@ -36,7 +37,9 @@ links-at-spec =
     (tie.spec
     (λ c. search needs)
     (λ c. search needs)
+    (λ c. search needs)
     (λ c κs. search needs)
+    (λ c. search needs)
     (λ c. search needs)
     (λ c. search needs)
     (λ c. search needs)

@@ -25,4 +25,5 @@ label-of-spec =
     cast-t6
     (λ c. search needs)
     (λ c. search needs)
+    (λ c. search needs)
     (λ c. search needs))

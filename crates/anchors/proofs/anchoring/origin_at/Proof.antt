@@ -11,19 +11,20 @@ use Rattle.rules.specs.Layout.{origin}
 use Rattle.rules.specs.Names.{Key}
 use Rattle.expression.specs.Environment.{keysOf}
 use Rattle.slots.specs.Slots.{written}
-use Rattle.image.specs.Tables.{Tables, tables, program}
+use Rattle.image.specs.Tables.{Tables, tablesOf, program}
 use Rattle.asm.specs.Belonging.{originAs}
 use Rattle.asm.proofs.Carrying.{positioned-any}
 use Rattle.patterns.specs.Targets.{standsAt, formIn}
 use Rattle.anchors.specs.Anchored.{constantValue}
 use Rattle.anchors.proofs.Targets.{origin-other, origin-change, own-target, origin-target}
+use Rattle.slots.specs.State.{startsIn, formsIn, carryIn, ownersIn, offsetsIn}
 use Rattle.anchors.proofs.anchoring.origin_at.Statement.{statement}
 use Rattle.anchors.proofs.anchoring.origin_at.Tie as tie
 
 module _ (s : tie.Start) where
   abbrev here : Tables
   here =
-      tables (s .args .frames .now) (s .args .starts .now) (s .args .count) (s .args .forms .now) (s .args .carry .now) (s .args .bare .now) (s .args .none .now)
+      tablesOf (s .args .frames .now) (s .args .state .now) (s .args .count)
       (s .args .links .now) (s .args .values .now) (s .args .positions .now)
 
   abbrev place : ℕ
@@ -39,7 +40,7 @@ form-at-requires c κs = c .before .pre .0 .sound .held
 tested : (c : tie.After-is-transfer) → let s = c .before .before .before in c .is-transfer .result ≡ isTransfer (formIn (standsAt (here s .slots) (place s)))
 tested c =
     let s = c .before .before .before in
-    c .is-transfer .ensures ∙ ap isTransfer (c .before .form-at .ensures (s .args .carry .now) (s .args .bare .now) (s .args .none .now))
+    c .is-transfer .ensures ∙ ap isTransfer (c .before .form-at .ensures (carryIn (s .args .state .now)) (ownersIn (s .args .state .now)) (offsetsIn (s .args .state .now)))
 
 returns : tie.Need-returns
 returns c =
@@ -72,7 +73,7 @@ value-origin-requires : tie.Need-value-origin-requires
 value-origin-requires c κs =
     let s = c .before .before .before .before .before .before .before in (
       s .pre .0 .sound .held,
-      positioned-any (s .args .frames .now) (s .args .starts .now) (s .args .count) (s .args .forms .now) (s .args .carry .now) (s .args .bare .now) (s .args .none .now)
+      positioned-any (s .args .frames .now) (startsIn (s .args .state .now)) (s .args .count) (formsIn (s .args .state .now)) (carryIn (s .args .state .now)) (ownersIn (s .args .state .now)) (offsetsIn (s .args .state .now))
           (s .args .positions .now) (s .pre .0 .position),
     )
 
@@ -83,7 +84,7 @@ returns-3 c =
     let m = j .before in
     let s = m .before .before .before .before in
     let d = here s in
-    let f = c .value-origin .ensures (s .args .carry .now) (s .args .bare .now) (s .args .none .now) in
+    let f = c .value-origin .ensures (carryIn (s .args .state .now)) (ownersIn (s .args .state .now)) (offsetsIn (s .args .state .now)) in
     record {
       answer =
           f .answer

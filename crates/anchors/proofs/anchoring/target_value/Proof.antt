@@ -20,13 +20,14 @@ use Rattle.patterns.proofs.Instructions.{target-reads}
 use Rattle.patterns.proofs.Naming.{last-lengths}
 use Rattle.anchors.specs.Anchored.{constantValue}
 use Rattle.anchors.proofs.Targets.{last-linked}
+use Rattle.slots.specs.State.{startsIn}
 use Rattle.anchors.proofs.anchoring.target_value.Statement.{statement}
 use Rattle.anchors.proofs.anchoring.target_value.Tie as tie
 
 -- the target's expression
 target : (s : tie.Start)
-    → (e : Expr) × Reads (lastBytes (frameAt (s .args .frames .now) (s .args .starts .now) (s .args .at .0))) e
-    × (lastOf (argsOf (inputAt (s .args .frames .now) (s .args .starts .now) (s .args .at .0))) ≡ value e)
+    → (e : Expr) × Reads (lastBytes (frameAt (s .args .frames .now) (startsIn (s .args .state .now)) (s .args .at .0))) e
+    × (lastOf (argsOf (inputAt (s .args .frames .now) (startsIn (s .args .state .now)) (s .args .at .0))) ≡ value e)
 target s = target-reads _ _ _ (s .pre .0) (s .args .at .0) (s .pre .1)
 
 module _ (s : tie.Start) where
@@ -67,7 +68,7 @@ linked-worth-requires c κs =
     let s = d .before .before .before in (
       omega (arith, inside s, s .pre .0 .few),
       rw (d .target-in .ensures, c .target-links .ensures)
-          (last-lengths _ _ (length-beside (s .args .frames .now) (s .args .starts .now) (s .args .count) (s .pre .0) (s .args .links .now) (s .pre .2) (s .args .at .0) (s .pre .1 .inside))),
+          (last-lengths _ _ (length-beside (s .args .frames .now) (startsIn (s .args .state .now)) (s .args .count) (s .pre .0) (s .args .links .now) (s .pre .2) (s .args .at .0) (s .pre .1 .inside))),
     )
 
 returns-2 : tie.Need-returns-2

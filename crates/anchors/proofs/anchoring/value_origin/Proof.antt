@@ -12,11 +12,12 @@ use Rattle.expression.proofs.Signed.{at32}
 use Rattle.slots.specs.Slots.{Slots, slots, programOf}
 use Rattle.asm.specs.Belonging.{originAs}
 use Rattle.anchors.proofs.Targets.{not-negative, origin-negative, origin-address}
+use Rattle.slots.specs.State.{startsIn, formsIn}
 use Rattle.anchors.proofs.anchoring.value_origin.Statement.{statement}
 use Rattle.anchors.proofs.anchoring.value_origin.Tie as tie
 
 abbrev over : (s : tie.Start) (carry owners offsets : List ℕ) → Slots
-over s carry owners offsets = slots (s .args .frames .now) (s .args .starts .now) (s .args .count) (s .args .forms .now) carry owners offsets
+over s carry owners offsets = slots (s .args .frames .now) (startsIn (s .args .state .now)) (s .args .count) (formsIn (s .args .state .now)) carry owners offsets
 
 -- a value that was passed on is read back from its bits
 as-passed : (c : tie.After-known-told) → at32 (c .before .x .given .0 .0) ≡ c .before .x .given .0 .0

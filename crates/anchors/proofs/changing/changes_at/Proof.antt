@@ -8,16 +8,17 @@ use lib.ListN.{getD}
 use borrow.Author.Tests.{not-true, not-false}
 use Rattle.laws.proofs.Tests.{first-false}
 use Rattle.rules.specs.Forms.{not1}
-use Rattle.image.specs.Tables.{Tables, tables}
+use Rattle.image.specs.Tables.{Tables, tablesOf}
 use Rattle.patterns.specs.Targets.{standsAt, formIn}
 use Rattle.anchors.proofs.Jumps.{changes-not, changes-is}
+use Rattle.slots.specs.State.{carryIn, ownersIn, offsetsIn}
 use Rattle.anchors.proofs.changing.changes_at.Statement.{statement}
 use Rattle.anchors.proofs.changing.changes_at.Tie as tie
 
 module _ (s : tie.Start) where
   abbrev here : Tables
   here =
-      tables (s .args .frames .now) (s .args .starts .now) (s .args .count) (s .args .forms .now) (s .args .carry .now) (s .args .owners .now) (s .args .offsets .now)
+      tablesOf (s .args .frames .now) (s .args .state .now) (s .args .count)
       (s .args .links .now) (s .args .values .now) (s .args .positions .now)
 
   abbrev jump : ℕ
@@ -34,7 +35,7 @@ form-at-requires c κs = c .before .pre .0 .sound .held
 
 -- the form, as the program has it
 form-is : (c : tie.After-form-at) → let s = c .before .before in c .form-at .result ≡ formIn (standsAt (here s .slots) (place s))
-form-is c = let s = c .before .before in c .form-at .ensures (s .args .carry .now) (s .args .owners .now) (s .args .offsets .now)
+form-is c = let s = c .before .before in c .form-at .ensures (carryIn (s .args .state .now)) (ownersIn (s .args .state .now)) (offsetsIn (s .args .state .now))
 
 returns : tie.Need-returns
 returns c =

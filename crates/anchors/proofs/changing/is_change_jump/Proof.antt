@@ -7,17 +7,18 @@ use borrow.Author.Needs.{needs}
 use Rattle.rules.specs.Programs.{at}
 use Rattle.rules.specs.Rewriting.{changesAt, isChangeJump}
 use Rattle.rules.specs.Rewriting.{nearest as nearestPlace}
-use Rattle.image.specs.Tables.{Tables, tables, program}
+use Rattle.image.specs.Tables.{Tables, tablesOf, program}
 use Rattle.patterns.specs.Targets.{standsAt, formIn}
 use Rattle.anchors.specs.Changes.{nearestAs}
 use Rattle.anchors.proofs.Jumps.{nearest-inside, found-at, found-none, jump-not, jump-is}
+use Rattle.slots.specs.State.{carryIn, ownersIn, offsetsIn}
 use Rattle.anchors.proofs.changing.is_change_jump.Statement.{statement}
 use Rattle.anchors.proofs.changing.is_change_jump.Tie as tie
 
 module _ (s : tie.Start) where
   abbrev here : Tables
   here =
-      tables (s .args .frames .now) (s .args .starts .now) (s .args .count) (s .args .forms .now) (s .args .carry .now) (s .args .owners .now) (s .args .offsets .now)
+      tablesOf (s .args .frames .now) (s .args .state .now) (s .args .count)
       (s .args .links .now) (s .args .values .now) (s .args .positions .now)
 
   abbrev place : ℕ
@@ -27,7 +28,7 @@ form-at-requires : tie.Need-form-at-requires
 form-at-requires c κs = c .before .pre .0 .sound .held
 
 form-is : (c : tie.After-form-at) → let s = c .before .before in c .form-at .result ≡ formIn (standsAt (here s .slots) (place s))
-form-is c = let s = c .before .before in c .form-at .ensures (s .args .carry .now) (s .args .owners .now) (s .args .offsets .now)
+form-is c = let s = c .before .before in c .form-at .ensures (carryIn (s .args .state .now)) (ownersIn (s .args .state .now)) (offsetsIn (s .args .state .now))
 
 returns : tie.Need-returns
 returns c =
@@ -51,7 +52,7 @@ decided c =
 
 -- the answer, as the definition has it
 nearest-is : (c : tie.After-nearest) → let s = c .before .before .before .before in c .nearest .result ≡ nearestAs (nearestPlace (program (here s)) (place s))
-nearest-is c = let s = c .before .before .before .before in c .nearest .ensures (s .args .carry .now) (s .args .owners .now) (s .args .offsets .now)
+nearest-is c = let s = c .before .before .before .before in c .nearest .ensures (carryIn (s .args .state .now)) (ownersIn (s .args .state .now)) (offsetsIn (s .args .state .now))
 
 found : (c : tie.After-known-told) →
     let s = c .before .before .before .before .before .before .before in

@@ -11,15 +11,16 @@ use Rattle.slots.specs.Slots.{Slots, slots, programOf}
 use Rattle.image.proofs.Worths.{at-program}
 use Rattle.anchors.specs.Changes.{nearestAs}
 use Rattle.anchors.proofs.Jumps.{nearest-here, nearest-below, nearest-end}
+use Rattle.slots.specs.State.{startsIn, formsIn}
 use Rattle.anchors.proofs.changing.nearest.Statement.{statement}
 use Rattle.anchors.proofs.changing.nearest.Tie as tie
 
 abbrev Inv-loop : tie.InvT-loop
-Inv-loop frames starts count forms j₀ j =
-    (j ≤ count) × ((carry owners offsets : List ℕ) → let t : Slots = slots frames starts count forms carry owners offsets in nearestPlace (programOf t) j₀ ≡ nearestPlace (programOf t) j)
+Inv-loop frames state count j₀ j =
+    (j ≤ count) × ((carry owners offsets : List ℕ) → let t : Slots = slots frames (startsIn state) count (formsIn state) carry owners offsets in nearestPlace (programOf t) j₀ ≡ nearestPlace (programOf t) j)
 
 abbrev μ-loop : tie.MeasureT-loop
-μ-loop frames starts count forms j₀ j = j
+μ-loop frames state count j₀ j = j
 
 loop-holds : tie.Need-loop-holds Inv-loop μ-loop
 loop-holds c = (omega (arith, c .before .pre .1), λ carry owners offsets. refl)
@@ -36,7 +37,7 @@ module _ (c : tie.After-skipped-at Inv-loop μ-loop) (carry owners offsets : Lis
   start = c .before .before .before .before
 
   abbrev here : Slots
-  here = slots (start .args .frames .now) (start .args .starts .now) (start .args .count) (start .args .forms .now) carry owners offsets
+  here = slots (start .args .frames .now) (startsIn (start .args .state .now)) (start .args .count) (formsIn (start .args .state .now)) carry owners offsets
 
   abbrev j : ℕ
   j = c .before .before .loop .j
@@ -73,7 +74,7 @@ returns-2 c carry owners offsets =
     sym
     (ap nearestAs
     (l .inv .1 carry owners offsets
-    ∙ nearest-end (programOf (slots (s .args .frames .now) (s .args .starts .now) (s .args .count) (s .args .forms .now) carry owners offsets)) (l .j) (omega (arith, c .loop-test .left))))
+    ∙ nearest-end (programOf (slots (s .args .frames .now) (startsIn (s .args .state .now)) (s .args .count) (formsIn (s .args .state .now)) carry owners offsets)) (l .j) (omega (arith, c .loop-test .left))))
 
 pub nearest-spec : {M : Type 1} → statement M
 nearest-spec =

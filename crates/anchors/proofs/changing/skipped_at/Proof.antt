@@ -9,12 +9,13 @@ use Rattle.laws.proofs.Tests.{cond-true, cond-false}
 use Rattle.rules.specs.Programs.{Stmt, kindOf}
 use Rattle.slots.specs.Slots.{slots, slotAt}
 use Rattle.anchors.proofs.Jumps.{skipped-kind}
+use Rattle.slots.specs.State.{startsIn, formsIn}
 use Rattle.anchors.proofs.changing.skipped_at.Statement.{statement}
 use Rattle.anchors.proofs.changing.skipped_at.Tie as tie
 
 -- the statement of a start, with the tables on which no kind depends
 abbrev here : (c : tie.Start) (carry owners offsets : List ℕ) → Stmt
-here c carry owners offsets = slotAt (slots (c .args .frames .now) (c .args .starts .now) (c .args .count) (c .args .forms .now) carry owners offsets) (c .args .at .0)
+here c carry owners offsets = slotAt (slots (c .args .frames .now) (startsIn (c .args .state .now)) (c .args .count) (formsIn (c .args .state .now)) carry owners offsets) (c .args .at .0)
 
 kind-at-requires : tie.Need-kind-at-requires
 kind-at-requires c κs = search needs

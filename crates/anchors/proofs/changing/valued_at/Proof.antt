@@ -7,7 +7,7 @@ use borrow.Author.Needs.{needs}
 use borrow.Author.Tests.{not-true, not-false}
 use Rattle.laws.proofs.Tests.{first-false}
 use Rattle.rules.specs.Values.{isNumber}
-use Rattle.image.specs.Tables.{Tables, tables}
+use Rattle.image.specs.Tables.{Tables, tables, tablesOf}
 use Rattle.anchors.proofs.Jumps.{worthAt, not1-kind, not1-operands, valued-is}
 use Rattle.anchors.proofs.changing.valued_at.Statement.{statement}
 use Rattle.anchors.proofs.changing.valued_at.Tie as tie
@@ -15,7 +15,7 @@ use Rattle.anchors.proofs.changing.valued_at.Tie as tie
 module _ (s : tie.Start) where
   abbrev here : Tables
   here =
-      tables (s .args .frames .now) (s .args .starts .now) (s .args .count) (s .args .forms .now) (s .args .carry .now) (s .args .owners .now) (s .args .offsets .now)
+      tablesOf (s .args .frames .now) (s .args .state .now) (s .args .count)
       (s .args .links .now) (s .args .values .now) (s .args .positions .now)
 
   abbrev place : ℕ

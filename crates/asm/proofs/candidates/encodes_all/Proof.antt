@@ -2,7 +2,7 @@
 use mathlib.Core.Path.{sym, _∙_}
 use borrow.Author.Needs.{needs}
 use borrow.Author.Tests.{not-true}
-use Rattle.image.specs.Tables.{Tables, tables}
+use Rattle.image.specs.Tables.{Tables, tablesOf}
 use Rattle.image.specs.Encoding.{encodeSlots}
 use Rattle.image.proofs.Passes.{slot-fails, passes-is, refused-is}
 use Rattle.asm.proofs.candidates.encodes_all.Statement.{statement}
@@ -10,7 +10,7 @@ use Rattle.asm.proofs.candidates.encodes_all.Tie as tie
 
 abbrev here : tie.Start → Tables
 here s =
-    tables (s .args .frames .now) (s .args .starts .now) (s .args .count) (s .args .forms .now) (s .args .carry .now) (s .args .owners .now) (s .args .offsets .now)
+    tablesOf (s .args .frames .now) (s .args .state .now) (s .args .count)
     (s .args .links .now) (s .args .values .now) (s .args .positions .now)
 
 encodes-at-requires : tie.Need-encodes-at-requires

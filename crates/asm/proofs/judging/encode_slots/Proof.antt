@@ -3,7 +3,7 @@ use mathlib.Core.List.{List}
 use Prim.Native.Nat.{ℕ}
 use borrow.Author.Needs.{needs}
 use Rattle.rules.specs.Answers.{Judged}
-use Rattle.image.specs.Tables.{tables}
+use Rattle.image.specs.Tables.{tablesOf}
 use Rattle.image.specs.Encoding.{encodeSlots}
 use Rattle.asm.proofs.Ending.{passes-verdict, refused-verdict}
 use Rattle.asm.proofs.judging.encode_slots.Statement.{statement}
@@ -13,7 +13,7 @@ use Rattle.asm.proofs.judging.encode_slots.Tie as tie
 abbrev asked : (c : tie.Start) → Judged (List ℕ)
 asked c =
     encodeSlots
-    (tables (c .args .frames .now) (c .args .starts .now) (c .args .count) (c .args .forms .now) (c .args .carry .now) (c .args .owners .now) (c .args .offsets .now)
+    (tablesOf (c .args .frames .now) (c .args .state .now) (c .args .count)
     (c .args .links .now) (c .args .values .now) (c .args .positions .now))
 
 encode-all-requires : tie.Need-encode-all-requires

@@ -8,14 +8,15 @@ use Rattle.slots.specs.Slots.{Slots, slots, programOf}
 use Rattle.asm.proofs.Finds.{whole-placed}
 use Rattle.asm.proofs.Passing.{twice-refused, once-passes, prepared-refused}
 use Rattle.asm.proofs.Ending.{judged-refused}
+use Rattle.slots.specs.State.{startsIn, formsIn, carryIn, ownersIn, offsetsIn}
 use Rattle.asm.proofs.judging.judge.Statement.{statement}
 use Rattle.asm.proofs.judging.judge.Tie as tie
 
 abbrev over : (c : tie.Start) → (carry owners offsets : List ℕ) → Slots
-over c carry owners offsets = slots (c .args .frames .now) (c .args .starts .now) (c .args .count) (c .args .forms .now) carry owners offsets
+over c carry owners offsets = slots (c .args .frames .now) (startsIn (c .args .state .now)) (c .args .count) (formsIn (c .args .state .now)) carry owners offsets
 
 abbrev here : (c : tie.Start) → Slots
-here c = over c (c .args .carry .now) (c .args .owners .now) (c .args .offsets .now)
+here c = over c (carryIn (c .args .state .now)) (ownersIn (c .args .state .now)) (offsetsIn (c .args .state .now))
 
 judge-linked-requires : tie.Need-judge-linked-requires
 judge-linked-requires c κs =
@@ -24,7 +25,7 @@ judge-linked-requires c κs =
     let s = n .before .before .before in (
       s .pre .0,
       s .pre .1,
-      once-passes (programOf (here s)) (sym (e .enum-told .given .1) ∙ n .find-names .ensures .0 (s .args .carry .now) (s .args .owners .now) (s .args .offsets .now)),
+      once-passes (programOf (here s)) (sym (e .enum-told .given .1) ∙ n .find-names .ensures .0 (carryIn (s .args .state .now)) (ownersIn (s .args .state .now)) (offsetsIn (s .args .state .now))),
       n .find-names .ensures .1 .0 (e .enum-told .given .1),
       s .pre .3,
       s .pre .4,
@@ -38,7 +39,7 @@ returns c =
     let t = here s in
     let q = c .before .r .given .0 .0 in (
       judged-refused t _ _ _ _ q
-          (prepared-refused t _ _ _ q (twice-refused (programOf t) q (sym (c .before .r .given .1) ∙ n .find-names .ensures .0 (s .args .carry .now) (s .args .owners .now) (s .args .offsets .now))))
+          (prepared-refused t _ _ _ q (twice-refused (programOf t) q (sym (c .before .r .given .1) ∙ n .find-names .ensures .0 (carryIn (s .args .state .now)) (ownersIn (s .args .state .now)) (offsetsIn (s .args .state .now)))))
           refl,
       λ z. absurd (let w : _≡_ {A = ℕ} 0 1 = cc in omega arith),
     )

@@ -9,15 +9,16 @@ use Rattle.env.specs.Tables.{Named}
 use Rattle.env.proofs.Once.{one-at-most}
 use Rattle.asm.proofs.Finds.{beside-of}
 use Rattle.asm.proofs.Passing.{once-passes, named-of}
+use Rattle.slots.specs.State.{startsIn, formsIn}
 use Rattle.asm.proofs.names.find_names.Statement.{statement}
 use Rattle.asm.proofs.names.find_names.Tie as tie
 
 abbrev over : (c : tie.Start) → (carry owners offsets : List ℕ) → Slots
-over c carry owners offsets = slots (c .args .frames .now) (c .args .starts .now) (c .args .count) (c .args .forms .now) carry owners offsets
+over c carry owners offsets = slots (c .args .frames .now) (startsIn (c .args .state .now)) (c .args .count) (formsIn (c .args .state .now)) carry owners offsets
 
 -- the tables of the names, whatever targets the slots carry
 named : (f : tie.After-fill-names) (carry owners offsets : List ℕ)
-    → Named (programOf (over (f .before .before .before) carry owners offsets)) (f .before .before .before .args .count) (f .fill-names .last .1 .1 .1 .1 .0) (f .before .before .before .args .contexts .now)
+    → Named (programOf (over (f .before .before .before) carry owners offsets)) (f .before .before .before .args .count) (f .fill-names .last .1 .1 .1 .0) (f .before .before .before .args .contexts .now)
 named f carry owners offsets =
     let s = f .before .before .before in
     named-of (over s carry owners offsets) _ _ _ (f .fill-names .ensures .1 carry owners offsets) (s .pre .2 carry owners offsets .0)

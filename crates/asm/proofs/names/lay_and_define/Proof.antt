@@ -7,12 +7,13 @@ use Rattle.slots.specs.Slots.{Slots, slots, programOf}
 use Rattle.env.proofs.Filled.{filled-laid}
 use Rattle.env.proofs.Telling.{named-now}
 use Rattle.asm.proofs.Passing.{fit-refused, prepared-refused, prepared-last}
+use Rattle.slots.specs.State.{startsIn, formsIn}
 use Rattle.asm.proofs.names.lay_and_define.Statement.{statement}
 use Rattle.asm.proofs.names.lay_and_define.Tie as tie
 
 -- the slots of a start, with the tables that no name depends on
 abbrev over : (c : tie.Start) → (carry owners offsets : List ℕ) → Slots
-over c carry owners offsets = slots (c .args .frames .now) (c .args .starts .now) (c .args .count) (c .args .forms .now) carry owners offsets
+over c carry owners offsets = slots (c .args .frames .now) (startsIn (c .args .state .now)) (c .args .count) (formsIn (c .args .state .now)) carry owners offsets
 
 lay-out-requires : tie.Need-lay-out-requires
 lay-out-requires c κs = search needs

@@ -9,18 +9,19 @@ use Rattle.expression.specs.Sound.{AreBytes}
 use Rattle.slots.specs.Slots.{Slots, slots, programOf}
 use Rattle.env.specs.Tables.{Any}
 use Rattle.asm.proofs.Finding.{fromPlace, from-start, has-from, found-none, found-here, found-later}
+use Rattle.slots.specs.State.{startsIn, formsIn}
 use Rattle.asm.proofs.origins.origin_of.Statement.{statement}
 use Rattle.asm.proofs.origins.origin_of.Tie as tie
 
 abbrev Inv-loop : tie.InvT-loop
-Inv-loop frames starts count forms positions address i₀ i =
-    (i ≤ count) × Any frames starts count forms (λ t. originFrom 0 0 (programOf t) (address .0) ≡ fromPlace (programOf t) (address .0) i)
+Inv-loop frames state count positions address i₀ i =
+    (i ≤ count) × Any frames (startsIn state) count (formsIn state) (λ t. originFrom 0 0 (programOf t) (address .0) ≡ fromPlace (programOf t) (address .0) i)
 
 abbrev μ-loop : tie.MeasureT-loop
-μ-loop frames starts count forms positions address i₀ i = count - i
+μ-loop frames state count positions address i₀ i = count - i
 
 abbrev over : (s : tie.Start Inv-loop μ-loop) → (carry owners offsets : List ℕ) → Slots
-over s carry owners offsets = slots (s .args .frames .now) (s .args .starts .now) (s .args .count) (s .args .forms .now) carry owners offsets
+over s carry owners offsets = slots (s .args .frames .now) (startsIn (s .args .state .now)) (s .args .count) (formsIn (s .args .state .now)) carry owners offsets
 
 -- behind the test at place i
 module _ (c : tie.After-has-byte Inv-loop μ-loop) where
@@ -63,8 +64,8 @@ size-at-requires c κs = let t = c .before .before in (t .before .before .before
 has-byte-requires : tie.Need-has-byte-requires Inv-loop μ-loop
 has-byte-requires c κs = search needs
 
-sub-t18 : tie.Need-sub-t18 Inv-loop μ-loop
-sub-t18 c =
+sub-t17 : tie.Need-sub-t17 Inv-loop μ-loop
+sub-t17 c =
     let b = c .before .before .before in
     has-from _ _ _ (sym (b .has-byte .ensures) ∙ c .before .before .if1 .taken)
 
@@ -111,7 +112,7 @@ origin-of-spec =
     position-in-requires
     size-at-requires
     has-byte-requires
-    sub-t18
+    sub-t17
     returns
     add-i
     loop-less

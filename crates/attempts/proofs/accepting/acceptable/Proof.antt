@@ -1,12 +1,13 @@
 -- `attempts::accepting::acceptable` meets its contract: the definition's two tests, the second first, which leaves the positions.
 use borrow.Author.Needs.{needs}
-use Rattle.slots.specs.Slots.{Slots, slots, programOf}
+use Rattle.slots.specs.Slots.{Slots, programOf}
 use Rattle.attempts.proofs.Attempts.{counts-not, counts-if}
+use Rattle.slots.specs.State.{tableOf}
 use Rattle.attempts.proofs.accepting.acceptable.Statement.{statement}
 use Rattle.attempts.proofs.accepting.acceptable.Tie as tie
 
 abbrev over : (c : tie.Start) → Slots
-over c = slots (c .args .frames .now) (c .args .starts .now) (c .args .count) (c .args .forms .now) (c .args .carry .now) (c .args .owners .now) (c .args .offsets .now)
+over c = tableOf (c .args .frames .now) (c .args .state .now) (c .args .count)
 
 assembles-requires : tie.Need-assembles-requires
 assembles-requires c κs =

@@ -4,23 +4,24 @@ use mathlib.Core.List.{List}
 use Prim.Native.Nat.{ℕ, _-_, _≤_, max}
 use native.Mathlib.Omega.{arith}
 use lib.ListN.{length, getD, length-replicate}
-use Rattle.slots.specs.Slots.{Slots, slots}
+use Rattle.slots.specs.Slots.{Slots}
 use Rattle.attempts.specs.Deepest.{wantedOf, deepestTo}
 use Rattle.attempts.proofs.Depths.{none-yet, one-more, owner-within}
+use Rattle.slots.specs.State.{tableOf}
 use Rattle.attempts.proofs.deepest.fill_deepest.Statement.{statement}
 use Rattle.attempts.proofs.deepest.fill_deepest.Tie as tie
 
 abbrev Inv-loop : tie.InvT-loop
-Inv-loop frames starts count forms carry owners offsets deepest₀ j₀ deepest j =
+Inv-loop frames state count deepest₀ j₀ deepest j =
     (j ≤ count)
     × (length deepest ≡ 1024)
-    × ((i : ℕ) → getD deepest i 0 ≡ deepestTo (slots frames starts count forms carry owners offsets) i j)
+    × ((i : ℕ) → getD deepest i 0 ≡ deepestTo (tableOf frames state count) i j)
 
 abbrev μ-loop : tie.MeasureT-loop
-μ-loop frames starts count forms carry owners offsets deepest₀ j₀ deepest j = count - j
+μ-loop frames state count deepest₀ j₀ deepest j = count - j
 
 abbrev over : (c : tie.Start Inv-loop μ-loop) → Slots
-over c = slots (c .args .frames .now) (c .args .starts .now) (c .args .count) (c .args .forms .now) (c .args .carry .now) (c .args .owners .now) (c .args .offsets .now)
+over c = tableOf (c .args .frames .now) (c .args .state .now) (c .args .count)
 
 loop-holds : tie.Need-loop-holds Inv-loop μ-loop
 unfolding deepestTo

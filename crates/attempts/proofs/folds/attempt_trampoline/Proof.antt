@@ -1,55 +1,52 @@
--- `attempts::folds::attempt_trampoline` meets its contract: the edited tables hold the candidate, and the old numbers put back are the old tables.
-use Prim.Native.Nat.{ℕ}
-use mathlib.Core.Path.{refl}
+-- `attempts::folds::attempt_trampoline` meets its contract: the edited state holds the candidate, and the old numbers put back are the old slots.
+use Prim.Native.Nat.{ℕ, _<_}
+use mathlib.Core.Path.{_≡_, refl, ap, ap₂, _∙_}
 use mathlib.Core.List.{List}
-use lib.ListN.{getD, set}
+use lib.ListN.{length, getD, set}
 use native.Mathlib.Omega.{arith}
 use borrow.Author.Needs.{needs}
-use Rattle.laws.proofs.Stores.{set-back}
+use Rattle.laws.proofs.Stores.{undone}
 use Rattle.rules.specs.Programs.{Program}
-use Rattle.slots.specs.Slots.{Slots, slots}
+use Rattle.slots.specs.Slots.{Slots}
+use Rattle.slots.specs.State.{formsIn, carryIn, tableOf, Kept}
+use Rattle.slots.proofs.State.{kept-more}
 use Rattle.attempts.specs.Folds.{bounced}
-use Rattle.attempts.proofs.Attempts.{Holding, bounced-holds, tried-kept, tried-none, tried-back, undone-three}
+use Rattle.attempts.proofs.Attempts.{Holding, bounced-holds, held-kept, beside-kept, table-same, tried-kept, tried-none, tried-back, undone-three}
 use Rattle.attempts.proofs.folds.attempt_trampoline.Statement.{statement}
 use Rattle.attempts.proofs.folds.attempt_trampoline.Tie as tie
 
-abbrev with : (c : tie.Start) (forms carry : List ℕ) → Slots
-with c forms carry = slots (c .args .frames .now) (c .args .starts .now) (c .args .count) forms carry (c .args .owners .now) (c .args .offsets .now)
+-- the four places are within the state
+module _ (s : tie.Start) where
+  at-in : s .args .at .0 < 1024
+  at-in = omega (arith, s .pre .0 .sound .held .few, s .pre .1 .branches .inside)
 
-element-copy-out-skipped : tie.Need-element-copy-out-skipped
-element-copy-out-skipped c = search needs
+  skip-in : s .args .skip .0 < 1024
+  skip-in = omega (arith, s .pre .0 .sound .held .few, s .pre .1 .skips .inside)
 
-element-copy-out-label : tie.Need-element-copy-out-label
-element-copy-out-label c = search needs
+  last-in : s .args .last .0 < 1024
+  last-in = omega (arith, s .pre .0 .sound .held .few, s .pre .1 .jumps .inside)
 
-element-copy-out-jumped : tie.Need-element-copy-out-jumped
-element-copy-out-jumped c = search needs
-
-mul-own : tie.Need-mul-own
-mul-own c = search needs
-
-element-copy-out-own : tie.Need-element-copy-out-own
-element-copy-out-own c = search needs
-
-mul-from : tie.Need-mul-from
-mul-from c = search needs
-
-element-copy-out-from : tie.Need-element-copy-out-from
-element-copy-out-from c = search needs
+  target-in : s .args .target .0 < 1024
+  target-in = omega (arith, last-in, s .pre .1 .last-rises)
 
 put-three-requires : tie.Need-put-three-requires
-put-three-requires c κs = search needs
+put-three-requires c κs =
+    let s = c .before .before .before .before .before .before .before .before .before .before in
+    (s .pre .0 .forms-full, skip-in s, target-in s, last-in s)
 
-mul-carry : tie.Need-mul-carry
-mul-carry c = search needs
-
-element-write-carry : tie.Need-element-write-carry
-element-write-carry c = search needs
+put-carry-requires : tie.Need-put-carry-requires
+put-carry-requires c κs =
+    let p = c .before in
+    let s = p .before .before .before .before .before .before .before .before .before .before .before in
+    (omega (arith, at-in s), ap length (p .put-three .ensures .1) ∙ s .pre .0 .carry-full)
 
 -- the candidate, in place
-module _ (c : tie.After-put-three) where
+module _ (c : tie.After-put-carry) where
+  abbrev three : tie.After-put-three
+  three = c .before .before
+
   abbrev start : tie.Start
-  start = c .before .before .before .before .before .before .before .before
+  start = three .before .before .before .before .before .before .before .before .before .before .before
 
   abbrev i : ℕ
   i = start .args .at .0
@@ -63,73 +60,100 @@ module _ (c : tie.After-put-three) where
   abbrev last : ℕ
   last = start .args .last .0
 
-  abbrev own : List ℕ
-  own = start .args .carry .now
+  abbrev state : List (List ℕ)
+  state = start .args .state .now
+
+  abbrev edited : List (List ℕ)
+  edited = c .put-carry .last .0
 
   abbrev old : Slots
-  old = with start (start .args .forms .now) own
+  old = tableOf (start .args .frames .now) state (start .args .count)
 
   abbrev new : Slots
-  new = with start (c .put-three .last .0) (set own i (getD own last 0))
+  new = tableOf (start .args .frames .now) edited (start .args .count)
 
   abbrev folded : Program
   folded = bounced old (start .args .form) i skip target last
 
+  kept : Kept state edited
+  kept = kept-more state (three .put-three .last .0) edited (three .put-three .ensures .2) (c .put-carry .ensures .kept)
+
+  forms-are : formsIn edited ≡ set (set (set (formsIn state) skip 70) target 70) last 70
+  forms-are = c .put-carry .ensures .forms ∙ three .put-three .ensures .0
+
+  carry-is : carryIn edited ≡ set (carryIn state) i (getD (carryIn state) last 0)
+  carry-is = c .put-carry .ensures .carry ∙ ap (λ (l : List ℕ). set l i (getD (carryIn state) last 0)) (three .put-three .ensures .1)
+
   held : Holding new folded
-  held = bounced-holds _ _ _ _ _ _ _ (start .pre .0) (start .args .form) i skip target last (c .put-three .last .0) (start .pre .1) (c .put-three .ensures)
+  held =
+      held-kept (start .args .frames .now) state edited (start .args .count) kept folded
+      (bounced-holds _ _ _ _ _ _ _ (start .pre .0) (start .args .form) i skip target last (formsIn edited) (carryIn edited) (start .pre .1) forms-are carry-is)
 
 acceptable-requires : tie.Need-acceptable-requires
-acceptable-requires c κs = let p = c .before .before in (held p .stands, start p .pre .1 .branches .inside, start p .pre .2)
+acceptable-requires c κs =
+    let p = c .before in
+    let s = start p in
+    (held p .stands, s .pre .1 .branches .inside, beside-kept (s .args .frames .now) (state p) (edited p) (s .args .count) (kept p) _ (s .pre .2))
 
 returns : tie.Need-returns
 returns c =
     let a = c .before in
-    let p = a .before .before .before in
-    tried-kept (folded p) (old p) (new p) (held p) (a .acceptable .result) (a .acceptable .ensures) (c .if1 .taken)
+    let p = a .before .before in
+    tried-kept (folded p) (old p) (new p) (held p) (a .acceptable .result) (a .acceptable .ensures) (c .if1 .taken) (kept p .starts)
 
 put-three-requires-2 : tie.Need-put-three-requires-2
 put-three-requires-2 c κs =
-    let p = c .before .before .before .before .before in
-    let b = start p .pre .1 in
-    let s = held p .stands in
-    let few = s .sound .held .few in
-    (s .forms-full, omega (arith, b .skips .inside), omega (arith, b .last-rises, b .jumps .inside), omega (arith, b .jumps .inside))
+    let p = c .before .before .before .before in
+    let s = start p in
+    (held p .stands .forms-full, skip-in s, target-in s, last-in s)
 
-mul-carry-2 : tie.Need-mul-carry-2
-mul-carry-2 c = search needs
-
-element-write-carry-2 : tie.Need-element-write-carry-2
-element-write-carry-2 c = search needs
+put-carry-requires-2 : tie.Need-put-carry-requires-2
+put-carry-requires-2 c κs =
+    let t = c .before in
+    let p = t .before .before .before .before .before in
+    (omega (arith, at-in (start p)), ap length (t .put-three2 .ensures .1) ∙ held p .stands .carry-full)
 
 returns-2 : tie.Need-returns-2
 returns-2 c =
-    let f = c .before .before in
+    let t = c .before .before in
+    let f = t .before .before in
     let a = f .before in
-    let p = a .before .before .before in
+    let p = a .before .before in
     let s = start p in
     let b = s .pre .1 in
-    tried-back _ _ _ _ _ _ _ (s .pre .0) _ (c .put-three2 .last .0) (set (set (own p) (i p) (getD (own p) (last p) 0)) (i p) (getD (own p) (i p) 0))
+    let r = c .put-carry2 .last .0 in
+    let one = three p .before .before .before .before .before .before .before .before in
+    let two = three p .before .before .before .before .before .before in
+    let six = three p .before .before .before .before in
+    let back : formsIn r ≡ formsIn (state p) =
+    undone-three (formsIn (state p)) (formsIn (edited p)) (formsIn r) (skip p) (target p) (last p) _ _ _ (b .target-rises) (b .last-rises) (forms-are p)
+    (c .put-carry2 .ensures .forms ∙ t .put-three2 .ensures .0
+    ∙ ap (λ (x : ℕ). set (set (set (formsIn (edited p)) (skip p) x) (target p) (two .form-in2 .result)) (last p) (six .form-in3 .result)) (one .form-in .ensures)
+    ∙ ap₂ (λ (x y : ℕ). set (set (set (formsIn (edited p)) (skip p) (getD (formsIn (state p)) (skip p) 0)) (target p) x) (last p) y) (two .form-in2 .ensures) (six .form-in3 .ensures)) in
+    tried-back _ (old p) _ (s .pre .0)
     (tried-none (folded p) (old p) (new p) (held p) (a .acceptable .result) (a .acceptable .ensures) (f .if1 .left))
-    (undone-three (s .args .forms .now) (p .put-three .last .0) (c .put-three2 .last .0) (skip p) (target p) (last p) _ _ _ (b .target-rises) (b .last-rises) (p .put-three .ensures) (c .put-three2 .ensures))
-    (set-back (own p) (i p) (getD (own p) (last p) 0) (getD (own p) (i p) 0) 0 refl)
+    (table-same (s .args .frames .now) (state p) r (s .args .count)
+    (kept-more (state p) (edited p) r (kept p) (kept-more (edited p) (t .put-three2 .last .0) r (t .put-three2 .ensures .2) (c .put-carry2 .ensures .kept))) back
+    (undone (carryIn (state p)) (carryIn (edited p)) (carryIn r) (i p) _ _ 0 (carry-is p) refl
+    (c .put-carry2 .ensures .carry ∙ ap (λ (l : List ℕ). set l (i p) (getD (carryIn (state p)) (i p) 0)) (t .put-three2 .ensures .1))))
 
 pub attempt-trampoline-spec : {M : Type 1} → statement M
 attempt-trampoline-spec =
     tie.close
     (tie.spec
-    element-copy-out-skipped
-    element-copy-out-label
-    element-copy-out-jumped
-    mul-own
-    element-copy-out-own
-    mul-from
-    element-copy-out-from
+    (λ c κs. omega (arith, skip-in (c .before .before)))
+    (λ c κs. omega (arith, target-in (c .before .before .before .before)))
+    (λ c κs. omega (arith, last-in (c .before .before .before .before .before .before)))
+    (λ c. search needs)
+    (λ c. search needs)
+    (λ c. omega (arith, at-in (c .before .before .before .before .before .before .before)))
+    (λ c. search needs)
+    (λ c. search needs)
+    (λ c. omega (arith, last-in (c .before .before .before .before .before .before .before .before)))
     put-three-requires
-    mul-carry
-    element-write-carry
+    put-carry-requires
     acceptable-requires
     returns
     put-three-requires-2
-    mul-carry-2
-    element-write-carry-2
+    put-carry-requires-2
     returns-2)

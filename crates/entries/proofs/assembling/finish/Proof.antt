@@ -6,16 +6,17 @@ use native.Mathlib.Omega.{arith}
 use lib.ListN.{length}
 use borrow.Author.Needs.{needs}
 use Rattle.rules.specs.Answers.{Judged, ok, orD}
-use Rattle.image.specs.Tables.{Tables, tables}
+use Rattle.image.specs.Tables.{Tables, tablesOf}
 use Rattle.image.specs.Encoding.{encodeSlots}
 use Rattle.image.specs.Image.{imageOf}
 use Rattle.entries.proofs.Rooms.{is-there, leaves-short, leaves-whole}
+use Rattle.slots.specs.State.{carryIn, ownersIn, offsetsIn}
 use Rattle.entries.proofs.assembling.finish.Statement.{statement}
 use Rattle.entries.proofs.assembling.finish.Tie as tie
 
 abbrev here : (c : tie.Start) → Tables
 here c =
-    tables (c .args .frames .now) (c .args .starts .now) (c .args .count) (c .args .forms .now) (c .args .carry .now) (c .args .owners .now) (c .args .offsets .now)
+    tablesOf (c .args .frames .now) (c .args .state .now) (c .args .count)
     (c .args .links .now) (c .args .values .now) (c .args .positions .now)
 
 there : (c : tie.Start) → encodeSlots (here c) ≡ ok (imageOf (here c))
@@ -26,7 +27,7 @@ there c = is-there (encodeSlots (here c)) (c .pre .1)
 counted : (c : tie.After-image-length) → c .image-length .result ≡ length (imageOf (here (c .before .before .before)))
 counted c =
     let s = c .before .before .before in
-    c .image-length .ensures (s .args .carry .now) (s .args .owners .now) (s .args .offsets .now) (s .args .links .now) (s .args .values .now) (s .pre .0) (s .pre .1)
+    c .image-length .ensures (carryIn (s .args .state .now)) (ownersIn (s .args .state .now)) (offsetsIn (s .args .state .now)) (s .args .links .now) (s .args .values .now) (s .pre .0) (s .pre .1)
 
 image-length-requires : tie.Need-image-length-requires
 image-length-requires c κs = c .before .before .pre .0 .sound .held

@@ -5,18 +5,19 @@ use Prim.Native.Nat.{ℕ, _≤_, _<_}
 use native.Mathlib.Omega.{arith}
 use lib.ListN.{length, getD, drop}
 use borrow.Author.Needs.{needs}
-use Rattle.slots.specs.Slots.{Slots, slots, programOf}
+use Rattle.slots.specs.Slots.{Slots, programOf}
 use Rattle.rules.specs.Answers.{isOk}
 use Rattle.rules.specs.Judging.{judge}
 use Rattle.env.proofs.Programs.{length-program}
 use Rattle.entries.proofs.Rooms.{leaves-refused}
 use Rattle.entries.proofs.Phases.{good-ok, bad-no, leaves-same}
+use Rattle.slots.specs.State.{tableOf}
 use Rattle.entries.proofs.assembling.judge_slots.Statement.{statement}
 use Rattle.entries.proofs.assembling.judge_slots.Tie as tie
 
 abbrev here : (c : tie.Start) → Slots
 here c =
-    slots (c .args .frames .now) (c .args .starts .now) (c .args .count) (c .args .forms .now) (c .args .carry .now) (c .args .owners .now) (c .args .offsets .now)
+    tableOf (c .args .frames .now) (c .args .state .now) (c .args .count)
 
 judge-requires : tie.Need-judge-requires
 judge-requires c κs = search needs

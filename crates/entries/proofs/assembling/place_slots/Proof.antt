@@ -8,6 +8,7 @@ use borrow.Author.Needs.{needs}
 use Rattle.slots.specs.Slots.{Slots, slots, programOf}
 use Rattle.rules.specs.Names.{contextAt}
 use Rattle.env.proofs.Filled.{get-filled}
+use Rattle.slots.specs.State.{startsIn, formsIn}
 use Rattle.entries.proofs.assembling.place_slots.Statement.{statement}
 use Rattle.entries.proofs.assembling.place_slots.Tie as tie
 
@@ -21,7 +22,7 @@ judge-slots-requires c κs =
       s .pre .0,
       s .pre .1,
       λ carry owners offsets.
-          (let t = slots (s .args .frames .now) (s .args .starts .now) (s .args .count) (s .args .forms .now) carry owners offsets in
+          (let t = slots (s .args .frames .now) (startsIn (s .args .state .now)) (s .args .count) (formsIn (s .args .state .now)) carry owners offsets in
           (record { context = λ i l. get-filled (contextAt (programOf t)) (s .args .count) _ _ i 0 (f .fill-contexts .ensures .1 carry owners offsets) l }, s .pre .2)),
     )
 

@@ -1,53 +1,23 @@
--- `entries::optimizing::optimize_jumps` meets its contract, on every input.
-use mathlib.Core.Path.{_≡_, sym, ap, _∙_}
+-- `entries::optimizing::optimize_jumps` meets its contract, on every input: the list's room is never too short.
+use mathlib.Core.Path.{_≡_, sym, ap}
+use Prim.Native.Nat.{ℕ}
+use lib.ListN.{length-replicate}
 use borrow.Author.Needs.{needs}
-use Rattle.rules.specs.Listing.{readListing}
-use Rattle.output.specs.Lines.{besideIn}
-use Rattle.entries.proofs.Phases.{listed-read, listed-refused, beside-read}
-use Rattle.entries.proofs.Results.{answered-unread, answered-read}
+use Rattle.entries.proofs.Listed.{answerFrom, stems-answered}
 use Rattle.entries.proofs.optimizing.optimize_jumps.Statement.{statement}
 use Rattle.entries.proofs.optimizing.optimize_jumps.Tie as tie
 
-optimize-read-requires : tie.Need-optimize-read-requires
-optimize-read-requires c κs =
-    let k = c .before .before .before .before .before .before in
-    let l = c .before .before .before .before .before .before .before .before .read-listing in
-    let s = c .before .before .before .before .before .before .before .before .before .before .before .before .before .before .before .before in
-    listed-read _ _ _ (readListing (s .args .listing .now)) _ (k .n .given .1) (l .ensures .0) .2 .held
+slice-aggregate-optimize-stems : tie.Need-slice-aggregate-optimize-stems
+slice-aggregate-optimize-stems c = search needs
 
-returns : tie.Need-returns
-returns c =
-    let l = c .before .before .before .read-listing in
-    let s = c .before .before .before .before .before .before .before .before .before .before .before in
-    answered-unread (s .args .asked) (s .args .listing .now) (s .args .out .now) (s .args .image .now) _
-    (listed-refused _ _ _ (readListing (s .args .listing .now)) _ (c .before .r .given .1) (l .ensures .0))
-
-returns-2 : tie.Need-returns-2
-returns-2 c =
-    let a = c .before .before .before .before .optimize-read in
-    let k = c .before .before .before .before .before .before .before .before .before .before .before in
-    let l = c .before .before .before .before .before .before .before .before .before .before .before .before .before .read-listing in
-    let s = c .before .before .before .before .before .before .before .before .before .before .before .before .before .before .before .before .before .before .before .before .before in
-    let m = c .before .before .before .before .before .before .before .before .before .before .before .before .before .before .before .before .before .new-form in
-    let text = s .args .listing .now in
-    let h = listed-read _ _ _ (readListing text) _ (k .n .given .1) (l .ensures .0) in
-    let beside = beside-read text (l .last .1 .1 .1 .0) (k .n .given .0 .0) (m .result) (l .result) (k .n .given .1) (m .ensures .1) (l .ensures .1 .0) in
-    answered-read (s .args .asked) text (s .args .out .now) (s .args .image .now) (besideIn (m .result) (l .last .1 .1 .1 .0) (k .n .given .0 .0)) (h .0) _ beside (h .1) (h .2 .input) (a .ensures)
-
-new-form-requires : tie.Need-new-form-requires
-new-form-requires c κs = search needs
-
-read-listing-requires : tie.Need-read-listing-requires
-read-listing-requires c κs = search needs
+optimize-stems-requires : tie.Need-optimize-stems-requires
+optimize-stems-requires c κs = search needs
 
 enum-known-r : tie.Need-enum-known-r
 enum-known-r c = search needs
 
-enum-known-n : tie.Need-enum-known-n
-enum-known-n c = search needs
-
-slice-aggregate-optimize-read : tie.Need-slice-aggregate-optimize-read
-slice-aggregate-optimize-read c = search needs
+enum-known-sizes : tie.Need-enum-known-sizes
+enum-known-sizes c = search needs
 
 same-length : tie.Need-same-length
 same-length c = search needs
@@ -55,17 +25,37 @@ same-length c = search needs
 same-length-2 : tie.Need-same-length-2
 same-length-2 c = search needs
 
+returns : tie.Need-returns
+returns c =
+    let o = c .before .before .before .before .before .before .before .before in
+    let s = o .before .before .before .before .before .before .before in
+    stems-answered (s .args .asked) (s .args .listing .now) _ _ _ _ _ _ _ _ (length-replicate {A = ℕ} 2048 0) (sym (ap answerFrom (c .before .r .given .1)))
+    (o .optimize-stems .ensures)
+
+same-length-3 : tie.Need-same-length-3
+same-length-3 c = search needs
+
+same-length-4 : tie.Need-same-length-4
+same-length-4 c = search needs
+
+returns-2 : tie.Need-returns-2
+returns-2 c =
+    let o = c .before .before .before .before .before .before .before .before in
+    let s = o .before .before .before .before .before .before .before in
+    stems-answered (s .args .asked) (s .args .listing .now) _ _ _ _ _ _ _ _ (length-replicate {A = ℕ} 2048 0) (sym (ap answerFrom (c .before .sizes .given .1)))
+    (o .optimize-stems .ensures)
+
 pub optimize-jumps-spec : {M : Type 1} → statement M
 optimize-jumps-spec =
     tie.close
     (tie.spec
-    new-form-requires
-    read-listing-requires
+    slice-aggregate-optimize-stems
+    optimize-stems-requires
     enum-known-r
-    enum-known-n
-    slice-aggregate-optimize-read
-    optimize-read-requires
-    returns
+    enum-known-sizes
     same-length
     same-length-2
+    returns
+    same-length-3
+    same-length-4
     returns-2)

@@ -1,59 +1,67 @@
--- `entries::optimizing::optimize_read` meets its contract: the slots of a listing as read hold its statements.
-use mathlib.Core.Path.{_≡_, sym, ap, _∙_}
-use mathlib.Core.List.{List, _++_}
-use Prim.Native.Nat.{ℕ, _≤_, _<_}
-use native.Mathlib.Omega.{arith}
-use lib.ListN.{length, getD, drop, replicate, getD-replicate, length-replicate}
+-- `entries::optimizing::optimize_read` meets its contract: the slots of a listing as read hold its statements, and the list is of those
+-- that are left.
+use Prim.Native.Nat.{ℕ}
+use lib.ListN.{length}
 use borrow.Author.Needs.{needs}
-use Rattle.laws.specs.Counts.{tab}
-use Rattle.laws.proofs.Counts.{length-tab}
-use Rattle.laws.proofs.Stores.{front-length}
-use Rattle.listing.specs.Tables.{frameAt, inputOf}
-use Rattle.slots.specs.Slots.{noOwner}
-use Rattle.env.proofs.Filled.{get-filled}
-use Rattle.asm.specs.Starting.{formIn}
-use Rattle.asm.proofs.Started.{sound-start, program-as-read}
-use Rattle.anchors.proofs.Starts.{as-read-start}
+use Rattle.rules.specs.Answers.{Judged}
+use Rattle.rules.specs.Run.{Output}
+use Rattle.listing.specs.Tables.{inputOf}
+use Rattle.slots.specs.State.{formsIn}
 use Rattle.output.specs.Lines.{besideIn}
-use Rattle.entries.proofs.Stands.{whole-start}
-use Rattle.entries.proofs.Results.{delivers-program}
+use Rattle.entries.specs.Optimizing.{judgedRun, Delivers, Left}
+use Rattle.entries.proofs.Starting.{start-sound, start-program, start-read, start-whole, start-full}
+use Rattle.entries.proofs.Listed.{stems-refused, stems-done}
+use Rattle.entries.proofs.Results.{delivers-program, list-fits}
 use Rattle.entries.proofs.optimizing.optimize_read.Statement.{statement}
 use Rattle.entries.proofs.optimizing.optimize_read.Tie as tie
 
-start-forms-requires : tie.Need-start-forms-requires
-start-forms-requires c κs = search needs
-
-start-carry-requires : tie.Need-start-carry-requires
-start-carry-requires c κs = let s = c .before .before .before .before .before .before in (s .pre .few, search needs)
-
--- each place has its own form, and carries its own target
-abbrev own : (f : tie.After-start-forms) → ℕ → ℕ
-own f k = let s = f .before .before .before .before .before in formIn (frameAt (s .args .frames .now) (s .args .starts .now) k)
-
--- an owner that is none, everywhere
-none : (count c : ℕ) → count ≤ 1024 → c < count → getD (replicate 1024 noOwner) c 0 ≡ noOwner
-none count c h l = getD-replicate 1024 c noOwner 0 (omega arith)
-
--- a table stays as long as it was
-full : (F : ℕ → ℕ) (count : ℕ) (l : List ℕ) → count ≤ 1024 → l ≡ tab F count ++ drop count (replicate 1024 0) → length l ≡ 1024
-full F count l h e =
-    front-length (tab F count) (replicate 1024 0) l count e (length-tab F count) (rw length-replicate h) ∙ length-replicate {A = ℕ} 1024 0
+start-state-requires : tie.Need-start-state-requires
+start-state-requires c κs = search needs
 
 place-read-requires : tie.Need-place-read-requires
 place-read-requires c κs =
-    let y = c .before .before .before .before .before .before in
-    let f = y .before .before in
-    let s = f .before .before .before .before .before in
+    let y = c .before .before .before in
+    let s = y .before .before .before .before .before in
     let n = s .args .count in
-    let forms = f .start-forms .ensures in
-    let carry = y .start-carry .ensures in (
-      sound-start (s .args .frames .now) (s .args .starts .now) n (s .pre) _ _ _ _ (λ i l. get-filled (own f) n _ _ i 0 forms l) (λ i l. get-filled (λ k. k) n _ _ i 0 carry l)
-          (λ d l. none n d (s .pre .few) l),
-      as-read-start _ _ n _ _ _ _ (s .pre .few) carry,
-      full (own f) n _ (s .pre .few) forms,
-      full (λ k. k) n _ (s .pre .few) carry,
-      whole-start (s .args .frames .now) (s .args .starts .now) n _ _ (s .pre) forms,
+    let e = y .start-state .ensures in (
+      start-sound (s .args .frames .now) (s .args .starts .now) n (s .pre) _ e,
+      start-read (s .args .frames .now) (s .args .starts .now) n (s .pre) _ e,
+      start-full (s .args .frames .now) (s .args .starts .now) n (s .pre) _ e,
+      start-whole (s .args .frames .now) (s .args .starts .now) n (s .pre) _ e,
     )
+
+enum-known-r : tie.Need-enum-known-r
+enum-known-r c = search needs
+
+enum-known-sizes : tie.Need-enum-known-sizes
+enum-known-sizes c = search needs
+
+-- what was delivered, of the program that was read
+module _ (p : tie.After-place-read) where
+  abbrev started : tie.After-start-state
+  started = p .before .before .before .before
+
+  abbrev start : tie.Start
+  start = started .before .before .before .before .before
+
+  abbrev run : Judged Output
+  run =
+      judgedRun (start .args .asked) (besideIn (start .args .marked) (start .args .lines .now) (start .args .count)) (length (start .args .out .now)) (length (start .args .image .now))
+      (length (start .args .list .now)) (inputOf (start .args .frames .now) (start .args .starts .now) (start .args .count))
+
+  delivered : Delivers run (p .place-read .result) (start .args .out .now) (start .args .image .now) (p .place-read .last .1 .1 .1 .1 .1 .0) (p .place-read .last .1 .1 .1 .1 .1 .1 .0)
+      × Left run (formsIn (p .place-read .last .1 .1 .1 .0)) (start .args .count)
+  delivered =
+      let n = start .args .count in
+      delivers-program (start .args .asked) (besideIn (start .args .marked) (start .args .lines .now) n) _ (inputOf (start .args .frames .now) (start .args .starts .now) n)
+      (length (start .args .list .now)) _ n (start-program (start .args .frames .now) (start .args .starts .now) n (start .pre) _ (started .start-state .ensures)) (p .place-read .ensures)
+
+write-stems-requires : tie.Need-write-stems-requires
+write-stems-requires c κs =
+    let p = c .before .before .before .before .before .before .before .before .before in
+    let s = start p in
+    let n = s .args .count in
+    (s .pre .few, list-fits (s .args .asked) (besideIn (s .args .marked) (s .args .lines .now) n) (length (s .args .list .now)) (inputOf (s .args .frames .now) (s .args .starts .now) n) _ n _ (c .before .before .before .sizes .given .1) (delivered p))
 
 same-length : tie.Need-same-length
 same-length c = search needs
@@ -63,23 +71,38 @@ same-length-2 c = search needs
 
 returns : tie.Need-returns
 returns c =
-    let p = c .before .before .before .before in
-    let y = p .before .before .before .before .before .before .before in
-    let f = y .before .before in
-    let s = f .before .before .before .before .before in
-    let n = s .args .count in
-    delivers-program (s .args .asked) (besideIn (s .args .marked) (s .args .lines .now) (s .args .count)) _ (inputOf (s .args .frames .now) (s .args .starts .now) n)
-    (program-as-read (s .args .frames .now) (s .args .starts .now) n (s .pre) _ _ _ _ (λ i l. get-filled (own f) n _ _ i 0 (f .start-forms .ensures) l)
-    (λ i l. get-filled (λ k. k) n _ _ i 0 (y .start-carry .ensures) l) (λ d l. none n d (s .pre .few) l))
-    (p .place-read .ensures)
+    let p = c .before .before .before .before .before .before .before in
+    stems-refused _ _ _ _ (start p .args .list .now) _ _ (delivered p .0) _ (c .before .r .given .1)
+
+same-length-3 : tie.Need-same-length-3
+same-length-3 c = search needs
+
+same-length-4 : tie.Need-same-length-4
+same-length-4 c = search needs
+
+same-length-5 : tie.Need-same-length-5
+same-length-5 c = search needs
+
+returns-2 : tie.Need-returns-2
+returns-2 c =
+    let p = c .before .before .before .before .before .before .before .before .before .before .before .before in
+    let s = start p in
+    let w = c .before .before .write-stems .ensures in
+    stems-done _ _ _ _ (s .args .list .now) _ _ (delivered p .0) _ _ (s .args .count) _ _ (c .before .before .before .before .before .before .sizes .given .1) (delivered p .1) (w .0) (w .1)
 
 pub optimize-read-spec : {M : Type 1} → statement M
 optimize-read-spec =
     tie.close
     (tie.spec
-    start-forms-requires
-    start-carry-requires
+    start-state-requires
     place-read-requires
+    enum-known-r
+    enum-known-sizes
+    write-stems-requires
     same-length
     same-length-2
-    returns)
+    returns
+    same-length-3
+    same-length-4
+    same-length-5
+    returns-2)

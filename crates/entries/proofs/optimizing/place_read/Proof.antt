@@ -2,6 +2,7 @@
 use borrow.Author.Needs.{needs}
 use Rattle.rules.specs.Names.{contextAt}
 use Rattle.slots.specs.Slots.{slots, programOf}
+use Rattle.slots.specs.State.{startsIn, formsIn}
 use Rattle.env.proofs.Filled.{get-filled}
 use Rattle.entries.proofs.optimizing.place_read.Statement.{statement}
 use Rattle.entries.proofs.optimizing.place_read.Tie as tie
@@ -11,15 +12,15 @@ fill-contexts-requires c κs = let s = c .before .before .before .before .before
 
 judge-read-requires : tie.Need-judge-read-requires
 judge-read-requires c κs =
-    let f = c .before .before .before .before .before in
-    let s = f .before .before .before .before .before .before in (
+    let f = c .before .before .before .before in
+    let s = f .before .before .before .before .before .before in
+    let z = s .args .state .now in (
       s .pre .0,
       s .pre .1,
       s .pre .2,
-      s .pre .3,
       λ carry owners offsets.
-          (let t = slots (s .args .frames .now) (s .args .starts .now) (s .args .count) (s .args .forms .now) carry owners offsets in
-          (record { context = λ i l. get-filled (contextAt (programOf t)) (s .args .count) _ _ i 0 (f .fill-contexts .ensures .1 carry owners offsets) l }, s .pre .4)),
+          (let t = slots (s .args .frames .now) (startsIn z) (s .args .count) (formsIn z) carry owners offsets in
+          (record { context = λ i l. get-filled (contextAt (programOf t)) (s .args .count) _ _ i 0 (f .fill-contexts .ensures .1 carry owners offsets) l }, s .pre .3)),
     )
 
 same-length : tie.Need-same-length

@@ -8,15 +8,16 @@ use Rattle.listing.specs.Tables.{Held}
 use Rattle.slots.proofs.Tables.{edges}
 use Rattle.env.specs.Linking.{LinkedTo}
 use Rattle.env.proofs.Linking.{AllTo, all-next, all-links}
+use Rattle.slots.specs.State.{startsIn}
 use Rattle.env.proofs.links.fill_links.Statement.{statement}
 use Rattle.env.proofs.links.fill_links.Tie as tie
 
 abbrev Inv-loop : tie.InvT-loop
-Inv-loop frames starts count names contexts links₀ i₀ links i =
-    (i ≤ count) × (length links ≡ 28672) × ((h : Held frames starts count) → AllTo frames starts count h names contexts i links)
+Inv-loop frames state count names contexts links₀ i₀ links i =
+    (i ≤ count) × (length links ≡ 28672) × ((h : Held frames (startsIn state) count) → AllTo frames (startsIn state) count h names contexts i links)
 
 abbrev μ-loop : tie.MeasureT-loop
-μ-loop frames starts count names contexts links₀ i₀ links i = count - i
+μ-loop frames state count names contexts links₀ i₀ links i = count - i
 
 -- a place lies within the table
 inside : (c : tie.In-loop Inv-loop μ-loop) → c .before .loop .i < 1024
@@ -29,7 +30,7 @@ link-frame-requires : tie.Need-link-frame-requires Inv-loop μ-loop
 link-frame-requires c κs =
     let l = c .before .before .before .before .before .before .before in
     let s = l .before .before in
-    let ends = edges (s .args .frames .now) (s .args .starts .now) (s .args .count) (s .pre .0) (l .loop .i) (c .before .before .before .before .wide .result) (c .before .before .wide2 .result)
+    let ends = edges (s .args .frames .now) (startsIn (s .args .state .now)) (s .args .count) (s .pre .0) (l .loop .i) (c .before .before .before .before .wide .result) (c .before .before .wide2 .result)
     (c .before .before .before .before .before .before .loop-test .taken) (c .before .before .before .before .wide .ensures) (c .before .before .wide2 .ensures) in
     ((s .pre .0 .full, l .loop .inv .1, omega (arith, ends .0), omega (arith, ends .1, s .pre .0 .full)), (s .pre .0 .few, s .pre .2))
 
@@ -41,7 +42,7 @@ loop-again c =
     let s = l .before .before in (
       omega (arith, c .before .before .before .before .before .before .before .loop-test .taken),
       c .link-frame .ensures .0,
-      λ h. all-next (s .args .frames .now) (s .args .starts .now) (s .args .count) h (s .args .names .now) (s .args .contexts .now) (l .loop .i) (l .loop .links) _
+      λ h. all-next (s .args .frames .now) (startsIn (s .args .state .now)) (s .args .count) h (s .args .names .now) (s .args .contexts .now) (l .loop .i) (l .loop .links) _
           (c .before .before .before .before .before .before .before .loop-test .taken) (l .loop .inv .2 h) (rw (w .wide .ensures, e .wide2 .ensures) at (c .link-frame .ensures .1)),
     )
 
@@ -51,7 +52,7 @@ returns c =
     let s = l .before .before in
     let e : l .loop .i ≡ s .args .count = omega arith in (
       l .loop .inv .1,
-      all-links (s .args .frames .now) (s .args .starts .now) (s .args .count) (s .pre .0) (s .args .names .now) (s .args .contexts .now) (l .loop .links)
+      all-links (s .args .frames .now) (startsIn (s .args .state .now)) (s .args .count) (s .pre .0) (s .args .names .now) (s .args .contexts .now) (l .loop .links)
           (rw e at (l .loop .inv .2 (s .pre .0))),
     )
 
@@ -63,10 +64,12 @@ fill-links-spec =
     μ-loop
     loop-holds
     (λ c. omega (arith, inside c))
+    (λ c. search needs)
     (λ c. omega (arith, inside c))
     (λ c κs. search needs)
     (λ c. omega (arith, inside (c .before .before)))
     (λ c. omega (arith, inside (c .before .before)))
+    (λ c. search needs)
     (λ c. omega (arith, inside (c .before .before)))
     (λ c κs. search needs)
     (λ c. omega (arith, inside (c .before .before .before .before)))

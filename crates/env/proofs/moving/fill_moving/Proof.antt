@@ -7,18 +7,19 @@ use lib.ListN.{length, length-set}
 use Rattle.slots.specs.Slots.{Slots, slots}
 use Rattle.env.specs.Tables.{Any}
 use Rattle.env.proofs.Movings.{MovingTo, moving-start, moving-next, moving-all}
+use Rattle.slots.specs.State.{startsIn, formsIn}
 use Rattle.env.proofs.moving.fill_moving.Statement.{statement}
 use Rattle.env.proofs.moving.fill_moving.Tie as tie
 
 abbrev Inv-loop : tie.InvT-loop
-Inv-loop frames starts count forms contexts moving₀ i₀ moving i =
-    (i ≤ count) × (length moving ≡ 1024) × Any frames starts count forms (λ t. MovingTo t contexts moving i)
+Inv-loop frames state count contexts moving₀ i₀ moving i =
+    (i ≤ count) × (length moving ≡ 1024) × Any frames (startsIn state) count (formsIn state) (λ t. MovingTo t contexts moving i)
 
 abbrev μ-loop : tie.MeasureT-loop
-μ-loop frames starts count forms contexts moving₀ i₀ moving i = count - i
+μ-loop frames state count contexts moving₀ i₀ moving i = count - i
 
 abbrev over : (c : tie.Start Inv-loop μ-loop) → (carry owners offsets : List ℕ) → Slots
-over c carry owners offsets = slots (c .args .frames .now) (c .args .starts .now) (c .args .count) (c .args .forms .now) carry owners offsets
+over c carry owners offsets = slots (c .args .frames .now) (startsIn (c .args .state .now)) (c .args .count) (formsIn (c .args .state .now)) carry owners offsets
 
 loop-holds : tie.Need-loop-holds Inv-loop μ-loop
 loop-holds c =

@@ -13,11 +13,12 @@ use Rattle.expression.specs.Environment.{keysOf}
 use Rattle.slots.specs.Slots.{Slots, slots, slotAt}
 use Rattle.env.proofs.Programs.{VariableSlot, variable-slot}
 use Rattle.env.proofs.Movings.{moves-other, moves-held, moves-not}
+use Rattle.slots.specs.State.{startsIn, formsIn}
 use Rattle.env.proofs.moving.moving_at.Statement.{statement}
 use Rattle.env.proofs.moving.moving_at.Tie as tie
 
 abbrev over : (c : tie.Start) → (carry owners offsets : List ℕ) → Slots
-over c carry owners offsets = slots (c .args .frames .now) (c .args .starts .now) (c .args .count) (c .args .forms .now) carry owners offsets
+over c carry owners offsets = slots (c .args .frames .now) (startsIn (c .args .state .now)) (c .args .count) (formsIn (c .args .state .now)) carry owners offsets
 
 -- the names above that move, and the context
 abbrev above : (c : tie.Start) → List Key

@@ -15,18 +15,19 @@ use Rattle.env.specs.Tables.{Any, Named}
 use Rattle.env.specs.Settling.{SettledTo}
 use Rattle.env.proofs.Telling.{named-now}
 use Rattle.env.proofs.OnePass.{settled-start, settled-next, settled-end, laid-at, position-stops, value-stops}
+use Rattle.slots.specs.State.{startsIn, formsIn}
 use Rattle.env.proofs.settling.settle_all.Statement.{statement}
 use Rattle.env.proofs.settling.settle_all.Tie as tie
 
 abbrev Inv-loop : tie.InvT-loop
-Inv-loop frames starts count forms links positions₀ values₀ i₀ positions values i =
-    (i ≤ count) × (length positions ≡ 1025) × (length values ≡ 1024) × Any frames starts count forms (λ t. SettledTo t positions values i)
+Inv-loop frames state count links positions₀ values₀ i₀ positions values i =
+    (i ≤ count) × (length positions ≡ 1025) × (length values ≡ 1024) × Any frames (startsIn state) count (formsIn state) (λ t. SettledTo t positions values i)
 
 abbrev μ-loop : tie.MeasureT-loop
-μ-loop frames starts count forms links positions₀ values₀ i₀ positions values i = count - i
+μ-loop frames state count links positions₀ values₀ i₀ positions values i = count - i
 
 abbrev over : (c : tie.Start Inv-loop μ-loop) → (carry owners offsets : List ℕ) → Slots
-over c carry owners offsets = slots (c .args .frames .now) (c .args .starts .now) (c .args .count) (c .args .forms .now) carry owners offsets
+over c carry owners offsets = slots (c .args .frames .now) (startsIn (c .args .state .now)) (c .args .count) (formsIn (c .args .state .now)) carry owners offsets
 
 -- the tables of the names as they stand
 named : (k : tie.After-shared-slice-known Inv-loop μ-loop) (carry owners offsets : List ℕ) →

@@ -12,29 +12,30 @@ use Rattle.listing.specs.Tables.{frameAt}
 use Rattle.rules.specs.Programs.{kindOf}
 use Rattle.slots.specs.Slots.{slotAt, isData}
 use Rattle.slots.proofs.Items.{data-kind}
-use Rattle.image.specs.Tables.{Tables, tables, program}
+use Rattle.image.specs.Tables.{Tables, tablesOf, program}
 use Rattle.image.specs.Encoding.{encodeAt, checkedAs, checkOf, itemsIn, boundOf, writeOf}
 use Rattle.image.proofs.Passes.{checked-code, encode-zeros}
 use Rattle.slots.proofs.Linking.{spans, length-beside}
 use Rattle.image.proofs.DataSlots.{DataSlot, data-slot, own-linked}
+use Rattle.slots.specs.State.{startsIn, carryIn, ownersIn, offsetsIn}
 use Rattle.image.proofs.checking.check_at.Statement.{statement}
 use Rattle.image.proofs.checking.check_at.Tie as tie
 
 module _ (s : tie.Start) where
   abbrev here : Tables
   here =
-      tables (s .args .frames .now) (s .args .starts .now) (s .args .count) (s .args .forms .now) (s .args .carry .now) (s .args .owners .now) (s .args .offsets .now)
+      tablesOf (s .args .frames .now) (s .args .state .now) (s .args .count)
       (s .args .links .now) (s .args .values .now) (s .args .positions .now)
 
   abbrev place : ℕ
   place = s .args .at .0
 
   abbrev frame : List ℕ
-  frame = frameAt (s .args .frames .now) (s .args .starts .now) place
+  frame = frameAt (s .args .frames .now) (startsIn (s .args .state .now)) place
 
 -- the kind that was found
 found : (c : tie.After-kind-at) → let s = c .before .before in c .kind-at .result ≡ kindOf (slotAt (here s .slots) (place s))
-found c = let s = c .before .before in c .kind-at .ensures (s .args .carry .now) (s .args .owners .now) (s .args .offsets .now)
+found c = let s = c .before .before in c .kind-at .ensures (carryIn (s .args .state .now)) (ownersIn (s .args .state .now)) (offsetsIn (s .args .state .now))
 
 kind-at-requires : tie.Need-kind-at-requires
 kind-at-requires c κs = let s = c .before in (s .pre .0 .sound .held, s .pre .1)
@@ -70,7 +71,7 @@ data-here c =
 links-at-requires : tie.Need-links-at-requires
 links-at-requires c κs =
     let s = c .before .before .before .before .before .before .before in
-    spans (s .args .frames .now) (s .args .starts .now) (s .args .count) (s .pre .0 .sound .held) (s .args .links .now) (s .pre .0 .says .full) (place s) (s .pre .1)
+    spans (s .args .frames .now) (startsIn (s .args .state .now)) (s .args .count) (s .pre .0 .sound .held) (s .args .links .now) (s .pre .0 .says .full) (place s) (s .pre .1)
 
 check-items-requires : tie.Need-check-items-requires
 check-items-requires c κs =
@@ -79,7 +80,7 @@ check-items-requires c κs =
     rw (f .frame-at .ensures, c .links-at .ensures) (
       data-here f .read,
       s .pre .0 .sound .held .few,
-      length-beside (s .args .frames .now) (s .args .starts .now) (s .args .count) (s .pre .0 .sound .held) (s .args .links .now) (s .pre .0 .says .full) (place s) (s .pre .1),
+      length-beside (s .args .frames .now) (startsIn (s .args .state .now)) (s .args .count) (s .pre .0 .sound .held) (s .args .links .now) (s .pre .0 .says .full) (place s) (s .pre .1),
     )
 
 returns-2 : tie.Need-returns-2

@@ -4,23 +4,23 @@ use Prim.Native.Nat.{_-_, _≤_}
 use native.Mathlib.Numerals.{add-one}
 use native.Mathlib.Omega.{arith}
 use borrow.Author.Needs.{needs}
-use Rattle.image.specs.Tables.{Tables, tables}
+use Rattle.image.specs.Tables.{Tables, tablesOf}
 use Rattle.image.specs.Encoding.{encodeSlots, checkedAs}
 use Rattle.image.proofs.Passes.{fromSlot, from-start, from-end, slot-passes, slot-refused}
 use Rattle.image.proofs.checking.encode_all.Statement.{statement}
 use Rattle.image.proofs.checking.encode_all.Tie as tie
 
 abbrev Inv-loop : tie.InvT-loop
-Inv-loop frames starts count forms carry owners offsets links values positions i₀ i =
-    let d = tables frames starts count forms carry owners offsets links values positions in
+Inv-loop frames state count links values positions i₀ i =
+    let d = tablesOf frames state count links values positions in
     (i ≤ count) × (checkedAs (encodeSlots d) ≡ checkedAs (fromSlot d i))
 
 abbrev μ-loop : tie.MeasureT-loop
-μ-loop frames starts count forms carry owners offsets links values positions i₀ i = count - i
+μ-loop frames state count links values positions i₀ i = count - i
 
 abbrev here : tie.Start Inv-loop μ-loop → Tables
 here s =
-    tables (s .args .frames .now) (s .args .starts .now) (s .args .count) (s .args .forms .now) (s .args .carry .now) (s .args .owners .now) (s .args .offsets .now)
+    tablesOf (s .args .frames .now) (s .args .state .now) (s .args .count)
     (s .args .links .now) (s .args .values .now) (s .args .positions .now)
 
 loop-holds : tie.Need-loop-holds Inv-loop μ-loop

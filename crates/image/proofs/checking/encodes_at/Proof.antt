@@ -1,7 +1,7 @@
 -- `checking::encodes_at` meets its contract.
 use mathlib.Core.Path.{sym, _∙_}
 use borrow.Author.Needs.{needs}
-use Rattle.image.specs.Tables.{Tables, tables}
+use Rattle.image.specs.Tables.{Tables, tablesOf}
 use Rattle.image.specs.Encoding.{encodeAt}
 use Rattle.image.proofs.Passes.{passes-is, refused-is}
 use Rattle.image.proofs.checking.encodes_at.Statement.{statement}
@@ -9,7 +9,7 @@ use Rattle.image.proofs.checking.encodes_at.Tie as tie
 
 abbrev here : tie.Start → Tables
 here s =
-    tables (s .args .frames .now) (s .args .starts .now) (s .args .count) (s .args .forms .now) (s .args .carry .now) (s .args .owners .now) (s .args .offsets .now)
+    tablesOf (s .args .frames .now) (s .args .state .now) (s .args .count)
     (s .args .links .now) (s .args .values .now) (s .args .positions .now)
 
 returns : tie.Need-returns

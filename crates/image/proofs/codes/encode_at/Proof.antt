@@ -15,35 +15,38 @@ use Rattle.rules.specs.Names.{contextAt}
 use Rattle.instruction.proofs.Numbers.{size-bound}
 use Rattle.instruction.proofs.Numbers.{few-operands}
 use Rattle.slots.specs.Slots.{slotAt, aimedAt, written}
+use Rattle.encoding.specs.Encode.{codeAt}
 use Rattle.image.specs.declared.Encoded.the-variants.{Is}
-use Rattle.image.specs.Tables.{Tables, tables, program, operandAt}
+use Rattle.image.specs.Tables.{Tables, tablesOf, program, operandAt}
 use Rattle.image.specs.Encoding.{fieldOf, encodeAt, encodedAs}
 use Rattle.image.proofs.Operands.{slot-is, count-args}
 use Rattle.image.proofs.Worths.{end-low}
 use Rattle.image.proofs.Fields.{field-ok, field-no, leftOf, left-start, left-ok, left-no, left-end, code-is}
+use Rattle.slots.specs.State.{formsIn, carryIn}
 use Rattle.image.proofs.codes.encode_at.Statement.{statement}
 use Rattle.image.proofs.codes.encode_at.Tie as tie
 
 abbrev Inv-loop : tie.InvT-loop
-Inv-loop frames starts count forms carry owners offsets links values positions at i form n fields₀ j₀ fields j =
-    let d = tables frames starts count forms carry owners offsets links values positions in
+Inv-loop frames state count links values positions at i f n fields₀ j₀ fields j =
+    let d = tablesOf frames state count links values positions in
+    let form = getD (formsIn state) (at .0) 0 in
     (j ≤ length (operandsAt form)) × (length fields ≡ 3) × ((m : ℕ) → j ≤ m → getD fields m 0 ≡ 0)
     × (encodeAt d (at .0) ≡ leftOf (d .entries) (program d) (at .0) (contextAt (program d) (at .0)) (n .0) form (argsOf (slotAt (d .slots) (at .0))) j fields)
 
 abbrev μ-loop : tie.MeasureT-loop
-μ-loop frames starts count forms carry owners offsets links values positions at i form n fields₀ j₀ fields j = length (operandsAt form) - j
+μ-loop frames state count links values positions at i f n fields₀ j₀ fields j = length (operandsAt (getD (formsIn state) (at .0) 0)) - j
 
 module _ (s : tie.Start Inv-loop μ-loop) where
   abbrev here : Tables
   here =
-      tables (s .args .frames .now) (s .args .starts .now) (s .args .count) (s .args .forms .now) (s .args .carry .now) (s .args .owners .now) (s .args .offsets .now)
+      tablesOf (s .args .frames .now) (s .args .state .now) (s .args .count)
       (s .args .links .now) (s .args .values .now) (s .args .positions .now)
 
   abbrev place : ℕ
   place = s .args .at .0
 
   abbrev form : ℕ
-  form = getD (s .args .forms .now) place 0
+  form = getD (formsIn (s .args .state .now)) place 0
 
   low : place < 1024
   low = omega (arith, s .pre .1, s .pre .0 .sound .held .few)
@@ -51,8 +54,8 @@ module _ (s : tie.Start Inv-loop μ-loop) where
   same-count : length (argsOf (slotAt (here .slots) place)) ≡ length (operandsAt form)
   same-count = count-args (here .slots) (s .pre .0 .sound .held) place (s .pre .1) (s .pre .2) (s .pre .0 .sound .forms place (s .pre .1) (s .pre .2))
 
-element-copy-out-form : tie.Need-element-copy-out-form Inv-loop μ-loop
-element-copy-out-form c = low (c .before)
+form-in-requires : tie.Need-form-in-requires Inv-loop μ-loop
+form-in-requires c κs = omega (arith, low (c .before))
 
 mul-after : tie.Need-mul-after Inv-loop μ-loop
 mul-after c = record { fits = omega (arith, low (c .before .before)) }
@@ -63,7 +66,7 @@ element-copy-out-after c = omega (arith, low (c .before .before))
 after-requires : tie.Need-after-requires Inv-loop μ-loop
 after-requires c κs =
     let s = c .before .before .before .before in
-    (s .pre .0 .low (place s) (omega (arith, s .pre .1)), omega (arith, c .size .ensures, size-bound (form s)))
+    (s .pre .0 .low (place s) (omega (arith, s .pre .1)), omega (arith, c .size .ensures, size-bound (c .before .before .form-in .result)))
 
 -- the address after the instruction
 ends-at : (c : tie.After-after Inv-loop μ-loop) →
@@ -71,7 +74,13 @@ ends-at : (c : tie.After-after Inv-loop μ-loop) →
     c .after .result .0 ≡ getD (s .args .positions .now) (place s) 0 + sizeAt (form s)
 ends-at c =
     let s = c .before .before .before .before .before in
-    c .after .ensures ∙ ap (λ n. getD (s .args .positions .now) (place s) 0 + n) (c .before .size .ensures)
+    c .after .ensures ∙ ap (λ n. getD (s .args .positions .now) (place s) 0 + n) (c .before .size .ensures ∙ ap sizeAt (c .before .before .before .form-in .ensures))
+
+-- as many operands as the form that stands there
+same-operands : (c : tie.After-after Inv-loop μ-loop) →
+    let s = c .before .before .before .before .before in
+    length (operandsAt (c .before .before .before .form-in .result)) ≡ length (operandsAt (form s))
+same-operands c = ap (λ f. length (operandsAt f)) (c .before .before .before .form-in .ensures)
 
 none : (m : ℕ) → getD {A = ℕ} (0 ∷ 0 ∷ 0 ∷ []) m 0 ≡ 0
 none zero = refl
@@ -89,8 +98,8 @@ loop-holds c =
       omega arith,
       refl,
       λ m l. none m,
-      left-start (d .entries) p (place s) (contextAt p (place s)) (c .after .result .0) (form s) (getD (s .args .carry .now) (place s) 0) q
-          (aimedAt (d .slots) (form s) (getD (s .args .carry .now) (place s) 0) (argsOf (written (d .slots) (place s)))) (slotAt (d .slots) (place s)) (0 ∷ 0 ∷ 0 ∷ [])
+      left-start (d .entries) p (place s) (contextAt p (place s)) (c .after .result .0) (form s) (getD (carryIn (s .args .state .now)) (place s) 0) q
+          (aimedAt (d .slots) (form s) (getD (carryIn (s .args .state .now)) (place s) 0) (argsOf (written (d .slots) (place s)))) (slotAt (d .slots) (place s)) (0 ∷ 0 ∷ 0 ∷ [])
           (slot-is (d .slots) (s .pre .0 .sound .held) (place s) (s .pre .1) (s .pre .2))
           (ends-at c ∙ ap (λ n. n + sizeAt (form s)) (s .pre .0 .position (place s) (omega (arith, s .pre .1)))),
     )
@@ -99,7 +108,7 @@ loop-holds c =
 some : (c : tie.Then1 Inv-loop μ-loop) →
     let s = c .before .before .before .before .before .before .before .before in
     c .before .before .loop .j < length (operandsAt (form s))
-some c = omega (arith, c .if1 .taken, c .before .operand-count .ensures)
+some c = omega (arith, c .if1 .taken, c .before .operand-count .ensures, same-operands (c .before .before .before))
 
 field-at-requires : tie.Need-field-at-requires Inv-loop μ-loop
 field-at-requires c κs =
@@ -169,8 +178,8 @@ returns-2 c =
     let s = a .before .before .before .before .before in
     let d = here s in
     let p = program d in
-    let all : length (operandsAt (form s)) ≤ l .j = omega (arith, k .operand-count .ensures, c .before .if1 .left) in
-    ap Is (c .encode-form .ensures .0 ∙ sym (code-is (form s) (l .fields)))
+    let all : length (operandsAt (form s)) ≤ l .j = omega (arith, k .operand-count .ensures, c .before .if1 .left, same-operands a) in
+    ap Is (c .encode-form .ensures .0 ∙ ap (λ f. codeAt f (getD (l .fields) 0 0) (getD (l .fields) 1 0) (getD (l .fields) 2 0)) (a .before .before .before .form-in .ensures) ∙ sym (code-is (form s) (l .fields)))
     ∙ sym
     (ap encodedAs
     (l .inv .3
@@ -183,7 +192,7 @@ encode-at-spec =
     (tie.spec
     Inv-loop
     μ-loop
-    element-copy-out-form
+    form-in-requires
     mul-after
     element-copy-out-after
     (λ c κs. search needs)

@@ -13,24 +13,34 @@ use Rattle.rules.specs.Encoding.{field}
 use Rattle.rules.specs.Names.{contextAt}
 use Rattle.rules.specs.Judging.{worthOf}
 use Rattle.expression.proofs.Signed.{at32}
+use Rattle.instruction.specs.Tables.{operandIn}
 use Rattle.encoding.specs.Operands.{fieldAs, held}
-use Rattle.image.specs.Tables.{Tables, tables, program, operandAt}
+use Rattle.image.specs.Tables.{Tables, tablesOf, program, operandAt}
 use Rattle.image.proofs.Operands.{kind-found, kind-there}
 use Rattle.image.proofs.Worths.{worth-at, value-held}
 use Rattle.image.proofs.Fields.{field-value, field-unknown, field-nothing}
+use Rattle.slots.specs.State.{formsIn}
 use Rattle.image.proofs.codes.field_at.Statement.{statement}
 use Rattle.image.proofs.codes.field_at.Tie as tie
 
 abbrev here : tie.Start → Tables
 here s =
-    tables (s .args .frames .now) (s .args .starts .now) (s .args .count) (s .args .forms .now) (s .args .carry .now) (s .args .owners .now) (s .args .offsets .now)
+    tablesOf (s .args .frames .now) (s .args .state .now) (s .args .count)
     (s .args .links .now) (s .args .values .now) (s .args .positions .now)
 
 abbrev kinds : tie.Start → List Kind
-kinds s = operandsAt (getD (s .args .forms .now) (s .args .at .0) 0)
+kinds s = operandsAt (getD (formsIn (s .args .state .now)) (s .args .at .0) 0)
 
-element-copy-out-operand-kind : tie.Need-element-copy-out-operand-kind
-element-copy-out-operand-kind c = let s = c .before in omega (arith, s .pre .0 .1, s .pre .0 .0 .sound .held .few)
+form-in-requires : tie.Need-form-in-requires
+form-in-requires c κs = let s = c .before in omega (arith, s .pre .0 .1, s .pre .0 .0 .sound .held .few)
+
+-- the kind of the argument, by the form that stands there
+kind-is : (c : tie.After-operand-kind) →
+    let s = c .before .before .before in
+    c .operand-kind .result ≡ operandIn (kinds s) (s .args .j)
+kind-is c =
+    let s = c .before .before .before in
+    c .operand-kind .ensures ∙ ap (λ f. operandIn (operandsAt f) (s .args .j)) (c .before .form-in .ensures)
 
 argument-worth-requires : tie.Need-argument-worth-requires
 argument-worth-requires c κs =
@@ -62,7 +72,7 @@ returns c =
     let kind = k .kind .given .0 .0 in
     let n = s .args .n .0 in
     let same : at32 z ≡ z = as-passed (c .before) in
-    let is : kind ≡ getD (kinds s) (s .args .j) Reg = kind-found (kinds s) (s .args .j) (s .pre .1 .0) (o .operand-kind .ensures) (k .kind .given .1) in
+    let is : kind ≡ getD (kinds s) (s .args .j) Reg = kind-found (kinds s) (s .args .j) (s .pre .1 .0) (kind-is o) (k .kind .given .1) in
     c .field-of .ensures
     ∙ ap (λ y. fieldAs (field i (s .args .j) n kind (held kind y))) same
     ∙ ap (λ y. fieldAs (field i (s .args .j) n kind y))
@@ -92,13 +102,13 @@ returns-4 : tie.Need-returns-4
 returns-4 c =
     let o = c .before .before in
     let s = o .before .before .before in
-    kind-there (kinds s) (s .args .j) (s .pre .1 .0) (o .operand-kind .ensures) (c .enum-told3 .given .1)
+    kind-there (kinds s) (s .args .j) (s .pre .1 .0) (kind-is o) (c .enum-told3 .given .1)
 
 pub field-at-spec : {M : Type 1} → statement M
 field-at-spec =
     tie.close
     (tie.spec
-    element-copy-out-operand-kind
+    form-in-requires
     (λ c κs. search needs)
     (λ c. search needs)
     argument-worth-requires

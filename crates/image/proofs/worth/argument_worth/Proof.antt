@@ -1,6 +1,6 @@
 -- `worth::argument_worth` meets its contract: a transfer's last argument is the target that the slot carries, any other its frame's own.
 use mathlib.Core.Path.{_≡_, sym, ap, _∙_}
-use mathlib.Core.Bool.{true}
+use mathlib.Core.Bool.{Bool, true, false}
 use mathlib.Core.List.{List, []}
 use Prim.Native.Nat.{ℕ, _<_}
 use native.Mathlib.Omega.{arith}
@@ -14,14 +14,15 @@ use Rattle.listing.specs.Tables.{frameAt}
 use Rattle.laws.proofs.Tests.{and-true}
 use Rattle.slots.specs.Slots.{Slots, slots, targetOf, programOf, worthIn, Agree}
 use Rattle.slots.proofs.Linking.{spans, length-beside}
-use Rattle.image.specs.Tables.{Tables, tables, isTarget, operandIn, Aims}
+use Rattle.image.specs.Tables.{Tables, tables, tablesOf, isTarget, operandIn, Aims}
 use Rattle.image.proofs.Operands.{slot-in, count-kinds, operand-target, operand-own}
+use Rattle.slots.specs.State.{startsIn, formsIn, carryIn, ownersIn, offsetsIn}
 use Rattle.image.proofs.worth.argument_worth.Statement.{statement}
 use Rattle.image.proofs.worth.argument_worth.Tie as tie
 
 abbrev held : tie.Start → Tables
 held s =
-    tables (s .args .frames .now) (s .args .starts .now) (s .args .count) (s .args .forms .now) (s .args .carry .now) (s .args .owners .now) (s .args .offsets .now)
+    tablesOf (s .args .frames .now) (s .args .state .now) (s .args .count)
     (s .args .links .now) (s .args .values .now) (s .args .positions .now)
 
 abbrev here : tie.Start → Slots
@@ -31,16 +32,16 @@ abbrev seen : tie.Start → List Entry
 seen s = held s .entries
 
 abbrev form : tie.Start → ℕ
-form s = getD (s .args .forms .now) (s .args .at .0) 0
+form s = getD (formsIn (s .args .state .now)) (s .args .at .0) 0
 
 abbrev context : tie.Start → ℕ
 context s = getD (held s .contexts) (s .args .at .0) 0
 
 abbrev carried : tie.Start → ℕ
-carried s = getD (s .args .carry .now) (s .args .at .0) 0
+carried s = getD (carryIn (s .args .state .now)) (s .args .at .0) 0
 
 abbrev frame : tie.Start → List ℕ
-frame s = frameAt (s .args .frames .now) (s .args .starts .now) (s .args .at .0)
+frame s = frameAt (s .args .frames .now) (startsIn (s .args .state .now)) (s .args .at .0)
 
 agrees : (s : tie.Start) → Agree (form s) (getD (frame s) 1 0)
 agrees s = s .pre .0 .sound .forms (s .args .at .0) (s .pre .1) (s .pre .2)
@@ -49,15 +50,23 @@ agrees s = s .pre .0 .sound .forms (s .args .at .0) (s .pre .1) (s .pre .2)
 low : (s : tie.Start) → s .args .at .0 < 1024
 low s = omega (arith, s .pre .1, s .pre .0 .sound .held .few)
 
-element-copy-out-form : tie.Need-element-copy-out-form
-element-copy-out-form c = low (c .before)
+form-in-requires : tie.Need-form-in-requires
+form-in-requires c κs = omega (arith, low (c .before))
+
+-- the test, of the form that stands there
+target-if : (c : tie.After-is-target) (b : Bool) → c .is-target .result ≡ b →
+    let s = c .before .before .before in
+    isTarget (form s) (s .args .j) ≡ b
+target-if c b e =
+    let s = c .before .before .before in
+    sym (ap (λ f. isTarget f (s .args .j)) (c .before .form-in .ensures)) ∙ sym (c .is-target .ensures) ∙ e
 
 carried-requires : tie.Need-carried-requires
 carried-requires c κs = low (c .before .before .before .before)
 
 -- the target is carried from a place that wrote one
 aims : (s : tie.Start) → isTarget (form s) (s .args .j) ≡ true
-    → Aims (slots (s .args .frames .now) (s .args .starts .now) (s .args .count) [] [] (s .args .owners .now) (s .args .offsets .now)) (s .args .positions .now) (carried s)
+    → Aims (slots (s .args .frames .now) (startsIn (s .args .state .now)) (s .args .count) [] [] (ownersIn (s .args .state .now)) (offsetsIn (s .args .state .now))) (s .args .positions .now) (carried s)
 aims s q =
     let sound = s .pre .0 .sound in
     let w = sound .carried (s .args .at .0) (s .pre .1) (s .pre .2) (and-true (isTransfer (form s)) (eqb _ (s .args .j)) q .0) in
@@ -71,12 +80,12 @@ target-worth-requires : tie.Need-target-worth-requires
 target-worth-requires c κs =
     let i = c .before in
     let s = i .before .before .before .before in
-    rw (c .carried .ensures) (aims s (sym (i .before .is-target .ensures) ∙ i .if1 .taken), s .pre .0 .says .full)
+    rw (c .carried .ensures) (aims s (target-if (i .before) true (i .if1 .taken)), s .pre .0 .says .full)
 
 -- the target means in the context of its own frame what it means here
 carried-linked : (s : tie.Start) → isTarget (form s) (s .args .j) ≡ true
-    → Linked (λ m. lookup (seen s) (keyOf (context s) m)) (frameAt (s .args .frames .now) (s .args .starts .now) (carried s))
-    (frameAt (s .args .links .now) (s .args .starts .now) (carried s)) (s .args .values .now) (s .args .count)
+    → Linked (λ m. lookup (seen s) (keyOf (context s) m)) (frameAt (s .args .frames .now) (startsIn (s .args .state .now)) (carried s))
+    (frameAt (s .args .links .now) (startsIn (s .args .state .now)) (carried s)) (s .args .values .now) (s .args .count)
 carried-linked s q =
     let d = held s in
     let moves = and-true (isTransfer (form s)) (eqb _ (s .args .j)) q .0 in
@@ -91,8 +100,8 @@ returns c =
     let i = w .before in
     let s = i .before .before .before .before in
     let target = targetOf (here s) in
-    let q = sym (i .before .is-target .ensures) ∙ i .if1 .taken in
-    c .target-worth .ensures (seen s) (context s) (rw (w .carried .ensures) (carried-linked s q)) (s .args .forms .now) (s .args .carry .now)
+    let q = target-if (i .before) true (i .if1 .taken) in
+    c .target-worth .ensures (seen s) (context s) (rw (w .carried .ensures) (carried-linked s q)) (formsIn (s .args .state .now)) (carryIn (s .args .state .now))
     ∙ ap (λ n. worthIn (seen s) (s .args .positions .now) (context s) (target n)) (w .carried .ensures)
     ∙ sym
     (ap (worthIn (seen s) (s .args .positions .now) (context s))
@@ -102,13 +111,13 @@ frame-at-requires : tie.Need-frame-at-requires
 frame-at-requires c κs = let s = c .before .before .before .before in (s .pre .0 .sound .held, s .pre .1)
 
 -- as many links as bytes
-beside : (s : tie.Start) → length (frameAt (s .args .links .now) (s .args .starts .now) (s .args .at .0)) ≡ length (frame s)
-beside s = length-beside (s .args .frames .now) (s .args .starts .now) (s .args .count) (s .pre .0 .sound .held) (s .args .links .now) (s .pre .0 .says .full) (s .args .at .0) (s .pre .1)
+beside : (s : tie.Start) → length (frameAt (s .args .links .now) (startsIn (s .args .state .now)) (s .args .at .0)) ≡ length (frame s)
+beside s = length-beside (s .args .frames .now) (startsIn (s .args .state .now)) (s .args .count) (s .pre .0 .sound .held) (s .args .links .now) (s .pre .0 .says .full) (s .args .at .0) (s .pre .1)
 
 links-at-requires : tie.Need-links-at-requires
 links-at-requires c κs =
     let s = c .before .before .before .before .before .before in
-    spans (s .args .frames .now) (s .args .starts .now) (s .args .count) (s .pre .0 .sound .held) (s .args .links .now) (s .pre .0 .says .full) (s .args .at .0) (s .pre .1)
+    spans (s .args .frames .now) (startsIn (s .args .state .now)) (s .args .count) (s .pre .0 .sound .held) (s .args .links .now) (s .pre .0 .says .full) (s .args .at .0) (s .pre .1)
 
 own-worth-requires : tie.Need-own-worth-requires
 own-worth-requires c κs =
@@ -128,19 +137,19 @@ returns-2 c =
     let f = b .before .before in
     let i = f .before in
     let s = i .before .before .before .before in
-    let own : Linked (λ m. lookup (seen s) (keyOf (context s) m)) (frame s) (frameAt (s .args .links .now) (s .args .starts .now) (s .args .at .0)) (s .args .values .now) (s .args .count) =
+    let own : Linked (λ m. lookup (seen s) (keyOf (context s) m)) (frame s) (frameAt (s .args .links .now) (startsIn (s .args .state .now)) (s .args .at .0)) (s .args .values .now) (s .args .count) =
     rw (s .pre .0 .context (s .args .at .0) (s .pre .1)) (s .pre .0 .says .linked (s .args .at .0) (s .pre .1)) in
     c .own-worth .ensures (seen s) (context s) (rw (f .frame-at .ensures, b .links-at .ensures) own) (s .args .positions .now)
     ∙ ap (λ l. worthIn (seen s) (s .args .positions .now) (context s) (operandIn (s .args .at .0) l (s .args .j))) (f .frame-at .ensures)
     ∙ sym
     (ap (worthIn (seen s) (s .args .positions .now) (context s))
-    (operand-own (here s) (s .pre .0 .sound .held) (s .args .at .0) (s .pre .1) (s .pre .2) (agrees s) (s .args .j) (sym (i .before .is-target .ensures) ∙ i .if1 .left)))
+    (operand-own (here s) (s .pre .0 .sound .held) (s .args .at .0) (s .pre .1) (s .pre .2) (agrees s) (s .args .j) (target-if (i .before) false (i .if1 .left))))
 
 pub argument-worth-spec : {M : Type 1} → statement M
 argument-worth-spec =
     tie.close
     (tie.spec
-    element-copy-out-form
+    form-in-requires
     (λ c κs. search needs)
     carried-requires
     target-worth-requires

@@ -12,21 +12,22 @@ use Rattle.slots.specs.Slots.{slotAt}
 use Rattle.image.specs.Tables.{Tables, tables, Ready}
 use Rattle.image.specs.Image.{imageOf}
 use Rattle.image.proofs.Images.{image-is, sizeHere, size-here, Done, done-end, done-more, length-found, length-none}
+use Rattle.slots.specs.State.{startsIn, formsIn}
 use Rattle.image.proofs.writing.image_length.Statement.{statement}
 use Rattle.image.proofs.writing.image_length.Tie as tie
 
 abbrev Inv-loop : tie.InvT-loop
-Inv-loop frames starts count forms positions i₀ i =
+Inv-loop frames state count positions i₀ i =
     (i ≤ count) × ((carry owners offsets links : List ℕ) (values : List ℤ) →
-    let d = tables frames starts count forms carry owners offsets links values positions in
+    let d = tables frames (startsIn state) count (formsIn state) carry owners offsets links values positions in
     Ready d → Done d i)
 
 abbrev μ-loop : tie.MeasureT-loop
-μ-loop frames starts count forms positions i₀ i = i
+μ-loop frames state count positions i₀ i = i
 
 abbrev over : tie.Start Inv-loop μ-loop → (carry owners offsets links : List ℕ) (values : List ℤ) → Tables
 over s carry owners offsets links values =
-    tables (s .args .frames .now) (s .args .starts .now) (s .args .count) (s .args .forms .now) carry owners offsets links values (s .args .positions .now)
+    tables (s .args .frames .now) (startsIn (s .args .state .now)) (s .args .count) (formsIn (s .args .state .now)) carry owners offsets links values (s .args .positions .now)
 
 loop-holds : tie.Need-loop-holds Inv-loop μ-loop
 loop-holds c = (omega arith, λ carry owners offsets links values ready. done-end (over (c .before) carry owners offsets links values))

@@ -15,27 +15,28 @@ use Rattle.listing.specs.Tables.{frameAt}
 use Rattle.encoding.specs.Encode.{bytesOfCode}
 use Rattle.slots.specs.Slots.{slotAt, isData}
 use Rattle.slots.proofs.Items.{data-kind}
-use Rattle.image.specs.Tables.{Tables, tables, program}
+use Rattle.image.specs.Tables.{Tables, tablesOf, program}
 use Rattle.image.specs.Encoding.{encodeAt, itemsIn, boundOf, writeOf}
 use Rattle.image.specs.Image.{put, widthOf, sizeOf}
 use Rattle.image.proofs.Passes.{ok-same, encode-zeros}
 use Rattle.slots.proofs.Linking.{spans, length-beside}
 use Rattle.image.proofs.DataSlots.{DataSlot, data-slot, own-linked, linked-as, data-size, data-some}
 use Rattle.image.proofs.Images.{sizeHere, size-here, bytes-count, Coded, coded, refused, instr-short}
+use Rattle.slots.specs.State.{startsIn, carryIn, ownersIn, offsetsIn}
 use Rattle.image.proofs.writing.write_at.Statement.{statement}
 use Rattle.image.proofs.writing.write_at.Tie as tie
 
 module _ (s : tie.Start) where
   abbrev here : Tables
   here =
-      tables (s .args .frames .now) (s .args .starts .now) (s .args .count) (s .args .forms .now) (s .args .carry .now) (s .args .owners .now) (s .args .offsets .now)
+      tablesOf (s .args .frames .now) (s .args .state .now) (s .args .count)
       (s .args .links .now) (s .args .values .now) (s .args .positions .now)
 
   abbrev place : ℕ
   place = s .args .at .0
 
   abbrev frame : List ℕ
-  frame = frameAt (s .args .frames .now) (s .args .starts .now) place
+  frame = frameAt (s .args .frames .now) (startsIn (s .args .state .now)) place
 
   abbrev room : List ℕ
   room = s .args .image .now
@@ -57,7 +58,7 @@ kind-at-requires c κs = let s = c .before .before .before .before in (s .pre .0
 
 -- the kind that was found
 found : (c : tie.After-kind-at) → let s = c .before .before .before .before .before in c .kind-at .result ≡ kindOf (slotAt (here s .slots) (place s))
-found c = let s = c .before .before .before .before .before in c .kind-at .ensures (s .args .carry .now) (s .args .owners .now) (s .args .offsets .now)
+found c = let s = c .before .before .before .before .before in c .kind-at .ensures (carryIn (s .args .state .now)) (ownersIn (s .args .state .now)) (offsetsIn (s .args .state .now))
 
 encode-at-requires : tie.Need-encode-at-requires
 encode-at-requires c κs =
@@ -131,7 +132,7 @@ module _ (c : tie.After-frame-at) where
 links-at-requires : tie.Need-links-at-requires
 links-at-requires c κs =
     let s = start (c .before) in
-    spans (s .args .frames .now) (s .args .starts .now) (s .args .count) (s .pre .0 .sound .held) (s .args .links .now) (s .pre .0 .says .full) (place s) (s .pre .1)
+    spans (s .args .frames .now) (startsIn (s .args .state .now)) (s .args .count) (s .pre .0 .sound .held) (s .args .links .now) (s .pre .0 .says .full) (place s) (s .pre .1)
 
 write-items-requires : tie.Need-write-items-requires
 write-items-requires c κs =
@@ -143,7 +144,7 @@ write-items-requires c κs =
     rw (f .frame-at .ensures, b .links-at .ensures) (
       data-here f .read,
       s .pre .0 .sound .held .few,
-      length-beside (s .args .frames .now) (s .args .starts .now) (s .args .count) (s .pre .0 .sound .held) (s .args .links .now) (s .pre .0 .says .full) (place s) (s .pre .1),
+      length-beside (s .args .frames .now) (startsIn (s .args .state .now)) (s .args .count) (s .pre .0 .sound .held) (s .args .links .now) (s .pre .0 .says .full) (place s) (s .pre .1),
       omega (arith, s .pre .2 (omega (arith, some, data-bytes f)), data-bytes f, q),
     )
 
@@ -157,7 +158,7 @@ returns-3 c b e =
     let is : items (d .entries) (boundOf (getD (frame s) 0 0)) (writeOf (getD (frame s) 0 0)) (place s) (getD (d .contexts) (place s) 0) 0 (itemsIn (place s) (frame s)) ≡ ok b =
     sym (data-here f .encodes) ∙ e in
     w .write-items .ensures (d .entries) (getD (d .contexts) (place s) 0) (linked-as (λ m. lookup (d .entries) (keyOf (getD (d .contexts) (place s) 0) m)) (f .frame-at .result .now) (l .links-at .result .now) (frame s)
-    (frameAt (s .args .links .now) (s .args .starts .now) (place s)) (s .args .values .now) (s .args .count) (f .frame-at .ensures) (l .links-at .ensures)
+    (frameAt (s .args .links .now) (startsIn (s .args .state .now)) (place s)) (s .args .values .now) (s .args .count) (f .frame-at .ensures) (l .links-at .ensures)
     (own-linked d (s .pre .0) (place s) (s .pre .1)))
     b
     (ap (λ x. items (d .entries) (boundOf (getD x 0 0)) (writeOf (getD x 0 0)) (place s) (getD (d .contexts) (place s) 0) 0 (itemsIn (place s) x)) (f .frame-at .ensures) ∙ is)
@@ -176,7 +177,7 @@ module _ (c : tie.After-size-at) where
 
   count-is : c .size-at .result ≡ sizeOf (here origin) (place origin)
   count-is =
-      c .size-at .ensures (origin .args .carry .now) (origin .args .owners .now) (origin .args .offsets .now)
+      c .size-at .ensures (carryIn (origin .args .state .now)) (ownersIn (origin .args .state .now)) (offsetsIn (origin .args .state .now))
       ∙ ap (λ a. byteCount a (slotAt (here origin .slots) (place origin))) q-is
 
   zeros-are : encodeAt (here origin) (place origin) ≡ ok (replicate (sizeHere (here origin) (place origin)) 0)

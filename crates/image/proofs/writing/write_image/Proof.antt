@@ -7,28 +7,29 @@ use lib.ListN.{length, drop, getD, replicate, length-append, length-replicate}
 use lib.Seq.{drop-at}
 use borrow.Author.Needs.{needs}
 use Rattle.rules.specs.Answers.{ok}
-use Rattle.image.specs.Tables.{Tables, tables}
+use Rattle.image.specs.Tables.{Tables, tablesOf}
 use Rattle.image.specs.Encoding.{encodeSlots}
 use Rattle.image.specs.Image.{imageOf, put}
 use Rattle.image.proofs.Passes.{ok-same, fromSlot, from-start, from-end}
 use Rattle.image.proofs.Rooms.{put-first, roomOf, room-length, room-start, room-end}
 use Rattle.image.proofs.Images.{image-is, rest-short, slot-fits, laid}
+use Rattle.slots.specs.State.{carryIn, ownersIn, offsetsIn}
 use Rattle.image.proofs.writing.write_image.Statement.{statement}
 use Rattle.image.proofs.writing.write_image.Tie as tie
 
 abbrev Inv-loop : tie.InvT-loop
-Inv-loop frames starts count forms carry owners offsets links values positions image₀ i₀ image i =
-    let d = tables frames starts count forms carry owners offsets links values positions in
+Inv-loop frames state count links values positions image₀ i₀ image i =
+    let d = tablesOf frames state count links values positions in
     let n = length (imageOf d) in
     (i ≤ count) × (length image ≡ length image₀) × ((rest : List ℕ) × (fromSlot d i ≡ ok rest) × (image ≡ roomOf n rest (drop n image₀)))
 
 abbrev μ-loop : tie.MeasureT-loop
-μ-loop frames starts count forms carry owners offsets links values positions image₀ i₀ image i = i
+μ-loop frames state count links values positions image₀ i₀ image i = i
 
 module _ (s : tie.Start Inv-loop μ-loop) where
   abbrev here : Tables
   here =
-      tables (s .args .frames .now) (s .args .starts .now) (s .args .count) (s .args .forms .now) (s .args .carry .now) (s .args .owners .now) (s .args .offsets .now)
+      tablesOf (s .args .frames .now) (s .args .state .now) (s .args .count)
       (s .args .links .now) (s .args .values .now) (s .args .positions .now)
 
   abbrev size : ℕ
@@ -43,7 +44,7 @@ image-length-requires c κs = c .before .before .before .pre .0 .sound .held
 size-is : (c : tie.After-image-length Inv-loop μ-loop) → c .image-length .result ≡ size (c .before .before .before .before)
 size-is c =
     let s = c .before .before .before .before in
-    c .image-length .ensures (s .args .carry .now) (s .args .owners .now) (s .args .offsets .now) (s .args .links .now) (s .args .values .now) (s .pre .0) (s .pre .1)
+    c .image-length .ensures (carryIn (s .args .state .now)) (ownersIn (s .args .state .now)) (offsetsIn (s .args .state .now)) (s .args .links .now) (s .args .values .now) (s .pre .0) (s .pre .1)
 
 clear-requires : tie.Need-clear-requires Inv-loop μ-loop
 clear-requires c κs = λ some. omega (arith, size-is c, c .before .before .before .before .pre .2)
@@ -103,7 +104,7 @@ loop-again c =
     let after = l .inv .2 .0 in
     let tail = drop n (cleared k) in
     let h = laid d (s .pre .0) (imageOf d) (whole s) (l .i - 1) below after tail (rw next at (l .inv .2 .1)) in
-    let room : w .write-at .last .1 .1 .1 .1 .1 .1 .1 .1 .1 .1 .1 .0 ≡ roomOf n (h .rest) tail =
+    let room : w .write-at .last .1 .1 .1 .1 .1 .1 .1 .0 ≡ roomOf n (h .rest) tail =
     w .write-at .ensures (h .bytes) (h .encodes) ∙ ap (λ r. put r (getD (d .positions) (l .i - 1) 0) (h .bytes)) (l .inv .2 .2) ∙ h .room in
     let long = room-length n (h .rest) tail (rest-short d (s .pre .0) (imageOf d) (whole s) (l .i - 1) (omega arith) (h .rest) (h .from)) in
     let before = room-length n after tail (rest-short d (s .pre .0) (imageOf d) (whole s) (l .i) (l .inv .0) after (l .inv .2 .1)) in

@@ -8,10 +8,11 @@ use Rattle.laws.specs.Options.{firstFrom, firstOf}
 use Rattle.laws.proofs.Options.{first-starts, firstOf-places}
 use Rattle.rules.specs.Programs.{Program}
 use Rattle.rules.specs.Rewriting.{Pattern, trampoline, patterns, patternAt, anywhere}
-use Rattle.slots.specs.Slots.{Slots, slots, programOf}
+use Rattle.slots.specs.Slots.{Slots, programOf}
+use Rattle.slots.specs.State.{tableOf}
 use Rattle.patterns.specs.Order.{patternAt as nth}
 use Rattle.attempts.specs.Standing.{Tried}
-use Rattle.optimize.proofs.Tries.{same-slots, tried-as, found, missed, ended, still-stands}
+use Rattle.optimize.proofs.Tries.{tried-as, found, missed, ended, still-stands, still-beside}
 use Rattle.optimize.proofs.scanning.fold.Statement.{statement}
 use Rattle.optimize.proofs.scanning.fold.Tie as tie
 
@@ -20,17 +21,17 @@ abbrev tries : Slots → (k : ℕ) → Option Program
 tries t k = anywhere (patternAt (programOf t) (nth k)) (programOf t)
 
 abbrev Inv-loop : tie.InvT-loop
-Inv-loop frames starts count forms₀ carry₀ owners offsets links k₀ forms carry k =
+Inv-loop frames state₀ count links k₀ state k =
     (k ≤ 23)
-    × (slots frames starts count forms carry owners offsets ≡ slots frames starts count forms₀ carry₀ owners offsets)
-    × (firstFrom (tries (slots frames starts count forms₀ carry₀ owners offsets)) 23 0 ≡ firstFrom (tries (slots frames starts count forms₀ carry₀ owners offsets)) (23 - k) k)
+    × (tableOf frames state count ≡ tableOf frames state₀ count)
+    × (firstFrom (tries (tableOf frames state₀ count)) 23 0 ≡ firstFrom (tries (tableOf frames state₀ count)) (23 - k) k)
 
 abbrev μ-loop : tie.MeasureT-loop
-μ-loop frames starts count forms₀ carry₀ owners offsets links k₀ forms carry k = 23 - k
+μ-loop frames state₀ count links k₀ state k = 23 - k
 
 abbrev here : (c : tie.Start Inv-loop μ-loop) → Slots
 here c =
-    slots (c .args .frames .now) (c .args .starts .now) (c .args .count) (c .args .forms .now) (c .args .carry .now) (c .args .owners .now) (c .args .offsets .now)
+    tableOf (c .args .frames .now) (c .args .state .now) (c .args .count)
 
 -- the first pattern
 abbrev first : Slots → Option Program
@@ -43,13 +44,13 @@ loop-holds : tie.Need-loop-holds Inv-loop μ-loop
 loop-holds c = (omega arith, refl, first-starts (tries (here (c .before))) 23)
 
 pattern-requires : tie.Need-pattern-requires Inv-loop μ-loop
-pattern-requires c κs = omega (arith, c .before .before .loop-test .taken)
+pattern-requires c κs = omega (arith, c .before .loop-test .taken)
 
 fold-with-requires : tie.Need-fold-with-requires Inv-loop μ-loop
 fold-with-requires c κs =
-    let l = c .before .before .before .before in
+    let l = c .before .before .before in
     let s = l .before .before in
-    (still-stands (l .loop .inv .1) (s .pre .0), c .pattern .ensures .1, s .pre .1)
+    (still-stands (l .loop .inv .1) (s .pre .0), c .pattern .ensures .1, still-beside (l .loop .inv .1) (s .pre .1))
 
 -- the pattern in hand is the one of that number
 in-order : {t u : Slots} {r : Bool} (k : ℕ) (p : Pattern) → p ≡ nth k → Tried (anywhere (patternAt (programOf t) p) (programOf t)) t u r → Tried (tries t k) t u r
@@ -58,11 +59,11 @@ in-order {t} k p e = tried-as _ (tries t k) (ap (λ (x : Pattern). anywhere (pat
 returns : tie.Need-returns Inv-loop μ-loop
 returns c =
     let p = c .before in
-    let e = in-order (p .before .before .before .before .before .loop .k) _ (p .before .pattern .ensures .0) (p .fold-with .ensures) in
-    let l = p .before .before .before .before .before in
+    let e = in-order (p .before .before .before .before .loop .k) _ (p .before .pattern .ensures .0) (p .fold-with .ensures) in
+    let l = p .before .before .before .before in
     let s = l .before .before in
     tried-as _ (first (here s)) (first-is (here s))
-    (found tries 23 (l .loop .k) (l .loop .inv .1) (l .loop .inv .2) (omega (arith, p .before .before .before .before .loop-test .taken)) e (c .if1 .taken))
+    (found tries 23 (l .loop .k) (l .loop .inv .1) (l .loop .inv .2) (omega (arith, p .before .before .before .loop-test .taken)) e (c .if1 .taken))
 
 add-k : tie.Need-add-k Inv-loop μ-loop
 add-k c = omega arith
@@ -73,11 +74,11 @@ loop-less c = omega arith
 loop-again : tie.Need-loop-again Inv-loop μ-loop
 loop-again c =
     let p = c .before in
-    let l = p .before .before .before .before .before in
+    let l = p .before .before .before .before in
     let e = in-order (l .loop .k) _ (p .before .pattern .ensures .0) (p .fold-with .ensures) in (
       omega arith,
-      same-slots _ _ _ _ _ (e .forms-kept (c .if1 .left)) (e .carry-kept (c .if1 .left)) ∙ l .loop .inv .1,
-      missed tries 23 (l .loop .k) (l .loop .inv .1) (l .loop .inv .2) (omega (arith, p .before .before .before .before .loop-test .taken)) e (c .if1 .left),
+      e .kept (c .if1 .left) ∙ l .loop .inv .1,
+      missed tries 23 (l .loop .k) (l .loop .inv .1) (l .loop .inv .2) (omega (arith, p .before .before .before .loop-test .taken)) e (c .if1 .left),
     )
 
 returns-2 : tie.Need-returns-2 Inv-loop μ-loop

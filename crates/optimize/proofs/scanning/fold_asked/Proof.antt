@@ -9,14 +9,15 @@ use Rattle.laws.specs.Options.{firstOf}
 use Rattle.rules.specs.declared.Settings.{Settings}
 use Rattle.rules.specs.Programs.{Program}
 use Rattle.rules.specs.Rewriting.{Pattern, patterns, patternsFor, patternAt, anywhere}
-use Rattle.slots.specs.Slots.{Slots, slots, programOf}
+use Rattle.slots.specs.Slots.{Slots, programOf}
+use Rattle.slots.specs.State.{tableOf}
 use Rattle.optimize.proofs.Tries.{tried-as, tried-none}
 use Rattle.optimize.proofs.scanning.fold_asked.Statement.{statement}
 use Rattle.optimize.proofs.scanning.fold_asked.Tie as tie
 
 abbrev here : (c : tie.Start) → Slots
 here c =
-    slots (c .args .frames .now) (c .args .starts .now) (c .args .count) (c .args .forms .now) (c .args .carry .now) (c .args .owners .now) (c .args .offsets .now)
+    tableOf (c .args .frames .now) (c .args .state .now) (c .args .count)
 
 abbrev folds : Slots → List Pattern → Option Program
 folds t xs = firstOf (λ x. anywhere (patternAt (programOf t) x) (programOf t)) xs
@@ -39,7 +40,7 @@ fold-requires c κs = search needs
 
 returns-2 : tie.Need-returns-2
 returns-2 c =
-    let i = c .before .before .before in
+    let i = c .before .before in
     let s = i .before .before .before in
     tried-as _ (folds (here s) (patternsFor (s .args .asked))) (on (s .args .asked) (here s) (not-false (s .args .asked .folds) (i .if1 .left))) (c .fold .ensures)
 

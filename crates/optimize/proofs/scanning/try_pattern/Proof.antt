@@ -5,7 +5,8 @@ use Prim.Native.Nat.{ℕ}
 use borrow.Author.Needs.{needs}
 use Rattle.rules.specs.Forms.{isTransfer}
 use Rattle.rules.specs.Rewriting.{patternAt}
-use Rattle.slots.specs.Slots.{Slots, slots, programOf, Agree}
+use Rattle.slots.specs.Slots.{Slots, programOf, Agree}
+use Rattle.slots.specs.State.{tableOf}
 use Rattle.patterns.specs.declared.Pattern.{Pattern as Coded}
 use Rattle.patterns.specs.declared.Pattern.the-variants.{Inverted, Trampoline}
 use Rattle.patterns.specs.Order.{patternOf, Known}
@@ -15,7 +16,7 @@ use Rattle.optimize.proofs.scanning.try_pattern.Tie as tie
 
 abbrev here : (c : tie.Start) → Slots
 here c =
-    slots (c .args .frames .now) (c .args .starts .now) (c .args .count) (c .args .forms .now) (c .args .carry .now) (c .args .owners .now) (c .args .offsets .now)
+    tableOf (c .args .frames .now) (c .args .state .now) (c .args .count)
 
 -- what is known of the pattern in hand
 inverted-known : (r : Coded) {from to : ℕ} → r ≡ Inverted from to → Known (patternOf r) → (isTransfer from ≡ true) × Agree to from
@@ -29,7 +30,7 @@ enum-known-p c = search needs
 
 try-inverted-requires : tie.Need-try-inverted-requires
 try-inverted-requires c κs =
-    let f = c .before .before .before in
+    let f = c .before .before in
     let s = f .before .before .before in
     let k = inverted-known (s .args .p) (f .p .given .1) (s .pre .1) in
     (s .pre .0, s .pre .2, k .0, k .1, s .pre .3)
@@ -39,20 +40,20 @@ enum-known-p-2 c = search needs
 
 try-trampoline-requires : tie.Need-try-trampoline-requires
 try-trampoline-requires c κs =
-    let f = c .before .before .before in
+    let f = c .before .before in
     let s = f .before .before .before in
     (s .pre .0, s .pre .2, trampoline-known (s .args .p) (f .p2 .given .1) (s .pre .1), s .pre .3)
 
 returns : tie.Need-returns
 returns c =
-    let f = c .before .before .before .before in
+    let f = c .before .before .before in
     let s = f .before .before .before in
     tried-as _ (patternAt (programOf (here s)) (patternOf (s .args .p)) (s .args .at .0))
     (ap (λ (x : Coded). patternAt (programOf (here s)) (patternOf x) (s .args .at .0)) (sym (f .p .given .1))) (c .try-inverted .ensures)
 
 returns-2 : tie.Need-returns-2
 returns-2 c =
-    let f = c .before .before .before .before in
+    let f = c .before .before .before in
     let s = f .before .before .before in
     tried-as _ (patternAt (programOf (here s)) (patternOf (s .args .p)) (s .args .at .0))
     (ap (λ (x : Coded). patternAt (programOf (here s)) (patternOf x) (s .args .at .0)) (sym (f .p2 .given .1))) (c .try-trampoline .ensures)

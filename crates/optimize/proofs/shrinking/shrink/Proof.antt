@@ -1,7 +1,8 @@
 -- `optimize::shrinking::shrink` meets its contract: the names of a program that assembles stand, and the tables hold their values and how deep its
 -- inner labels reach.
 use borrow.Author.Needs.{needs}
-use Rattle.slots.specs.Slots.{Slots, slots}
+use Rattle.slots.specs.Slots.{Slots}
+use Rattle.slots.specs.State.{carryIn, ownersIn, offsetsIn, tableOf}
 use Rattle.asm.proofs.Ending.{ready-of}
 use Rattle.optimize.proofs.Names.{standing-placed, never-refused}
 use Rattle.optimize.proofs.shrinking.shrink.Statement.{statement}
@@ -9,7 +10,7 @@ use Rattle.optimize.proofs.shrinking.shrink.Tie as tie
 
 abbrev here : (c : tie.Start) → Slots
 here c =
-    slots (c .args .frames .now) (c .args .starts .now) (c .args .count) (c .args .forms .now) (c .args .carry .now) (c .args .owners .now) (c .args .offsets .now)
+    tableOf (c .args .frames .now) (c .args .state .now) (c .args .count)
 
 fill-deepest-requires : tie.Need-fill-deepest-requires
 fill-deepest-requires c κs = (c .before .before .before .pre .0 .sound, search needs)
@@ -31,7 +32,7 @@ shrink-first-requires c κs =
     let n = e .before .before in
     let d = n .before .before .before .before in
     let s = d .before .before .before .before in
-    let f = n .lay-and-define .ensures (s .args .carry .now) (s .args .owners .now) (s .args .offsets .now) (s .pre .0 .named) .filled (e .enum-told2 .given .1) in
+    let f = n .lay-and-define .ensures (carryIn (s .args .state .now)) (ownersIn (s .args .state .now)) (offsetsIn (s .args .state .now)) (s .pre .0 .named) .filled (e .enum-told2 .given .1) in
     (s .pre .0, d .fill-deepest .ensures, ready-of (here s) _ _ _ (s .pre .0 .sound) (s .pre .0 .together) (s .pre .0 .context) f, s .pre .2)
 
 returns : tie.Need-returns
@@ -39,7 +40,7 @@ returns c =
     let n = c .before .before in
     let s = n .before .before .before .before .before .before .before .before in
     never-refused (here s) _ _ _ _ (c .enum-told .given .0 .0) (s .pre .1)
-    (n .lay-and-define .ensures (s .args .carry .now) (s .args .owners .now) (s .args .offsets .now) (s .pre .0 .named)) (c .enum-told .given .1)
+    (n .lay-and-define .ensures (carryIn (s .args .state .now)) (ownersIn (s .args .state .now)) (offsetsIn (s .args .state .now)) (s .pre .0 .named)) (c .enum-told .given .1)
 
 returns-2 : tie.Need-returns-2
 returns-2 c = c .shrink-first .ensures

@@ -11,10 +11,11 @@ use Rattle.rules.specs.Programs.{Placeℕ, Program}
 use Rattle.rules.specs.declared.Settings.{Settings}
 use Rattle.rules.specs.Judging.{namesOf}
 use Rattle.rules.specs.Rewriting.{shrinkAt, anywhere}
-use Rattle.slots.specs.Slots.{Slots, slots, programOf}
+use Rattle.slots.specs.Slots.{Slots, programOf}
+use Rattle.slots.specs.State.{tableOf}
 use Rattle.slots.specs.Links.{contextsRead}
 use Rattle.image.specs.Tables.{Tables, Ready}
-use Rattle.optimize.proofs.Tries.{same-slots, tried-as, found, missed, ended, anywhere-is, still-stands, still-deep}
+use Rattle.optimize.proofs.Tries.{tried-as, found, missed, ended, anywhere-is, still-stands, still-deep, still-beside}
 use Rattle.optimize.proofs.shrinking.shrink_first.Statement.{statement}
 use Rattle.optimize.proofs.shrinking.shrink_first.Tie as tie
 
@@ -23,17 +24,17 @@ abbrev tries : Settings → Slots → (i : Placeℕ) → Option Program
 tries asked t i = shrinkAt asked (namesOf (programOf t)) (programOf t) i
 
 abbrev Inv-loop : tie.InvT-loop
-Inv-loop asked frames starts count forms₀ carry owners offsets links values positions deepest i₀ forms i =
+Inv-loop asked frames state₀ count links values positions deepest i₀ state i =
     (i ≤ count)
-    × (slots frames starts count forms carry owners offsets ≡ slots frames starts count forms₀ carry owners offsets)
-    × (firstFrom (tries asked (slots frames starts count forms₀ carry owners offsets)) count 0 ≡ firstFrom (tries asked (slots frames starts count forms₀ carry owners offsets)) (count - i) i)
+    × (tableOf frames state count ≡ tableOf frames state₀ count)
+    × (firstFrom (tries asked (tableOf frames state₀ count)) count 0 ≡ firstFrom (tries asked (tableOf frames state₀ count)) (count - i) i)
 
 abbrev μ-loop : tie.MeasureT-loop
-μ-loop asked frames starts count forms₀ carry owners offsets links values positions deepest i₀ forms i = count - i
+μ-loop asked frames state₀ count links values positions deepest i₀ state i = count - i
 
 abbrev here : (c : tie.Start Inv-loop μ-loop) → Slots
 here c =
-    slots (c .args .frames .now) (c .args .starts .now) (c .args .count) (c .args .forms .now) (c .args .carry .now) (c .args .owners .now) (c .args .offsets .now)
+    tableOf (c .args .frames .now) (c .args .state .now) (c .args .count)
 
 -- the other tables are ready for the same slots
 abbrev beside : Slots → (links : List ℕ) (values : List ℤ) (positions : List ℕ) → Tables
@@ -51,7 +52,7 @@ shrink-at-requires c κs =
     let l = c .before .before in
     let s = l .before .before in
     let same = l .loop .inv .1 in
-    (still-stands same (s .pre .0), still-deep same (s .pre .1), still-ready _ _ _ _ _ same (s .pre .2), s .pre .3, c .before .loop-test .taken)
+    (still-stands same (s .pre .0), still-deep same (s .pre .1), still-ready _ _ _ _ _ same (s .pre .2), still-beside same (s .pre .3), c .before .loop-test .taken)
 
 returns : tie.Need-returns Inv-loop μ-loop
 returns c =
@@ -74,7 +75,7 @@ loop-again c =
     let s = l .before .before in
     let e = p .shrink-at .ensures in (
       omega arith,
-      same-slots _ _ _ _ _ (e .forms-kept (c .if1 .left)) (e .carry-kept (c .if1 .left)) ∙ l .loop .inv .1,
+      e .kept (c .if1 .left) ∙ l .loop .inv .1,
       missed (tries (s .args .asked)) (s .args .count) (l .loop .i) (l .loop .inv .1) (l .loop .inv .2) (p .before .before .loop-test .taken) e (c .if1 .left),
     )
 

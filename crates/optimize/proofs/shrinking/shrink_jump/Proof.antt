@@ -4,7 +4,8 @@ use mathlib.Core.List.{List}
 use Rattle.rules.specs.Names.{Entry}
 use Rattle.rules.specs.Judging.{namesOf}
 use Rattle.rules.specs.Rewriting.{isChangeJump, shrinkAt}
-use Rattle.slots.specs.Slots.{Slots, slots, programOf}
+use Rattle.slots.specs.Slots.{Slots, programOf}
+use Rattle.slots.specs.State.{tableOf}
 use Rattle.optimize.proofs.Tries.{tried-as, tried-none}
 use Rattle.optimize.proofs.Shorter.{shrink-change, shrink-plain}
 use Rattle.optimize.proofs.shrinking.shrink_jump.Statement.{statement}
@@ -12,7 +13,7 @@ use Rattle.optimize.proofs.shrinking.shrink_jump.Tie as tie
 
 abbrev here : (c : tie.Start) → Slots
 here c =
-    slots (c .args .frames .now) (c .args .starts .now) (c .args .count) (c .args .forms .now) (c .args .carry .now) (c .args .owners .now) (c .args .offsets .now)
+    tableOf (c .args .frames .now) (c .args .state .now) (c .args .count)
 
 abbrev its : (c : tie.Start) → List Entry
 its c = namesOf (programOf (here c))
@@ -32,7 +33,7 @@ returns c =
     (shrink-change (s .args .asked) (its s) (here s) (s .args .at .0) (s .pre .4) (s .pre .5) (s .pre .6) (judged j ∙ c .if1 .taken)) (s .pre .0)
 
 try-br-then-jmp-requires : tie.Need-try-br-then-jmp-requires
-try-br-then-jmp-requires c κs = let s = c .before .before .before .before .before in (s .pre .0, s .pre .1, s .pre .4, s .pre .5, s .pre .6, s .pre .3)
+try-br-then-jmp-requires c κs = let s = c .before .before .before .before .before in (s .pre .0, s .pre .1, s .pre .4, s .pre .5, s .pre .6, s .pre .3, s .pre .2 .position)
 
 returns-2 : tie.Need-returns-2
 returns-2 c =

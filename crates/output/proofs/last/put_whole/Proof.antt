@@ -6,8 +6,9 @@ use native.Mathlib.Omega.{arith}
 use lib.ListN.{length}
 use borrow.Author.Needs.{needs}
 use Rattle.rules.specs.Output.{lineOf}
-use Rattle.output.specs.Digits.{laid}
-use Rattle.output.proofs.Rooms.{laid-one, laid-front, length-line, put-line}
+use Rattle.digits.specs.Digits.{laid}
+use Rattle.digits.proofs.Rooms.{laid-one, laid-front, length-line}
+use Rattle.output.proofs.Rooms.{put-line}
 use Rattle.output.proofs.last.put_whole.Statement.{statement}
 use Rattle.output.proofs.last.put_whole.Tie as tie
 

@@ -15,6 +15,7 @@ use Rattle.listing.specs.Tables.{frameAt}
 use Rattle.slots.specs.Slots.{Slots, slots, slotAt, programOf}
 use Rattle.output.proofs.Slots.{line-gone, bytes-instr, bytes-other}
 use Rattle.output.proofs.Sizes.{frame-most, line-size, drawn}
+use Rattle.slots.specs.State.{startsIn, formsIn, carryIn, ownersIn}
 use Rattle.output.proofs.lines.line_length_at.Statement.{statement}
 use Rattle.output.proofs.lines.line_length_at.Tie as tie
 
@@ -30,10 +31,10 @@ module _ (c : tie.After-kind-at) (offsets : List ℕ) where
   form = formOf (start .args .marked)
 
   abbrev over : Slots
-  over = slots (start .args .frames .now) (start .args .starts .now) (start .args .count) (start .args .forms .now) (start .args .carry .now) (start .args .owners .now) offsets
+  over = slots (start .args .frames .now) (startsIn (start .args .state .now)) (start .args .count) (formsIn (start .args .state .now)) (carryIn (start .args .state .now)) (ownersIn (start .args .state .now)) offsets
 
   kind-is : c .kind-at .result ≡ kindOf (slotAt over (start .args .at .0))
-  kind-is = c .kind-at .ensures (start .args .carry .now) (start .args .owners .now) offsets
+  kind-is = c .kind-at .ensures (carryIn (start .args .state .now)) (ownersIn (start .args .state .now)) offsets
 
 all-bytes : (c : tie.After-shared-slice-known) → AreBytes (c .before .args .frames .now)
 all-bytes c i = c .shared-slice-known .given i .fits
@@ -80,8 +81,8 @@ returns-2 c =
 frame-at-requires : tie.Need-frame-at-requires
 frame-at-requires c κs = let s = c .before .before .before .before .before in (s .pre .0 .1 .held, s .pre .1)
 
-most : (c : tie.After-frame-at) → let s = c .before .before .before .before .before .before in length (frameAt (s .args .frames .now) (s .args .starts .now) (s .args .at .0)) ≤ 28672
-most c = let s = c .before .before .before .before .before .before in frame-most (s .args .frames .now) (s .args .starts .now) (s .args .count) (s .pre .0 .1 .held) (s .args .at .0) (s .pre .1)
+most : (c : tie.After-frame-at) → let s = c .before .before .before .before .before .before in length (frameAt (s .args .frames .now) (startsIn (s .args .state .now)) (s .args .at .0)) ≤ 28672
+most c = let s = c .before .before .before .before .before .before in frame-most (s .args .frames .now) (startsIn (s .args .state .now)) (s .args .count) (s .pre .0 .1 .held) (s .args .at .0) (s .pre .1)
 
 add-result-3 : tie.Need-add-result-3
 add-result-3 c = omega (arith, most c, ap length (c .frame-at .ensures), c .before .before .line-bytes .ensures .1)

@@ -4,7 +4,7 @@ use mathlib.Core.List.{[], _∷_}
 use native.Mathlib.Omega.{arith}
 use borrow.Author.Needs.{needs}
 use borrow.Author.Tests.{not-true, not-false}
-use Rattle.output.proofs.Rooms.{length-line}
+use Rattle.digits.proofs.Rooms.{length-line}
 use Rattle.output.proofs.lines.mark_length.Statement.{statement}
 use Rattle.output.proofs.lines.mark_length.Tie as tie
 

@@ -9,16 +9,17 @@ use Rattle.listing.specs.Form.{formOf}
 use Rattle.slots.specs.Slots.{Slots, slots, Sound}
 use Rattle.output.specs.Lines.{linesTo}
 use Rattle.output.proofs.Listings.{lines-none, lines-all, length-more}
+use Rattle.slots.specs.State.{startsIn, formsIn, carryIn, ownersIn}
 use Rattle.output.proofs.lines.text_length.Statement.{statement}
 use Rattle.output.proofs.lines.text_length.Tie as tie
 
 abbrev Inv-loop : tie.InvT-loop
-Inv-loop marked frames starts count forms carry owners n₀ i₀ n i =
+Inv-loop marked frames state count n₀ i₀ n i =
     (i ≤ count) × (n ≤ 5 + 114697 * i)
-    × ((lines offsets : List ℕ) → Sound (slots frames starts count forms carry owners offsets) → n ≡ length (linesTo (formOf marked) lines (slots frames starts count forms carry owners offsets) i))
+    × ((lines offsets : List ℕ) → Sound (slots frames (startsIn state) count (formsIn state) (carryIn state) (ownersIn state) offsets) → n ≡ length (linesTo (formOf marked) lines (slots frames (startsIn state) count (formsIn state) (carryIn state) (ownersIn state) offsets) i))
 
 abbrev μ-loop : tie.MeasureT-loop
-μ-loop marked frames starts count forms carry owners n₀ i₀ n i = count - i
+μ-loop marked frames state count n₀ i₀ n i = count - i
 
 loop-holds : tie.Need-loop-holds Inv-loop μ-loop
 loop-holds c =
@@ -39,7 +40,7 @@ loop-less c = omega arith
 
 -- the tables at a start
 abbrev over : tie.Start Inv-loop μ-loop → List ℕ → Slots
-over s offsets = slots (s .args .frames .now) (s .args .starts .now) (s .args .count) (s .args .forms .now) (s .args .carry .now) (s .args .owners .now) offsets
+over s offsets = slots (s .args .frames .now) (startsIn (s .args .state .now)) (s .args .count) (formsIn (s .args .state .now)) (carryIn (s .args .state .now)) (ownersIn (s .args .state .now)) offsets
 
 loop-again : tie.Need-loop-again Inv-loop μ-loop
 loop-again c =

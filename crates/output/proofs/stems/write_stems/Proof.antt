@@ -1,98 +1,114 @@
 -- `output::stems::write_stems` meets its contract: after i turns the list begins with the places below i that are left.
 use mathlib.Core.Path.{_≡_, refl, sym, ap, _∙_}
+use mathlib.Core.List.{List, [], _∷_, _++_}
 use mathlib.Core.Logic.{⊎-elim}
-use mathlib.Core.List.{List, [], _∷_, _++_, append-nil}
-use Prim.Native.Nat.{ℕ, _+_, _-_, _≤_, _<_}
+use Prim.Native.Nat.{ℕ, _+_, _-_, _*_, _≤_, _<_}
 use native.Mathlib.Omega.{arith}
-use lib.ListN.{length, getD, drop, length-append, length-set}
-use borrow.Author.Tests.{eq-eqb, ne-eqb}
+use lib.ListN.{length, getD}
+use borrow.Author.Needs.{needs}
 use Rattle.laws.specs.Counts.{tab}
 use Rattle.laws.specs.Lists.{each}
-use Rattle.laws.proofs.Stores.{front-more}
-use Rattle.rules.specs.Output.{stems}
-use Rattle.slots.specs.Slots.{slots, goneForm, programOf}
-use Rattle.output.specs.Stems.{keptTo}
-use Rattle.output.proofs.Listings.{kept-more, kept-few, stems-kept}
+use Rattle.rules.specs.Expressions.{pair}
+use Rattle.slots.specs.Slots.{goneForm}
+use Rattle.digits.specs.Digits.{laid}
+use Rattle.slots.specs.State.{formsIn}
+use Rattle.output.specs.Stems.{keptTo, listOf}
+use Rattle.digits.proofs.Rooms.{length-laid, laid-more, laid-nothing, laid-front}
+use Rattle.output.proofs.Listings.{kept-few}
+use Rattle.output.proofs.Left.{kept-one, kept-none, counts-one, kept-within, length-list, list-more}
 use Rattle.output.proofs.stems.write_stems.Statement.{statement}
 use Rattle.output.proofs.stems.write_stems.Tie as tie
 
 abbrev Inv-loop : tie.InvT-loop
-Inv-loop count forms list₀ n₀ i₀ list n i =
-    (i ≤ count) × (n ≡ length (keptTo forms i)) × (list ≡ keptTo forms i ++ drop n list₀) × (length list ≡ length list₀)
+Inv-loop count state list₀ n₀ i₀ list n i =
+    (i ≤ count) × (n ≡ length (keptTo (formsIn state) i)) × (list ≡ laid list₀ 0 (listOf (keptTo (formsIn state) i))) × (length list ≡ length list₀)
 
 abbrev μ-loop : tie.MeasureT-loop
-μ-loop count forms list₀ n₀ i₀ list n i = count - i
+μ-loop count state list₀ n₀ i₀ list n i = count - i
 
 loop-holds : tie.Need-loop-holds Inv-loop μ-loop
-unfolding keptTo each tab
-loop-holds c = (omega arith, refl, refl, refl)
+unfolding keptTo listOf each tab
+loop-holds c = (omega arith, refl, sym (laid-nothing _ 0), refl)
 
-element-copy-out-if1 : tie.Need-element-copy-out-if1 Inv-loop μ-loop
-element-copy-out-if1 c = omega (arith, c .before .before .pre .0)
+form-in-requires : tie.Need-form-in-requires Inv-loop μ-loop
+form-in-requires c κs = omega (arith, c .before .before .before .pre .0)
 
-few : (c : tie.Then1 Inv-loop μ-loop) → c .before .before .before .loop .n < 1024
-few c = let l = c .before .before .before .loop in omega (arith, l .inv .1, kept-few (c .before .before .before .before .args .forms .now) (l .i), c .before .before .loop-test .taken, c .before .before .before .before .pre .0)
+-- one more entry fits
+module _ (count : ℕ) (forms list : List ℕ) (i n : ℕ) (l : i < count) (e : n ≡ length (keptTo forms i)) (k : getD forms i 0 ≡ goneForm → ⊥) where
+  entry-fits : 2 * length (keptTo forms count) ≤ length list → 2 * n + 2 ≤ length list
+  entry-fits h = omega (arith, counts-one forms i k, kept-within forms (i + 1) count (omega arith))
 
-cast-list : tie.Need-cast-list Inv-loop μ-loop
-cast-list c = omega (arith, c .before .before .before .before .pre .0)
+  -- and the list with it
+  entry-more : (now after : List ℕ) → 2 * length (keptTo forms count) ≤ length list → now ≡ laid list 0 (listOf (keptTo forms i))
+      → after ≡ laid now (2 * n) (pair i) → after ≡ laid list 0 (listOf (keptTo forms (i + 1)))
+  entry-more now after h q r =
+      let z : 0 + length (listOf (keptTo forms i)) ≡ 2 * n = omega (arith, length-list (keptTo forms i)) in
+      r ∙ ap (λ s. laid s (2 * n) (pair i)) q
+      ∙ laid-more list (listOf (keptTo forms i)) (pair i) 0 (2 * n) z (entry-fits h)
+      ∙ ap (laid list 0) (sym (list-more (keptTo forms i) i) ∙ ap listOf (sym (kept-one forms i k)))
 
-mul-list : tie.Need-mul-list Inv-loop μ-loop
-mul-list c = omega (arith, few c)
+mul-put-entry : tie.Need-mul-put-entry Inv-loop μ-loop
+mul-put-entry c =
+    let l = c .before .before .before .before .loop in
+    let s = c .before .before .before .before .before .before in
+    omega (arith, l .inv .1, kept-few (formsIn (s .args .state .now)) (l .i), s .pre .0)
 
-element-write-list : tie.Need-element-write-list Inv-loop μ-loop
-element-write-list c = few c
+put-entry-requires : tie.Need-put-entry-requires Inv-loop μ-loop
+put-entry-requires c κs =
+    let l = c .before .before .before .before .loop in
+    let s = c .before .before .before .before .before .before in
+    let h = entry-fits (s .args .count) (formsIn (s .args .state .now)) (s .args .list .now) (l .i) (l .n) (c .before .before .before .loop-test .taken) (l .inv .1) (λ e. c .before .if1 .taken (c .before .before .form-in .ensures ∙ e)) (s .pre .1) in
+    (omega (arith, h, l .inv .3), omega (arith, s .pre .0))
 
 add-n : tie.Need-add-n Inv-loop μ-loop
-add-n c = omega (arith, few c)
+add-n c =
+    let l = c .before .before .before .before .before .before .before .loop in
+    let s = c .before .before .before .before .before .before .before .before .before in
+    omega (arith, l .inv .1, kept-few (formsIn (s .args .state .now)) (l .i), s .pre .0)
 
 add-i : tie.Need-add-i Inv-loop μ-loop
-add-i c = omega (arith, c .before .before .before .before .pre .0)
+add-i c = omega (arith, c .before .before .before .before .before .pre .0)
 
 loop-less : tie.Need-loop-less Inv-loop μ-loop
 loop-less c = omega arith
 
--- one more place, or none
-kept-one : (forms : List ℕ) (i : ℕ) → (getD forms i 0 ≡ goneForm → ⊥) → keptTo forms (i + 1) ≡ keptTo forms i ++ (i ∷ [])
-kept-one forms i n = kept-more forms i ∙ rw (ne-eqb (getD forms i 0) goneForm n)
-
-kept-none : (forms : List ℕ) (i : ℕ) → getD forms i 0 ≡ goneForm → keptTo forms (i + 1) ≡ keptTo forms i
-kept-none forms i e = kept-more forms i ∙ rw (eq-eqb (getD forms i 0) goneForm e, append-nil)
-
 loop-again : tie.Need-loop-again Inv-loop μ-loop
 loop-again c =
     let l = c .before .before .before .loop in
-    let s = c .before .before .before .before in
-    let f = s .args .forms .now in
+    let s = c .before .before .before .before .before in
+    let f = formsIn (s .args .state .now) in
     let d = s .args .list .now in
+    let less = c .before .before .loop-test .taken in
+    let form = c .before .form-in .ensures in
     ⊎-elim
     (λ w.
-    let q = kept-one f (l .i) (w .0 .taken) in
-    let size = ap length q ∙ length-append (keptTo f (l .i)) (l .i ∷ []) in
-    let n = l .inv .1 in
-    let less : l .n < length d = omega (arith, n, kept-few f (l .i), s .pre .0, s .pre .1) in (
+    let h = entry-fits (s .args .count) f d (l .i) (l .n) less (l .inv .1) (λ e. w .0 .taken (form ∙ e)) (s .pre .1) in (
       omega arith,
-      w .2 ∙ omega (arith, n, size),
-      w .1 ∙ front-more (keptTo f (l .i)) d (l .list) (l .n) (l .inv .2) (sym n) (l .i) less ∙ rw (q, w .2),
-      ap length (w .1) ∙ simp length-set (l .inv .3),
+      w .6 ∙ omega (arith, l .inv .1, counts-one f (l .i) (λ e. w .0 .taken (form ∙ e))),
+      w .5 ∙ entry-more (s .args .count) f d (l .i) (l .n) less (l .inv .1) (λ e. w .0 .taken (form ∙ e)) (l .list) _ (s .pre .1) (l .inv .2) (w .2 .ensures),
+      ap length (w .5 ∙ w .2 .ensures) ∙ length-laid (l .list) (2 * l .n) (pair (l .i)) (omega (arith, h, l .inv .3)) ∙ l .inv .3,
     ))
     (λ w.
-    let q = kept-none f (l .i) (w .0 .left) in (
+    let q = kept-none f (l .i) (sym form ∙ w .0 .left) in (
       omega arith,
       w .2 ∙ l .inv .1 ∙ ap length (sym q),
-      w .1 ∙ l .inv .2 ∙ rw (q, w .2),
+      w .1 ∙ l .inv .2 ∙ ap (λ is. laid d 0 (listOf is)) (sym q),
       ap length (w .1) ∙ l .inv .3,
     ))
     (c .if1 .came)
 
+same-length : tie.Need-same-length Inv-loop μ-loop
+same-length c = search needs
+
 returns : tie.Need-returns Inv-loop μ-loop
-returns c frames starts carry owners offsets held =
+returns c =
     let l = c .before .loop in
-    let s = c .before .before in
-    let e : l .i ≡ s .args .count = omega arith in
-    let all : keptTo (s .args .forms .now) (l .i) ≡ stems (programOf (slots frames starts (s .args .count) (s .args .forms .now) carry owners offsets)) =
-    ap (keptTo (s .args .forms .now)) e ∙ sym (stems-kept (slots frames starts (s .args .count) (s .args .forms .now) carry owners offsets) held) in
-    let n : l .n ≡ length (stems (programOf (slots frames starts (s .args .count) (s .args .forms .now) carry owners offsets))) = l .inv .1 ∙ ap length all in
-    (l .inv .2 ∙ ap (λ z. z ++ drop (l .n) (s .args .list .now)) all ∙ ap (λ k. stems (programOf (slots frames starts (s .args .count) (s .args .forms .now) carry owners offsets)) ++ drop k (s .args .list .now)) n, n)
+    let s = c .before .before .before in
+    let f = formsIn (s .args .state .now) in
+    let e : l .i ≡ s .args .count = omega arith in (
+      l .inv .2 ∙ ap (λ k. laid (s .args .list .now) 0 (listOf (keptTo f k))) e ∙ laid-front (s .args .list .now) (listOf (keptTo f (s .args .count))),
+      l .inv .1 ∙ ap (λ k. length (keptTo f k)) e,
+    )
 
 pub write-stems-spec : {M : Type 1} → statement M
 write-stems-spec =
@@ -101,12 +117,12 @@ write-stems-spec =
     Inv-loop
     μ-loop
     loop-holds
-    element-copy-out-if1
-    cast-list
-    mul-list
-    element-write-list
+    form-in-requires
+    mul-put-entry
+    put-entry-requires
     add-n
     add-i
     loop-less
     loop-again
+    same-length
     returns)

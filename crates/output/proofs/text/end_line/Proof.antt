@@ -1,7 +1,7 @@
 -- `output::text::end_line` meets its contract: one store.
 use mathlib.Core.Path.{refl}
 use borrow.Author.Needs.{needs}
-use Rattle.output.proofs.Rooms.{laid-one}
+use Rattle.digits.proofs.Rooms.{laid-one}
 use Rattle.output.proofs.text.end_line.Statement.{statement}
 use Rattle.output.proofs.text.end_line.Tie as tie
 

@@ -5,7 +5,7 @@ use Prim.Native.Nat.{ℕ, _/_, _%_, _^_, _<_}
 use native.Mathlib.Omega.{arith}
 use borrow.Author.Needs.{needs}
 use Rattle.rules.specs.Expressions.{four}
-use Rattle.output.specs.Digits.{hexOf, laid}
+use Rattle.digits.specs.Digits.{hexOf, laid}
 use Rattle.output.proofs.text.put_five.Statement.{statement}
 use Rattle.output.proofs.text.put_five.Tie as tie
 

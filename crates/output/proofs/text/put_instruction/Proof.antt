@@ -8,11 +8,12 @@ use lib.ListN.{length, getD, length-append}
 use borrow.Author.Needs.{needs}
 use Rattle.rules.specs.Forms.{isTransfer}
 use Rattle.listing.specs.Tables.{frameAt}
-use Rattle.slots.specs.Slots.{Slots, slots}
+use Rattle.slots.specs.Slots.{Slots}
 use Rattle.output.specs.Digits.{Put}
 use Rattle.output.specs.Lines.{ownEnd, ownBytes, targetBytes, carriedBytes, NumberLow}
 use Rattle.output.proofs.Rooms.{put-more}
 use Rattle.output.proofs.Sizes.{length-own, carried-transfer, carried-other}
+use Rattle.slots.specs.State.{startsIn, formsIn, carryIn, ownersIn, offsetsIn, tableOf}
 use Rattle.output.proofs.text.put_instruction.Statement.{statement}
 use Rattle.output.proofs.text.put_instruction.Tie as tie
 
@@ -22,16 +23,16 @@ module _ (s : tie.Start) where
   place = s .args .place .0
 
   abbrev frame : List ℕ
-  frame = frameAt (s .args .frames .now) (s .args .starts .now) place
+  frame = frameAt (s .args .frames .now) (startsIn (s .args .state .now)) place
 
   abbrev form : ℕ
-  form = getD (s .args .forms .now) place 0
+  form = getD (formsIn (s .args .state .now)) place 0
 
   abbrev from : ℕ
-  from = getD (s .args .carry .now) place 0
+  from = getD (carryIn (s .args .state .now)) place 0
 
   abbrev over : Slots
-  over = slots (s .args .frames .now) (s .args .starts .now) (s .args .count) (s .args .forms .now) (s .args .carry .now) (s .args .owners .now) (s .args .offsets .now)
+  over = tableOf (s .args .frames .now) (s .args .state .now) (s .args .count)
 
   abbrev own : List ℕ
   own = ownBytes form frame
@@ -40,7 +41,7 @@ module _ (s : tie.Start) where
   carried = carriedBytes over (s .args .positions .now) form from
 
   abbrev targetAt : ℕ → List ℕ
-  targetAt c = targetBytes (s .args .frames .now) (s .args .starts .now) (s .args .owners .now) (s .args .offsets .now) (s .args .positions .now) c
+  targetAt c = targetBytes (s .args .frames .now) (startsIn (s .args .state .now)) (ownersIn (s .args .state .now)) (offsetsIn (s .args .state .now)) (s .args .positions .now) c
 
   inside : place < 1024
   inside = omega (arith, s .pre .0 .own .inside, s .pre .0 .held .few)
@@ -51,8 +52,8 @@ module _ (s : tie.Start) where
   room : s .args .at + 2 * (length own + length carried) ≤ length (s .args .out .now)
   room = omega (arith, s .pre .2, length-append own carried)
 
-element-copy-out-form : tie.Need-element-copy-out-form
-element-copy-out-form c = inside (c .before .before)
+form-in-requires : tie.Need-form-in-requires
+form-in-requires c κs = omega (arith, inside (c .before .before))
 
 frame-at-requires : tie.Need-frame-at-requires
 frame-at-requires c κs = let s = c .before .before .before in (s .pre .0 .held, s .pre .0 .own .inside)
@@ -67,7 +68,7 @@ put-own-requires c κs =
 put : (c : tie.After-put-own) → let s = c .before .before .before .before .before .before in Put (s .args .out .now) (s .args .at) (own s) (c .put-own .last .1 .1 .1 .0) (c .put-own .result)
 put c =
     let s = c .before .before .before .before .before .before in
-    rw (← c .before .before .frame-at .ensures) (c .put-own .ensures)
+    rw (← c .before .before .frame-at .ensures, ← c .before .before .before .form-in .ensures) (c .put-own .ensures)
 
 is-transfer-requires : tie.Need-is-transfer-requires
 is-transfer-requires c κs = search needs
@@ -75,8 +76,8 @@ is-transfer-requires c κs = search needs
 mul-wide : tie.Need-mul-wide
 mul-wide c = search needs
 
-element-copy-out-wide : tie.Need-element-copy-out-wide
-element-copy-out-wide c = inside (c .before .before .before .before .before .before .before .before .before .before)
+index-2-wide : tie.Need-index-2-wide
+index-2-wide c = omega (arith, inside (c .before .before .before .before .before .before .before .before .before .before))
 
 wide-requires : tie.Need-wide-requires
 wide-requires c κs = search needs
@@ -87,7 +88,7 @@ module _ (c : tie.After-wide) where
   start = c .before .before .before .before .before .before .before .before .before .before .before .before
 
   transfers : isTransfer (form start) ≡ true
-  transfers = sym (c .before .before .before .is-transfer .ensures) ∙ c .before .before .if1 .taken
+  transfers = sym (ap isTransfer (c .before .before .before .before .before .before .before .before .before .form-in .ensures)) ∙ sym (c .before .before .before .is-transfer .ensures) ∙ c .before .before .if1 .taken
 
   target-is : targetAt start (c .wide .result) ≡ carried start
   target-is = ap (targetAt start) (c .wide .ensures) ∙ sym (carried-transfer (over start) (start .args .positions .now) (form start) (from start) transfers)
@@ -99,7 +100,7 @@ put-target-requires c κs =
     let o = c .before .before .before .before .before .before .before in (
       s .pre .0 .held,
       rw (w .wide .ensures) (s .pre .0 .target (transfers w)),
-      subst (λ k. NumberLow (s .args .owners .now) (s .args .positions .now) k) (sym (w .wide .ensures)) (s .pre .1 (transfers w)),
+      subst (λ k. NumberLow (ownersIn (s .args .state .now)) (s .args .positions .now) k) (sym (w .wide .ensures)) (s .pre .1 (transfers w)),
       omega (arith, room s, put o .ends, ap length (target-is w), o .put-own .kept .1 .1 .1 .0),
     )
 
@@ -112,8 +113,8 @@ returns c =
     let s = c .before .before .before .before .before .before .before .before .before .before .before .before .before .before .before .before in
     let o = c .before .before .before .before .before .before .before .before .before .before in
     let p = c .before .before in
-    let behind : Put (o .put-own .last .1 .1 .1 .0) (o .put-own .result) (carried s) (p .put-target .last .1 .1 .1 .1 .1 .1 .1 .0) (p .put-target .result) = rw (← target-is w) (p .put-target .ensures) in
-    put-more (s .args .out .now) (s .args .at) (own s) (o .put-own .last .1 .1 .1 .0) (o .put-own .result) (carried s) (p .put-target .last .1 .1 .1 .1 .1 .1 .1 .0) (p .put-target .result)
+    let behind : Put (o .put-own .last .1 .1 .1 .0) (o .put-own .result) (carried s) (p .put-target .last .1 .1 .1 .1 .1 .0) (p .put-target .result) = rw (← target-is w) (p .put-target .ensures) in
+    put-more (s .args .out .now) (s .args .at) (own s) (o .put-own .last .1 .1 .1 .0) (o .put-own .result) (carried s) (p .put-target .last .1 .1 .1 .1 .1 .0) (p .put-target .result)
     (put o) behind (room s)
 
 same-length-2 : tie.Need-same-length-2
@@ -123,19 +124,20 @@ returns-2 : tie.Need-returns-2
 returns-2 c =
     let s = c .before .before .before .before .before .before .before .before .before .before in
     let o = c .before .before .before .before in
-    let none : carried s ≡ [] = carried-other (over s) (s .args .positions .now) (form s) (from s) (sym (c .before .is-transfer .ensures) ∙ c .if1 .left) in
+    let none : carried s ≡ [] = carried-other (over s) (s .args .positions .now) (form s) (from s) (sym (ap isTransfer (c .before .before .before .before .before .before .before .form-in .ensures)) ∙ sym (c .before .is-transfer .ensures) ∙ c .if1 .left) in
     rw (none, append-nil) (put o)
 
 pub put-instruction-spec : {M : Type 1} → statement M
 put-instruction-spec =
     tie.close
     (tie.spec
-    element-copy-out-form
+    form-in-requires
     frame-at-requires
     put-own-requires
     is-transfer-requires
     mul-wide
-    element-copy-out-wide
+    (λ c. search needs)
+    index-2-wide
     wide-requires
     put-target-requires
     same-length

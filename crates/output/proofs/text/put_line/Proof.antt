@@ -9,13 +9,16 @@ use Rattle.rules.specs.Listing.{ListingForm, lineBytes}
 use Rattle.rules.specs.Output.{lineOf}
 use Rattle.rules.specs.Programs.{kindOf}
 use Rattle.listing.specs.Form.{formOf}
-use Rattle.slots.specs.Slots.{Slots, slots, slotAt, programOf}
+use Rattle.slots.specs.Slots.{Slots, slotAt, programOf}
 use Rattle.slots.proofs.Slots.{slot-gone}
-use Rattle.output.specs.Digits.{laid, Put}
+use Rattle.digits.specs.Digits.{laid}
+use Rattle.output.specs.Digits.{Put}
 use Rattle.output.specs.Lines.{lineAt, bytesAt, bytesIn, sourced}
-use Rattle.output.proofs.Rooms.{laid-nothing, length-line, put-line, put-source}
+use Rattle.digits.proofs.Rooms.{laid-nothing, length-line}
+use Rattle.output.proofs.Rooms.{put-line, put-source}
 use Rattle.output.proofs.Sizes.{length-bytes-in}
 use Rattle.output.proofs.Slots.{line-gone, line-kept, kept-form, kind-kept-first}
+use Rattle.slots.specs.State.{carryIn, ownersIn, offsetsIn, tableOf}
 use Rattle.output.proofs.text.put_line.Statement.{statement}
 use Rattle.output.proofs.text.put_line.Tie as tie
 
@@ -31,19 +34,19 @@ module _ (s : tie.Start) where
   source = getD (s .args .lines .now) place 0
 
   abbrev over : Slots
-  over = slots (s .args .frames .now) (s .args .starts .now) (s .args .count) (s .args .forms .now) (s .args .carry .now) (s .args .owners .now) (s .args .offsets .now)
+  over = tableOf (s .args .frames .now) (s .args .state .now) (s .args .count)
 
   abbrev whole : List ℕ
   whole = bytesAt over (s .args .positions .now) place
 
-element-copy-out-if1 : tie.Need-element-copy-out-if1
-element-copy-out-if1 c = let s = c .before .before in omega (arith, s .pre .2, s .pre .0 .held .few)
+form-in-requires : tie.Need-form-in-requires
+form-in-requires c κs = let s = c .before .before in omega (arith, s .pre .2, s .pre .0 .held .few)
 
 returns : tie.Need-returns
 returns c =
     let s = c .before .before .before .before in
     let none : lineAt (form s) (s .args .lines .now) (over s) (place s) ≡ [] =
-    line-gone (form s) (source s) (programOf (over s)) (slotAt (over s) (place s)) (ap kindOf (slot-gone (over s) (place s) (c .if1 .taken))) in
+    line-gone (form s) (source s) (programOf (over s)) (slotAt (over s) (place s)) (ap kindOf (slot-gone (over s) (place s) (sym (c .before .form-in .ensures) ∙ c .if1 .taken))) in
     (sym (laid-nothing (s .args .out .now) (s .args .at)) ∙ ap (laid (s .args .out .now) (s .args .at)) (sym none), omega (arith, ap length none))
 
 -- the line of a slot that is not gone
@@ -52,7 +55,7 @@ module _ (c : tie.Else1) where
   start = c .before .before .before .before
 
   kept : 1 ≤ kindOf (slotAt (over start) (place start))
-  kept = kept-form (over start) (start .pre .0 .held) (place start) (start .pre .2) (c .if1 .left)
+  kept = kept-form (over start) (start .pre .0 .held) (place start) (start .pre .2) (λ e. c .if1 .left (c .before .form-in .ensures ∙ e))
 
   line-is : lineAt (form start) (start .args .lines .now) (over start) (place start) ≡ lineOf (bytesIn (form start) (source start) (whole start))
   line-is =
@@ -85,11 +88,11 @@ kind-at-requires c κs = let s = c .before .before .before .before .before .befo
 
 put-source-requires : tie.Need-put-source-requires
 put-source-requires c κs =
-    omega (arith, room (c .before .before .before .before .before .before .before .before), some (c .before .before .before .before .before .before .before .before), c .before .before .before .before .before .put-statement .kept .1 .1 .1 .1 .1 .1 .1 .1 .1 .0)
+    omega (arith, room (c .before .before .before .before .before .before .before .before), some (c .before .before .before .before .before .before .before .before), c .before .before .before .before .before .put-statement .kept .1 .1 .1 .1 .1 .0)
 
 end-line-requires : tie.Need-end-line-requires
 end-line-requires c κs =
-    omega (arith, room (c .before .before .before .before .before .before .before .before .before .before .before .before), c .before .before .before .before .before .before .before .before .before .put-statement .ensures .ends, c .before .before .before .before .before .before .before .before .before .before .before .line-bytes .ensures .0, c .before .before .before .before .before .before .before .before .before .put-statement .kept .1 .1 .1 .1 .1 .1 .1 .1 .1 .0, c .before .before .before .put-source .kept .1 .1 .1 .0)
+    omega (arith, room (c .before .before .before .before .before .before .before .before .before .before .before .before), c .before .before .before .before .before .before .before .before .before .put-statement .ensures .ends, c .before .before .before .before .before .before .before .before .before .before .before .line-bytes .ensures .0, c .before .before .before .before .before .before .before .before .before .put-statement .kept .1 .1 .1 .1 .1 .0, c .before .before .before .put-source .kept .1 .1 .1 .0)
 
 -- what was put, with the kind and the source line before it
 sourced-is : (s : tie.Start) (k b : ℕ) (r d₁ d₂ : List ℕ) (e : ℕ) → b ≡ lineBytes (form s) → whole s ≡ k ∷ r → Put (s .args .out .now) (s .args .at + 2 * b) (whole s) d₁ e
@@ -105,9 +108,9 @@ returns-2 c =
     let p = c .before .before .before .before .before .before .before .before .before .before .before .before .put-statement in
     let q = c .before .before .before .before .before .before .put-source in
     let e = c .before .before .end-line in
-    let kind = c .before .before .before .before .before .before .before .before .before .kind-at .ensures (s .args .carry .now) (s .args .owners .now) (s .args .offsets .now) in
-    let put = sourced-is s (kindOf (slotAt (over s) (place s))) (c .before .before .before .before .before .before .before .before .before .before .before .before .before .before .line-bytes .result) (first i .0) (p .last .1 .1 .1 .1 .1 .1 .1 .1 .1 .0) (q .last .1 .1 .1 .0) (p .result)
-    (c .before .before .before .before .before .before .before .before .before .before .before .before .before .before .line-bytes .ensures .0) (first i .1) (p .ensures) (omega (arith, room i)) (q .ensures ∙ ap (λ (k : ℕ). sourced (form s) k (source s) (p .last .1 .1 .1 .1 .1 .1 .1 .1 .1 .0) (s .args .at)) kind) in
+    let kind = c .before .before .before .before .before .before .before .before .before .kind-at .ensures (carryIn (s .args .state .now)) (ownersIn (s .args .state .now)) (offsetsIn (s .args .state .now)) in
+    let put = sourced-is s (kindOf (slotAt (over s) (place s))) (c .before .before .before .before .before .before .before .before .before .before .before .before .before .before .line-bytes .result) (first i .0) (p .last .1 .1 .1 .1 .1 .0) (q .last .1 .1 .1 .0) (p .result)
+    (c .before .before .before .before .before .before .before .before .before .before .before .before .before .before .line-bytes .ensures .0) (first i .1) (p .ensures) (omega (arith, room i)) (q .ensures ∙ ap (λ (k : ℕ). sourced (form s) k (source s) (p .last .1 .1 .1 .1 .1 .0) (s .args .at)) kind) in
     put-line (s .args .out .now) (s .args .at) (bytesIn (form s) (source s) (whole s)) (q .last .1 .1 .1 .0) (p .result) (e .last .0) (e .result)
     (lineAt (form s) (s .args .lines .now) (over s) (place s)) put (e .ensures .0) (e .ensures .1) (line-is i) (s .pre .3)
 
@@ -127,7 +130,7 @@ pub put-line-spec : {M : Type 1} → statement M
 put-line-spec =
     tie.close
     (tie.spec
-    element-copy-out-if1
+    form-in-requires
     returns
     line-bytes-requires
     mul-put-statement

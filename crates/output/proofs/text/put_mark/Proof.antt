@@ -10,8 +10,8 @@ use borrow.Author.Tests.{not-true, not-false}
 use Rattle.rules.specs.Listing.{newForm}
 use Rattle.rules.specs.Output.{lineOf, markOf}
 use Rattle.listing.specs.Form.{formOf}
-use Rattle.output.specs.Digits.{hexOf, laid}
-use Rattle.output.proofs.Rooms.{laid-nothing, laid-more, length-hex, length-line}
+use Rattle.digits.specs.Digits.{hexOf, laid}
+use Rattle.digits.proofs.Rooms.{laid-nothing, laid-more, length-hex, length-line}
 use Rattle.output.proofs.text.put_mark.Statement.{statement}
 use Rattle.output.proofs.text.put_mark.Tie as tie
 

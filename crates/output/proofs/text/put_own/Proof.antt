@@ -7,7 +7,7 @@ use lib.ListN.{length, take, drop, length-drop}
 use lib.Seq.{length-take-le}
 use borrow.Author.Needs.{needs}
 use Rattle.rules.specs.Output.{hexByte}
-use Rattle.output.specs.Digits.{hexOf, laid}
+use Rattle.digits.specs.Digits.{hexOf, laid}
 use Rattle.output.specs.Lines.{ownEnd, ownBytes}
 use Rattle.output.proofs.Rooms.{put-head}
 use Rattle.output.proofs.Sizes.{length-own}

@@ -6,10 +6,11 @@ use native.Mathlib.Omega.{arith}
 use lib.ListN.{length, getD}
 use borrow.Author.Needs.{needs}
 use Rattle.rules.specs.Programs.{kindOf}
-use Rattle.slots.specs.Slots.{Slots, slots, slotAt}
+use Rattle.slots.specs.Slots.{Slots, slotAt}
 use Rattle.output.specs.Lines.{instrBytes, bytesAt}
 use Rattle.output.proofs.Sizes.{drawn}
 use Rattle.output.proofs.Slots.{bytes-instr, bytes-other}
+use Rattle.slots.specs.State.{carryIn, ownersIn, offsetsIn, tableOf}
 use Rattle.output.proofs.text.put_statement.Statement.{statement}
 use Rattle.output.proofs.text.put_statement.Tie as tie
 
@@ -19,7 +20,7 @@ module _ (s : tie.Start) where
   place = s .args .place .0
 
   abbrev over : Slots
-  over = slots (s .args .frames .now) (s .args .starts .now) (s .args .count) (s .args .forms .now) (s .args .carry .now) (s .args .owners .now) (s .args .offsets .now)
+  over = tableOf (s .args .frames .now) (s .args .state .now) (s .args .count)
 
   abbrev whole : List ℕ
   whole = bytesAt over (s .args .positions .now) place
@@ -28,7 +29,7 @@ kind-at-requires : tie.Need-kind-at-requires
 kind-at-requires c κs = let s = c .before .before in (s .pre .0 .held, s .pre .2)
 
 kind-is : (c : tie.After-kind-at) → let s = c .before .before .before in c .kind-at .result ≡ kindOf (slotAt (over s) (place s))
-kind-is c = let s = c .before .before .before in c .kind-at .ensures (s .args .carry .now) (s .args .owners .now) (s .args .offsets .now)
+kind-is c = let s = c .before .before .before in c .kind-at .ensures (carryIn (s .args .state .now)) (ownersIn (s .args .state .now)) (offsetsIn (s .args .state .now))
 
 -- an instruction's bytes
 instruction : (c : tie.Then1) → let s = c .before .before .before .before in whole s ≡ instrBytes (over s) (s .args .positions .now) (place s)
@@ -38,9 +39,9 @@ put-instruction-requires : tie.Need-put-instruction-requires
 put-instruction-requires c κs =
     let s = c .before .before .before .before .before in
     let one = sym (kind-is (c .before .before)) ∙ c .before .if1 .taken in
-    let from = getD (s .args .carry .now) (place s) 0 in (
+    let from = getD (carryIn (s .args .state .now)) (place s) 0 in (
       drawn (over s) (s .pre .0) (place s) (s .pre .2) one,
-      λ t h. s .pre .1 .low (getD (s .args .owners .now) from 0) (s .pre .0 .owned from (s .pre .0 .carried (place s) (s .pre .2) one t .inside) h),
+      λ t h. s .pre .1 .low (getD (ownersIn (s .args .state .now)) from 0) (s .pre .0 .owned from (s .pre .0 .carried (place s) (s .pre .2) one t .inside) h),
       omega (arith, s .pre .3, ap length (instruction (c .before))),
     )
 

@@ -9,10 +9,11 @@ use Rattle.laws.proofs.Stores.{rest-is}
 use Rattle.rules.specs.Expressions.{four}
 use Rattle.listing.specs.Tables.{frameAt}
 use Rattle.slots.specs.Slots.{noOwner}
-use Rattle.output.specs.Digits.{hexOf, laid}
+use Rattle.digits.specs.Digits.{hexOf, laid}
 use Rattle.output.specs.Lines.{ownEnd, targetBytes}
 use Rattle.output.proofs.Sizes.{target-inner, target-own}
 use Rattle.output.proofs.Targets.{end-within}
+use Rattle.slots.specs.State.{startsIn, ownersIn, offsetsIn}
 use Rattle.output.proofs.text.put_target.Statement.{statement}
 use Rattle.output.proofs.text.put_target.Tie as tie
 
@@ -22,19 +23,19 @@ module _ (s : tie.Start) where
   place = s .args .from .0
 
   abbrev target : List ℕ
-  target = targetBytes (s .args .frames .now) (s .args .starts .now) (s .args .owners .now) (s .args .offsets .now) (s .args .positions .now) place
+  target = targetBytes (s .args .frames .now) (startsIn (s .args .state .now)) (ownersIn (s .args .state .now)) (offsetsIn (s .args .state .now)) (s .args .positions .now) place
 
   abbrev frame : List ℕ
-  frame = frameAt (s .args .frames .now) (s .args .starts .now) place
+  frame = frameAt (s .args .frames .now) (startsIn (s .args .state .now)) place
 
   abbrev number : ℕ
-  number = getD (s .args .positions .now) (getD (s .args .owners .now) place 0) 0 + getD (s .args .offsets .now) place 0
+  number = getD (s .args .positions .now) (getD (ownersIn (s .args .state .now)) place 0) 0 + getD (offsetsIn (s .args .state .now)) place 0
 
-  as-number : getD (s .args .owners .now) place 0 < noOwner → target ≡ 0 ∷ four number
-  as-number h = target-inner (s .args .frames .now) (s .args .starts .now) (s .args .owners .now) (s .args .offsets .now) (s .args .positions .now) place h
+  as-number : getD (ownersIn (s .args .state .now)) place 0 < noOwner → target ≡ 0 ∷ four number
+  as-number h = target-inner (s .args .frames .now) (startsIn (s .args .state .now)) (ownersIn (s .args .state .now)) (offsetsIn (s .args .state .now)) (s .args .positions .now) place h
 
-  as-written : noOwner ≤ getD (s .args .owners .now) place 0 → target ≡ drop (ownEnd frame) frame
-  as-written h = target-own (s .args .frames .now) (s .args .starts .now) (s .args .owners .now) (s .args .offsets .now) (s .args .positions .now) place h
+  as-written : noOwner ≤ getD (ownersIn (s .args .state .now)) place 0 → target ≡ drop (ownEnd frame) frame
+  as-written h = target-own (s .args .frames .now) (startsIn (s .args .state .now)) (ownersIn (s .args .state .now)) (offsetsIn (s .args .state .now)) (s .args .positions .now) place h
 
   within : ownEnd frame ≤ length frame
   within = end-within place frame (s .pre .1 .reads) .1
@@ -42,42 +43,43 @@ module _ (s : tie.Start) where
   inside : place < 1024
   inside = omega (arith, s .pre .1 .inside, s .pre .0 .few)
 
-mul-owner : tie.Need-mul-owner
-mul-owner c = search needs
+owner-at-requires : tie.Need-owner-at-requires
+owner-at-requires c κs = omega (arith, inside (c .before .before))
 
-element-copy-out-owner : tie.Need-element-copy-out-owner
-element-copy-out-owner c = inside (c .before .before)
+-- the target became an inner label, or stands as written
+low-owner : (c : tie.Then1) → getD (ownersIn (c .before .before .before .before .args .state .now)) (place (c .before .before .before .before)) 0 < noOwner
+low-owner c = omega (arith, c .before .owner-at .ensures, c .if1 .taken)
 
-wide-requires : tie.Need-wide-requires
-wide-requires c κs = search needs
+high-owner : (c : tie.Else1) → noOwner ≤ getD (ownersIn (c .before .before .before .before .args .state .now)) (place (c .before .before .before .before)) 0
+high-owner c = omega (arith, c .before .owner-at .ensures, c .if1 .left)
 
 mul-put-number : tie.Need-mul-put-number
 mul-put-number c = search needs
 
 element-copy-out-put-number : tie.Need-element-copy-out-put-number
-element-copy-out-put-number c = omega (arith, c .before .wide .ensures, c .before .before .if1 .taken)
+element-copy-out-put-number c = search needs
 
 mul-widen : tie.Need-mul-widen
 mul-widen c = search needs
 
-element-copy-out-widen : tie.Need-element-copy-out-widen
-element-copy-out-widen c = inside (c .before .before .before .before .before .before .before)
+index-2-widen : tie.Need-index-2-widen
+index-2-widen c = omega (arith, inside (c .before .before .before .before .before .before))
 
 widen-requires : tie.Need-widen-requires
 widen-requires c κs = search needs
 
-low : (c : tie.After-widen) → getD (c .before .before .before .before .before .before .before .before .before .args .positions .now) (c .before .before .before .before .wide .result) 0 ≤ 65536
-low c = rw (c .before .before .before .before .wide .ensures) (c .before .before .before .before .before .before .before .before .before .pre .2 (c .before .before .before .before .before .if1 .taken))
+low : (c : tie.After-widen) → getD (c .before .before .before .before .before .before .before .before .args .positions .now) (c .before .before .before .before .before .owner-at .result) 0 ≤ 65536
+low c = rw (c .before .before .before .before .before .owner-at .ensures) (c .before .before .before .before .before .before .before .before .pre .2 (low-owner (c .before .before .before .before)))
 
 add-put-number : tie.Need-add-put-number
 add-put-number c =
-    let s = c .before .before .before .before .before .before .before .before .before in
+    let s = c .before .before .before .before .before .before .before .before in
     record { fits = omega (arith, low c, c .widen .ensures .1) }
 
 put-number-requires : tie.Need-put-number-requires
 put-number-requires c κs =
-    let s = c .before .before .before .before .before .before .before .before .before in
-    omega (arith, s .pre .3, ap length (as-number s (c .before .before .before .before .before .if1 .taken)))
+    let s = c .before .before .before .before .before .before .before .before in
+    omega (arith, s .pre .3, ap length (as-number s (low-owner (c .before .before .before .before))))
 
 add-result : tie.Need-add-result
 add-result c = search needs
@@ -87,13 +89,12 @@ same-length c = search needs
 
 returns : tie.Need-returns
 returns c =
-    let s = c .before .before .before .before .before .before .before .before .before .before .before .before in
+    let s = c .before .before .before .before .before .before .before .before .before .before .before in
     let a = s .args in
-    let w = c .before .before .before .before .before .before .before in
-    let inner = as-number s (c .before .before .before .before .before .before .before .before .if1 .taken) in
+    let inner = as-number s (low-owner (c .before .before .before .before .before .before .before)) in
     let sum =
-    ap (λ k. getD (a .positions .now) k 0 + c .before .before .before .widen .result) (w .wide .ensures)
-    ∙ ap (λ n. getD (a .positions .now) (getD (a .owners .now) (place s) 0) 0 + n) (c .before .before .before .widen .ensures .0) in
+    ap (λ k. getD (a .positions .now) k 0 + c .before .before .before .widen .result) (c .before .before .before .before .before .before .before .before .owner-at .ensures)
+    ∙ ap (λ n. getD (a .positions .now) (getD (ownersIn (a .state .now)) (place s) 0) 0 + n) (c .before .before .before .widen .ensures .0) in
     record {
       is = c .before .before .put-number .ensures ∙ ap (λ n. laid (a .out .now) (a .at) (hexOf (0 ∷ four n))) sum ∙ ap (λ l. laid (a .out .now) (a .at) (hexOf l)) (sym inner);
       ends = omega (arith, ap length inner);
@@ -116,12 +117,12 @@ part-is : (c : tie.After-own-end) → let r = c .before .frame-at .result .now i
 part-is c =
     let s = c .before .before .before .before .before .before in
     rest-is (c .own-end .result) (c .before .frame-at .result .now) ∙ ap (λ k. drop k (c .before .frame-at .result .now)) (ends-at c) ∙ ap (drop (ownEnd (frame s))) (c .before .frame-at .ensures)
-    ∙ sym (as-written s (c .before .before .if1 .left))
+    ∙ sym (as-written s (high-owner (c .before .before)))
 
 rest-length : (c : tie.After-own-end) → length (c .before .frame-at .result .now) - c .own-end .result ≡ length (target (c .before .before .before .before .before .before))
 rest-length c =
     let s = c .before .before .before .before .before .before in
-    omega (arith, ends-at c, size (c .before), ap length (as-written s (c .before .before .if1 .left)), length-drop (ownEnd (frame s)) (frame s))
+    omega (arith, ends-at c, size (c .before), ap length (as-written s (high-owner (c .before .before))), length-drop (ownEnd (frame s)) (frame s))
 
 sub-put-bytes : tie.Need-sub-put-bytes
 sub-put-bytes c = let o = c .before in omega (arith, ends-at o, size (o .before), within (o .before .before .before .before .before .before))
@@ -166,13 +167,12 @@ pub put-target-spec : {M : Type 1} → statement M
 put-target-spec =
     tie.close
     (tie.spec
-    mul-owner
-    element-copy-out-owner
-    wide-requires
+    owner-at-requires
     mul-put-number
     element-copy-out-put-number
     mul-widen
-    element-copy-out-widen
+    (λ c. search needs)
+    index-2-widen
     widen-requires
     add-put-number
     put-number-requires

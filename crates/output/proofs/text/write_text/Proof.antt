@@ -8,28 +8,29 @@ use lib.Seq.{getD-take}
 use borrow.Author.Needs.{needs}
 use Rattle.rules.specs.Listing.{ListingForm}
 use Rattle.listing.specs.Form.{formOf}
-use Rattle.slots.specs.Slots.{Slots, slots, slotAt, programOf}
-use Rattle.output.specs.Digits.{laid}
+use Rattle.slots.specs.Slots.{Slots, slotAt, programOf}
+use Rattle.digits.specs.Digits.{laid}
 use Rattle.output.specs.Lines.{lineIn, lineAt, linesTo, listingOf, besideIn}
 use Rattle.output.proofs.Listings.{lines-all, lines-none, lines-more, length-more, lines-within}
-use Rattle.output.proofs.Rooms.{laid-more, laid-front, length-laid}
+use Rattle.digits.proofs.Rooms.{laid-more, laid-front, length-laid}
+use Rattle.slots.specs.State.{tableOf}
 use Rattle.output.proofs.text.write_text.Statement.{statement}
 use Rattle.output.proofs.text.write_text.Tie as tie
 
 abbrev Inv-loop : tie.InvT-loop
-Inv-loop marked lines frames starts count forms carry owners offsets positions out₀ first at₀ i₀ out at i =
-    (i ≤ count) × (at ≡ length (linesTo (formOf marked) (take count lines) (slots frames starts count forms carry owners offsets) i))
-    × ((d : List ℕ) → out₀ ≡ laid d 0 (linesTo (formOf marked) (take count lines) (slots frames starts count forms carry owners offsets) 0) → length out₀ ≡ length d
-    → length (linesTo (formOf marked) (take count lines) (slots frames starts count forms carry owners offsets) i) ≤ length d
-    → out ≡ laid d 0 (linesTo (formOf marked) (take count lines) (slots frames starts count forms carry owners offsets) i)) × (length out ≡ length out₀)
+Inv-loop marked lines frames state count positions out₀ first at₀ i₀ out at i =
+    (i ≤ count) × (at ≡ length (linesTo (formOf marked) (take count lines) (tableOf frames state count) i))
+    × ((d : List ℕ) → out₀ ≡ laid d 0 (linesTo (formOf marked) (take count lines) (tableOf frames state count) 0) → length out₀ ≡ length d
+    → length (linesTo (formOf marked) (take count lines) (tableOf frames state count) i) ≤ length d
+    → out ≡ laid d 0 (linesTo (formOf marked) (take count lines) (tableOf frames state count) i)) × (length out ≡ length out₀)
 
 abbrev μ-loop : tie.MeasureT-loop
-μ-loop marked lines frames starts count forms carry owners offsets positions out₀ first at₀ i₀ out at i = count - i
+μ-loop marked lines frames state count positions out₀ first at₀ i₀ out at i = count - i
 
 -- the tables and the source lines at a start
 module _ (s : tie.Start Inv-loop μ-loop) where
   abbrev over : Slots
-  over = slots (s .args .frames .now) (s .args .starts .now) (s .args .count) (s .args .forms .now) (s .args .carry .now) (s .args .owners .now) (s .args .offsets .now)
+  over = tableOf (s .args .frames .now) (s .args .state .now) (s .args .count)
 
   abbrev form : ListingForm
   form = formOf (s .args .marked)
@@ -83,7 +84,7 @@ loop-again c =
           ∙ ap (λ (x : List ℕ). laid x (l .at) line) (l .inv .2 d z n (omega (arith, h, length-more (over s) (form s) (sources s) (l .i))))
           ∙ laid-more d before line 0 (l .at) (omega (arith, l .inv .1)) (omega (arith, l .inv .1, h, length-more (over s) (form s) (sources s) (l .i)))
           ∙ ap (laid d 0) (sym (lines-more (over s) (form s) (sources s) (l .i))),
-      p .kept .1 .1 .1 .1 .1 .1 .1 .1 .1 .1 .1 .0 ∙ l .inv .3,
+      p .kept .1 .1 .1 .1 .1 .1 .1 .0 ∙ l .inv .3,
     )
 
 returns : tie.Need-returns Inv-loop μ-loop

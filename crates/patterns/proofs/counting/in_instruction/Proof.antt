@@ -22,25 +22,26 @@ use Rattle.patterns.specs.Targets.{TargetIn}
 use Rattle.patterns.proofs.Instructions.{carried-target}
 use Rattle.patterns.proofs.Mentions.{instr-here, in-own, in-aimed}
 use Rattle.patterns.proofs.Naming.{beside-short}
+use Rattle.slots.specs.State.{startsIn, formsIn, carryIn, ownersIn}
 use Rattle.patterns.proofs.counting.in_instruction.Statement.{statement}
 use Rattle.patterns.proofs.counting.in_instruction.Tie as tie
 
 module _ (c : tie.Start) where
   abbrev frame : List ℕ
-  frame = frameAt (c .args .frames .now) (c .args .starts .now) (c .args .at .0)
+  frame = frameAt (c .args .frames .now) (startsIn (c .args .state .now)) (c .args .at .0)
 
   module _ (offsets : List ℕ) where
     abbrev over : Slots
-    over = slots (c .args .frames .now) (c .args .starts .now) (c .args .count) (c .args .forms .now) (c .args .carry .now) (c .args .owners .now) offsets
+    over = slots (c .args .frames .now) (startsIn (c .args .state .now)) (c .args .count) (formsIn (c .args .state .now)) (carryIn (c .args .state .now)) (ownersIn (c .args .state .now)) offsets
 
   here : InstrIn (c .args .at .0) frame
   here = instr-here (over []) (c .pre .2 [] .0) (c .args .at .0) (c .pre .0) (c .pre .2 [] .1)
 
   abbrev beside : List ℕ
-  beside = frameAt (c .args .links .now) (c .args .starts .now) (c .args .at .0)
+  beside = frameAt (c .args .links .now) (startsIn (c .args .state .now)) (c .args .at .0)
 
   short : Short frame beside
-  short = beside-short (c .args .frames .now) (c .args .starts .now) (c .args .count) (c .pre .2 [] .0 .held) (c .args .links .now) (c .pre .1) (c .args .at .0) (c .pre .0)
+  short = beside-short (c .args .frames .now) (startsIn (c .args .state .now)) (c .args .count) (c .pre .2 [] .0 .held) (c .args .links .now) (c .pre .1) (c .args .at .0) (c .pre .0)
 
 frame-at-requires : tie.Need-frame-at-requires
 frame-at-requires c κs = let s = c .before in (s .pre .2 [] .0 .held, s .pre .0)
@@ -48,7 +49,7 @@ frame-at-requires c κs = let s = c .before in (s .pre .2 [] .0 .held, s .pre .0
 links-at-requires : tie.Need-links-at-requires
 links-at-requires c κs =
     let s = c .before .before .before in
-    spans (s .args .frames .now) (s .args .starts .now) (s .args .count) (s .pre .2 [] .0 .held) (s .args .links .now) (s .pre .1) (s .args .at .0) (s .pre .0)
+    spans (s .args .frames .now) (startsIn (s .args .state .now)) (s .args .count) (s .pre .2 [] .0 .held) (s .args .links .now) (s .pre .1) (s .args .at .0) (s .pre .0)
 
 shared-slice-read-operand-count : tie.Need-shared-slice-read-operand-count
 shared-slice-read-operand-count c =
@@ -85,28 +86,28 @@ module _ (c : tie.After-operand-count) where
   told : (f : ℕ → Bool) → Referred f (frame start) (beside start) (start .args .place) → Referred f (framed .frame-at .result .now) (linked .links-at .result .now) (start .args .place)
   told f r = subst₂ (λ (s b : List ℕ). Referred f s b (start .args .place)) (sym (framed .frame-at .ensures)) (sym (linked .links-at .ensures)) r
 
-element-copy-out-is-transfer : tie.Need-element-copy-out-is-transfer
-element-copy-out-is-transfer c = let s = start c in omega (arith, s .pre .0, s .pre .2 [] .0 .held .few)
+form-in-requires : tie.Need-form-in-requires
+form-in-requires c κs = let s = start c in omega (arith, s .pre .0, s .pre .2 [] .0 .held .few)
 
-number-at-requires : tie.Need-number-at-requires
-number-at-requires c κs = let s = start (c .before .before .before) in omega (arith, s .pre .0, s .pre .2 [] .0 .held .few)
+carry-at-requires : tie.Need-carry-at-requires
+carry-at-requires c κs = let s = start (c .before .before .before) in omega (arith, s .pre .0, s .pre .2 [] .0 .held .few)
 
 -- a transfer, and the place that it carries
-module _ (c : tie.After-number-at) where
+module _ (c : tie.After-carry-at) where
   abbrev begin : tie.Start
   begin = start (c .before .before .before .before)
 
-  moves : isTransfer (getD (begin .args .forms .now) (begin .args .at .0) 0) ≡ true
-  moves = sym (c .before .before .is-transfer .ensures) ∙ c .before .if1 .taken
+  moves : isTransfer (getD (formsIn (begin .args .state .now)) (begin .args .at .0) 0) ≡ true
+  moves = sym (ap isTransfer (c .before .before .before .form-in .ensures)) ∙ sym (c .before .before .is-transfer .ensures) ∙ c .before .if1 .taken
 
-  target : TargetIn (begin .args .frames .now) (begin .args .starts .now) (begin .args .count) (getD (begin .args .carry .now) (begin .args .at .0) 0)
+  target : TargetIn (begin .args .frames .now) (startsIn (begin .args .state .now)) (begin .args .count) (getD (carryIn (begin .args .state .now)) (begin .args .at .0) 0)
   target = carried-target (over begin []) (begin .pre .2 [] .0) (begin .args .at .0) (begin .pre .0) (begin .pre .2 [] .1) moves
 
 in-target-requires : tie.Need-in-target-requires
-in-target-requires c κs = rw (c .number-at .ensures) (begin c .pre .2 [] .0 .held, target c, begin c .pre .1)
+in-target-requires c κs = rw (c .carry-at .ensures) (begin c .pre .2 [] .0 .held, target c, begin c .pre .1)
 
 -- it has an operand, its target
-some : (c : tie.After-number-at) → 1 ≤ c .before .before .before .before .operand-count .result
+some : (c : tie.After-carry-at) → 1 ≤ c .before .before .before .before .operand-count .result
 some c =
     let s = begin c in
     omega (
@@ -135,8 +136,8 @@ returns c =
           ap₂ (λ (a b : ℕ). a + b)
           (c .in-arguments .ensures .1 f (told k f (r .own))
           ∙ ap (λ x. sum k f x (m - 1)) (framed k .frame-at .ensures) ∙ ap (λ (j : ℕ). sum k f (frame s) (j - 1)) (counted k))
-          (c .before .in-target .ensures .1 f (rw (n .number-at .ensures) (r .carried (s .pre .2 offsets .1) (moves n))) (s .args .forms .now) (s .args .carry .now) offsets
-          ∙ ap (λ (w : ℕ). inOperand (mentions f) (targetOf (over s offsets) w)) (n .number-at .ensures))
+          (c .before .in-target .ensures .1 f (rw (n .carry-at .ensures) (r .carried (s .pre .2 offsets .1) (moves n))) (formsIn (s .args .state .now)) (carryIn (s .args .state .now)) offsets
+          ∙ ap (λ (w : ℕ). inOperand (mentions f) (targetOf (over s offsets) w)) (n .carry-at .ensures))
           ∙ sym (in-aimed (over s offsets) (s .pre .2 offsets .0) (s .args .at .0) (s .pre .0) (s .pre .2 offsets .1) (mentions f) (moves n)),
     )
 
@@ -153,7 +154,7 @@ returns-2 c =
           ∙ ap (λ x. sum k f x (k .operand-count .result)) (framed k .frame-at .ensures) ∙ ap (λ (m : ℕ). sum k f (frame s) m) (counted k)
           ∙ sym
           (in-own (over s offsets) (s .pre .2 offsets .0) (s .args .at .0) (s .pre .0) (s .pre .2 offsets .1) (mentions f)
-          (sym (c .before .before .is-transfer .ensures) ∙ c .before .if1 .left)),
+          (sym (ap isTransfer (c .before .before .before .form-in .ensures)) ∙ sym (c .before .before .is-transfer .ensures) ∙ c .before .if1 .left)),
     )
 
 pub in-instruction-spec : {M : Type 1} → statement M
@@ -164,9 +165,9 @@ in-instruction-spec =
     links-at-requires
     shared-slice-read-operand-count
     (λ c κs. search needs)
-    element-copy-out-is-transfer
+    form-in-requires
     (λ c κs. search needs)
-    number-at-requires
+    carry-at-requires
     in-target-requires
     sub-in-arguments
     in-arguments-requires

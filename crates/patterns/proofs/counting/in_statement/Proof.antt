@@ -17,21 +17,22 @@ use Rattle.slots.proofs.Slots.{slot-data}
 use Rattle.patterns.specs.Mentions.{readAs, VariableIn, Short}
 use Rattle.patterns.proofs.Mentions.{in-none, kind-frame}
 use Rattle.patterns.proofs.Naming.{beside-short}
+use Rattle.slots.specs.State.{startsIn, formsIn, carryIn, ownersIn}
 use Rattle.patterns.proofs.counting.in_statement.Statement.{statement}
 use Rattle.patterns.proofs.counting.in_statement.Tie as tie
 
 module _ (c : tie.Start) where
   abbrev frame : List ℕ
-  frame = frameAt (c .args .frames .now) (c .args .starts .now) (c .args .at .0)
+  frame = frameAt (c .args .frames .now) (startsIn (c .args .state .now)) (c .args .at .0)
 
   abbrev over : (offsets : List ℕ) → Slots
-  over offsets = slots (c .args .frames .now) (c .args .starts .now) (c .args .count) (c .args .forms .now) (c .args .carry .now) (c .args .owners .now) offsets
+  over offsets = slots (c .args .frames .now) (startsIn (c .args .state .now)) (c .args .count) (formsIn (c .args .state .now)) (carryIn (c .args .state .now)) (ownersIn (c .args .state .now)) offsets
 
   abbrev beside : List ℕ
-  beside = frameAt (c .args .links .now) (c .args .starts .now) (c .args .at .0)
+  beside = frameAt (c .args .links .now) (startsIn (c .args .state .now)) (c .args .at .0)
 
   short : Short frame beside
-  short = beside-short (c .args .frames .now) (c .args .starts .now) (c .args .count) (c .pre .2 [] .held) (c .args .links .now) (c .pre .1) (c .args .at .0) (c .pre .0)
+  short = beside-short (c .args .frames .now) (startsIn (c .args .state .now)) (c .args .count) (c .pre .2 [] .held) (c .args .links .now) (c .pre .1) (c .args .at .0) (c .pre .0)
 
 kind-at-requires : tie.Need-kind-at-requires
 kind-at-requires c κs = let s = c .before in (s .pre .2 [] .held, s .pre .0)
@@ -42,7 +43,7 @@ module _ (c : tie.After-kind-at) where
   start = c .before .before
 
   kind : (offsets : List ℕ) → c .kind-at .result ≡ kindOf (slotAt (over start offsets) (start .args .at .0))
-  kind offsets = c .kind-at .ensures (start .args .carry .now) (start .args .owners .now) offsets
+  kind offsets = c .kind-at .ensures (carryIn (start .args .state .now)) (ownersIn (start .args .state .now)) offsets
 
   -- from the variables on it is the frame's
   as-read : (k : ℕ) → c .kind-at .result ≡ suc (suc k) → (offsets : List ℕ) → slotAt (over start offsets) (start .args .at .0) ≡ readAs (start .args .at .0) (frame start)
@@ -64,7 +65,7 @@ frame-at-requires c κs = let s = start (c .before) in (s .pre .2 [] .held, s .p
 links-at-requires : tie.Need-links-at-requires
 links-at-requires c κs =
     let s = start (c .before .before .before) in
-    spans (s .args .frames .now) (s .args .starts .now) (s .args .count) (s .pre .2 [] .held) (s .args .links .now) (s .pre .1) (s .args .at .0) (s .pre .0)
+    spans (s .args .frames .now) (startsIn (s .args .state .now)) (s .args .count) (s .pre .2 [] .held) (s .args .links .now) (s .pre .1) (s .args .at .0) (s .pre .0)
 
 -- the frame and the links beside it
 module _ (c : tie.After-links-at) where

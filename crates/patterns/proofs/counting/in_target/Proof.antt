@@ -12,25 +12,26 @@ use Rattle.slots.specs.Slots.{Slots, slots}
 use Rattle.patterns.specs.Mentions.{Short}
 use Rattle.patterns.proofs.Instructions.{target-reads, target-inner, target-written}
 use Rattle.patterns.proofs.Naming.{beside-short, last-lengths, last-referred, last-short}
+use Rattle.slots.specs.State.{startsIn, ownersIn}
 use Rattle.patterns.proofs.counting.in_target.Statement.{statement}
 use Rattle.patterns.proofs.counting.in_target.Tie as tie
 
 abbrev over : (c : tie.Start) (forms carry offsets : List ℕ) → Slots
-over c forms carry offsets = slots (c .args .frames .now) (c .args .starts .now) (c .args .count) forms carry (c .args .owners .now) offsets
+over c forms carry offsets = slots (c .args .frames .now) (startsIn (c .args .state .now)) (c .args .count) forms carry (ownersIn (c .args .state .now)) offsets
 
 -- its frame, and the links beside it
 module _ (c : tie.Start) where
   abbrev frame : List ℕ
-  frame = frameAt (c .args .frames .now) (c .args .starts .now) (c .args .at .0)
+  frame = frameAt (c .args .frames .now) (startsIn (c .args .state .now)) (c .args .at .0)
 
   abbrev beside : List ℕ
-  beside = frameAt (c .args .links .now) (c .args .starts .now) (c .args .at .0)
+  beside = frameAt (c .args .links .now) (startsIn (c .args .state .now)) (c .args .at .0)
 
   short : Short frame beside
-  short = beside-short (c .args .frames .now) (c .args .starts .now) (c .args .count) (c .pre .0) (c .args .links .now) (c .pre .2) (c .args .at .0) (c .pre .1 .inside)
+  short = beside-short (c .args .frames .now) (startsIn (c .args .state .now)) (c .args .count) (c .pre .0) (c .args .links .now) (c .pre .2) (c .args .at .0) (c .pre .1 .inside)
 
-number-at-requires : tie.Need-number-at-requires
-number-at-requires c κs = omega (arith, c .before .pre .0 .few, c .before .pre .1 .inside)
+owner-at-requires : tie.Need-owner-at-requires
+owner-at-requires c κs = omega (arith, c .before .pre .0 .few, c .before .pre .1 .inside)
 
 returns : tie.Need-returns
 returns c =
@@ -38,7 +39,7 @@ returns c =
     let s = k .before .before in (
       omega arith,
       λ f l forms carry offsets.
-          sym (ap (inOperand (mentions f)) (target-inner (over s forms carry offsets) (s .args .at .0) (omega (arith, k .number-at .ensures, c .if1 .taken)))),
+          sym (ap (inOperand (mentions f)) (target-inner (over s forms carry offsets) (s .args .at .0) (omega (arith, k .owner-at .ensures, c .if1 .taken)))),
     )
 
 target-in-requires : tie.Need-target-in-requires
@@ -64,8 +65,8 @@ returns-2 c =
       λ f l forms carry offsets.
           c .count-links .ensures .1 f (rw (d .target-in .ensures, b .target-links .ensures) (last-referred f (frame s) (beside s) (s .args .place) l)) (e .0) (e .1 .width)
           (ap readExpr (d .target-in .ensures) ∙ e .1 .reads)
-          ∙ sym (ap (inOperand (mentions f)) (target-written (over s forms carry offsets) (s .args .at .0) (omega (arith, k .number-at .ensures, d .before .if1 .left)) ∙ e .2)),
+          ∙ sym (ap (inOperand (mentions f)) (target-written (over s forms carry offsets) (s .args .at .0) (omega (arith, k .owner-at .ensures, d .before .if1 .left)) ∙ e .2)),
     )
 
 pub in-target-spec : {M : Type 1} → statement M
-in-target-spec = tie.close (tie.spec number-at-requires returns target-in-requires target-links-requires count-links-requires returns-2)
+in-target-spec = tie.close (tie.spec owner-at-requires returns target-in-requires target-links-requires count-links-requires returns-2)

@@ -10,6 +10,7 @@ use Rattle.rules.specs.Expressions.{mentions}
 use Rattle.rules.specs.Programs.{overExprs}
 use Rattle.slots.specs.Slots.{Slots, slots, slotAt}
 use Rattle.patterns.specs.Mentions.{RefersAll}
+use Rattle.slots.specs.State.{startsIn, formsIn, carryIn, ownersIn}
 use Rattle.patterns.proofs.counting.references.Statement.{statement}
 use Rattle.patterns.proofs.counting.references.Tie as tie
 
@@ -18,16 +19,16 @@ abbrev adds : (F : ℕ → ℕ → Bool) (t : Slots) (j : ℕ) → ℕ
 adds F t j = overExprs (mentions (F j)) (slotAt t j)
 
 abbrev Inv-loop : tie.InvT-loop
-Inv-loop frames starts count forms carry owners links place found₀ j₀ found j =
+Inv-loop frames state count links place found₀ j₀ found j =
     (j ≤ count) × (found ≤ 2048 * j)
-    × ((F : ℕ → ℕ → Bool) (offsets : List ℕ) → RefersAll F (slots frames starts count forms carry owners offsets) links place
-    → found ≡ sumTo (adds F (slots frames starts count forms carry owners offsets)) j)
+    × ((F : ℕ → ℕ → Bool) (offsets : List ℕ) → RefersAll F (slots frames (startsIn state) count (formsIn state) (carryIn state) (ownersIn state) offsets) links place
+    → found ≡ sumTo (adds F (slots frames (startsIn state) count (formsIn state) (carryIn state) (ownersIn state) offsets)) j)
 
 abbrev μ-loop : tie.MeasureT-loop
-μ-loop frames starts count forms carry owners links place found₀ j₀ found j = count - j
+μ-loop frames state count links place found₀ j₀ found j = count - j
 
 abbrev over : (c : tie.Start Inv-loop μ-loop) (offsets : List ℕ) → Slots
-over c offsets = slots (c .args .frames .now) (c .args .starts .now) (c .args .count) (c .args .forms .now) (c .args .carry .now) (c .args .owners .now) offsets
+over c offsets = slots (c .args .frames .now) (startsIn (c .args .state .now)) (c .args .count) (formsIn (c .args .state .now)) (carryIn (c .args .state .now)) (ownersIn (c .args .state .now)) offsets
 
 loop-holds : tie.Need-loop-holds Inv-loop μ-loop
 unfolding sumTo

@@ -11,6 +11,7 @@ use Rattle.slots.specs.Slots.{Slots, slots, slotAt, programOf, Positioned}
 use Rattle.patterns.specs.declared.InnerLabel.{InnerLabel}
 use Rattle.patterns.specs.Labels.{ofLabel, OwnerIn}
 use Rattle.patterns.proofs.Programs.{at-program}
+use Rattle.slots.specs.State.{startsIn, formsIn}
 use Rattle.patterns.proofs.labels.fits_owner.Statement.{statement}
 use Rattle.patterns.proofs.labels.fits_owner.Tie as tie
 
@@ -38,7 +39,7 @@ enum-told : tie.Need-enum-told
 enum-told c = search needs
 
 abbrev over : (s : tie.Start) (carry owners offsets : List ℕ) → Slots
-over s carry owners offsets = slots (s .args .frames .now) (s .args .starts .now) (s .args .count) (s .args .forms .now) carry owners offsets
+over s carry owners offsets = slots (s .args .frames .now) (startsIn (s .args .state .now)) (s .args .count) (formsIn (s .args .state .now)) carry owners offsets
 
 returns : tie.Need-returns
 returns c carry owners offsets at =

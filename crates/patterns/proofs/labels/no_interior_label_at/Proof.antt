@@ -12,6 +12,7 @@ use Rattle.rules.specs.Rewriting.{noInteriorLabelAt}
 use Rattle.slots.specs.Slots.{Slots, slots}
 use Rattle.patterns.specs.Labels.{labelAt, ofLabel}
 use Rattle.patterns.proofs.InnerLabels.{labels-by}
+use Rattle.slots.specs.State.{tableOf}
 use Rattle.patterns.proofs.labels.no_interior_label_at.Statement.{statement}
 use Rattle.patterns.proofs.labels.no_interior_label_at.Tie as tie
 
@@ -20,10 +21,10 @@ abbrev passes : (t : Slots) (i : ℕ) (j : ℕ) → Bool
 passes t i j = ofLabel (λ owner o. not (eqb owner i && leb 1 o)) (labelAt t j)
 
 abbrev Inv-loop : tie.InvT-loop
-Inv-loop frames starts count forms carry owners offsets at j₀ j = (j ≤ count) × (allTo (passes (slots frames starts count forms carry owners offsets) (at .0)) j ≡ true)
+Inv-loop frames state count at j₀ j = (j ≤ count) × (allTo (passes (tableOf frames state count) (at .0)) j ≡ true)
 
 abbrev μ-loop : tie.MeasureT-loop
-μ-loop frames starts count forms carry owners offsets at j₀ j = count - j
+μ-loop frames state count at j₀ j = count - j
 
 loop-holds : tie.Need-loop-holds Inv-loop μ-loop
 unfolding allTo
@@ -36,7 +37,7 @@ is-not-interior-requires : tie.Need-is-not-interior-requires Inv-loop μ-loop
 is-not-interior-requires c κs = search needs
 
 abbrev over : (c : tie.Start Inv-loop μ-loop) → Slots
-over c = slots (c .args .frames .now) (c .args .starts .now) (c .args .count) (c .args .forms .now) (c .args .carry .now) (c .args .owners .now) (c .args .offsets .now)
+over c = tableOf (c .args .frames .now) (c .args .state .now) (c .args .count)
 
 tested : (c : tie.After-is-not-interior Inv-loop μ-loop) → let s : tie.Start Inv-loop μ-loop = c .before .before .before .before .before in
     c .is-not-interior .result ≡ passes (over s) (s .args .at .0) (c .before .before .before .loop .j)

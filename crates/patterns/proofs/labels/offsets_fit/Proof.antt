@@ -11,6 +11,7 @@ use Rattle.rules.specs.Layout.{sizeIn}
 use Rattle.slots.specs.Slots.{Slots, slots, programOf}
 use Rattle.patterns.specs.Labels.{labelAt, ofLabel}
 use Rattle.patterns.proofs.InnerLabels.{labels-by}
+use Rattle.slots.specs.State.{carryIn, ownersIn, offsetsIn, tableOf}
 use Rattle.patterns.proofs.labels.offsets_fit.Statement.{statement}
 use Rattle.patterns.proofs.labels.offsets_fit.Tie as tie
 
@@ -19,10 +20,10 @@ abbrev passes : (t : Slots) (j : ℕ) → Bool
 passes t j = ofLabel (λ owner o. ltb o (sizeIn (programOf t) owner)) (labelAt t j)
 
 abbrev Inv-loop : tie.InvT-loop
-Inv-loop frames starts count forms carry owners offsets positions j₀ j = (j ≤ count) × (allTo (passes (slots frames starts count forms carry owners offsets)) j ≡ true)
+Inv-loop frames state count positions j₀ j = (j ≤ count) × (allTo (passes (tableOf frames state count)) j ≡ true)
 
 abbrev μ-loop : tie.MeasureT-loop
-μ-loop frames starts count forms carry owners offsets positions j₀ j = count - j
+μ-loop frames state count positions j₀ j = count - j
 
 loop-holds : tie.Need-loop-holds Inv-loop μ-loop
 unfolding allTo
@@ -35,11 +36,11 @@ fits-owner-requires : tie.Need-fits-owner-requires Inv-loop μ-loop
 fits-owner-requires c κs = (c .before .before .before .before .pre .0 .held, c .inner-label-at .ensures .1)
 
 abbrev over : (c : tie.Start Inv-loop μ-loop) → Slots
-over c = slots (c .args .frames .now) (c .args .starts .now) (c .args .count) (c .args .forms .now) (c .args .carry .now) (c .args .owners .now) (c .args .offsets .now)
+over c = tableOf (c .args .frames .now) (c .args .state .now) (c .args .count)
 
 tested : (c : tie.After-fits-owner Inv-loop μ-loop) → let s : tie.Start Inv-loop μ-loop = c .before .before .before .before .before in
     c .fits-owner .result ≡ passes (over s) (c .before .before .before .loop .j)
-tested c = let s = c .before .before .before .before .before in c .fits-owner .ensures (s .args .carry .now) (s .args .owners .now) (s .args .offsets .now) (s .pre .1)
+tested c = let s = c .before .before .before .before .before in c .fits-owner .ensures (carryIn (s .args .state .now)) (ownersIn (s .args .state .now)) (offsetsIn (s .args .state .now)) (s .pre .1)
     ∙ ap (ofLabel (λ owner o. ltb o (sizeIn (programOf (over s)) owner))) (c .before .inner-label-at .ensures .0)
 
 returns : tie.Need-returns Inv-loop μ-loop

@@ -13,18 +13,19 @@ use Rattle.rules.specs.Names.{contextAt}
 use Rattle.rules.specs.Programs.{Program}
 use Rattle.rules.specs.Rewriting.{namesBare, noInnerLabelBetween, noInteriorLabelAt, invertedAt, aimed, candidate, dropAll}
 use Rattle.expression.specs.Sound.{AreBytes}
-use Rattle.slots.specs.Slots.{Slots, slots, programOf}
+use Rattle.slots.specs.Slots.{Slots, programOf}
 use Rattle.patterns.specs.Targets.{instrAt}
 use Rattle.patterns.specs.Matches.{OpeningFound}
 use Rattle.patterns.proofs.Instructions.{carried-target}
 use Rattle.patterns.proofs.Naming.{bare-to}
 use Rattle.patterns.proofs.Contexts.{jump-context, landing-context}
 use Rattle.patterns.proofs.Folds.{opening-found, opening-none, inverted-is}
+use Rattle.slots.specs.State.{formsIn, carryIn, ownersIn, offsetsIn, tableOf}
 use Rattle.patterns.proofs.shapes.inverted_at.Statement.{statement}
 use Rattle.patterns.proofs.shapes.inverted_at.Tie as tie
 
 abbrev over : (c : tie.Start) → Slots
-over c = slots (c .args .frames .now) (c .args .starts .now) (c .args .count) (c .args .forms .now) (c .args .carry .now) (c .args .owners .now) (c .args .offsets .now)
+over c = tableOf (c .args .frames .now) (c .args .state .now) (c .args .count)
 
 opening-at-requires : tie.Need-opening-at-requires
 opening-at-requires c κs = let s = c .before in (s .pre .0 .held, s .pre .2, s .pre .3)
@@ -39,7 +40,7 @@ returns : tie.Need-returns
 returns c =
     let o = c .before .before in
     let s = o .before .before in
-    opening-none (over s) (s .args .at .0) (s .args .from) (c .enum-told .given .1) (o .opening-at .ensures (s .args .carry .now) (s .args .owners .now) (s .args .offsets .now)) .0
+    opening-none (over s) (s .args .at .0) (s .args .from) (c .enum-told .given .1) (o .opening-at .ensures (carryIn (s .args .state .now)) (ownersIn (s .args .state .now)) (offsetsIn (s .args .state .now))) .0
 
 -- what it begins with
 module _ (c : tie.After-jump) where
@@ -64,7 +65,7 @@ module _ (c : tie.After-jump) where
   opens : OpeningFound (over start) (start .args .from) i jump label name
   opens =
       opening-found (over start) i (start .args .from) (c .jump .given .1)
-      (c .before .before .opening-at .ensures (start .args .carry .now) (start .args .owners .now) (start .args .offsets .now))
+      (c .before .before .opening-at .ensures (carryIn (start .args .state .now)) (ownersIn (start .args .state .now)) (offsetsIn (start .args .state .now)))
 
   stored : AreBytes (start .args .frames .now)
   stored k = c .before .before .before .shared-slice-known .given k .fits
@@ -103,7 +104,7 @@ tested c =
     let m = opens j .branches in
     c .names-bare .ensures (name j)
     (bare-to (over s) (s .pre .0) (stored j) (s .args .links .now) (s .pre .1) (label j) (name j) (opens j .lands .inside) (opens j .lands .is) (i j) m (sym (label-together j)))
-    (s .args .forms .now) (s .args .offsets .now) (s .pre .0) (m .kind) (m .transfer)
+    (formsIn (s .args .state .now)) (offsetsIn (s .args .state .now)) (s .pre .0) (m .kind) (m .transfer)
 
 returns-2 : tie.Need-returns-2
 returns-2 c to =

@@ -10,14 +10,15 @@ use Rattle.slots.specs.Slots.{Slots, slots, programOf}
 use Rattle.patterns.specs.Targets.{standsAt}
 use Rattle.patterns.proofs.Programs.{next-within}
 use Rattle.patterns.proofs.Folds.{jump-slot}
+use Rattle.slots.specs.State.{startsIn, formsIn}
 use Rattle.patterns.proofs.shapes.jump_after.Statement.{statement}
 use Rattle.patterns.proofs.shapes.jump_after.Tie as tie
 
 abbrev over : (c : tie.Start) (carry owners offsets : List ℕ) → Slots
-over c carry owners offsets = slots (c .args .frames .now) (c .args .starts .now) (c .args .count) (c .args .forms .now) carry owners offsets
+over c carry owners offsets = slots (c .args .frames .now) (startsIn (c .args .state .now)) (c .args .count) (formsIn (c .args .state .now)) carry owners offsets
 
-add-t7 : tie.Need-add-t7
-add-t7 c = omega (arith, c .before .before .pre .0 .few, c .before .before .pre .1)
+add-t6 : tie.Need-add-t6
+add-t6 c = omega (arith, c .before .before .pre .0 .few, c .before .before .pre .1)
 
 next-requires : tie.Need-next-requires
 next-requires c κs = c .before .before .pre .0
@@ -55,4 +56,4 @@ returns-2 c carry owners offsets =
     ∙ said-none _ (sym (u .unconditional-at .ensures carry owners offsets) ∙ c .if1 .left)
 
 pub jump-after-spec : {M : Type 1} → statement M
-jump-after-spec = tie.close (tie.spec add-t7 next-requires unconditional-at-requires returns returns-2)
+jump-after-spec = tie.close (tie.spec add-t6 next-requires unconditional-at-requires returns returns-2)

@@ -10,11 +10,12 @@ use Rattle.slots.specs.Slots.{Slots, slots, programOf}
 use Rattle.patterns.specs.Targets.{standsAt}
 use Rattle.patterns.specs.Matches.{JumpFound}
 use Rattle.patterns.proofs.Folds.{transfer-known, branch-slot, jump-found, jump-none, landing-found, landing-none, inverted-no-branch, inverted-no-jump, inverted-no-label, trampoline-no-branch, trampoline-no-skip, trampoline-no-target}
+use Rattle.slots.specs.State.{startsIn, formsIn}
 use Rattle.patterns.proofs.shapes.opening_at.Statement.{statement}
 use Rattle.patterns.proofs.shapes.opening_at.Tie as tie
 
 abbrev over : (c : tie.Start) (carry owners offsets : List ℕ) → Slots
-over c carry owners offsets = slots (c .args .frames .now) (c .args .starts .now) (c .args .count) (c .args .forms .now) carry owners offsets
+over c carry owners offsets = slots (c .args .frames .now) (startsIn (c .args .state .now)) (c .args .count) (formsIn (c .args .state .now)) carry owners offsets
 
 branch-at-requires : tie.Need-branch-at-requires
 branch-at-requires c κs = let s = c .before in (s .pre .0, transfer-known (s .args .form) (s .pre .2))

@@ -14,7 +14,7 @@ use Rattle.rules.specs.Names.{contextAt}
 use Rattle.rules.specs.Programs.{Program}
 use Rattle.rules.specs.Rewriting.{namesBare, references, noInnerLabelBetween, noInteriorLabelAt, trampolineAt, aimed, candidate, dropAll}
 use Rattle.expression.specs.Sound.{AreBytes}
-use Rattle.slots.specs.Slots.{Slots, slots, programOf}
+use Rattle.slots.specs.Slots.{Slots, programOf}
 use Rattle.patterns.specs.Targets.{instrAt, TargetIn}
 use Rattle.patterns.specs.Matches.{Moves, JumpFound, LandingFound, OpeningFound}
 use Rattle.patterns.proofs.Instructions.{carried-target, sound-any}
@@ -22,11 +22,12 @@ use Rattle.patterns.proofs.Mentions.{means, references-by}
 use Rattle.patterns.proofs.Naming.{refers-to, bare-to}
 use Rattle.patterns.proofs.Contexts.{jump-context, landing-context}
 use Rattle.patterns.proofs.Folds.{opening-found, opening-none, jump-found, jump-none, landing-found, landing-none, trampoline-no-last, trampoline-no-label, trampoline-is}
+use Rattle.slots.specs.State.{startsIn, formsIn, carryIn, ownersIn, offsetsIn, tableOf}
 use Rattle.patterns.proofs.shapes.trampoline_at.Statement.{statement}
 use Rattle.patterns.proofs.shapes.trampoline_at.Tie as tie
 
 abbrev over : (c : tie.Start) → Slots
-over c = slots (c .args .frames .now) (c .args .starts .now) (c .args .count) (c .args .forms .now) (c .args .carry .now) (c .args .owners .now) (c .args .offsets .now)
+over c = tableOf (c .args .frames .now) (c .args .state .now) (c .args .count)
 
 opening-at-requires : tie.Need-opening-at-requires
 opening-at-requires c κs = let s = c .before in (s .pre .0 .held, s .pre .2, s .pre .3)
@@ -41,7 +42,7 @@ returns : tie.Need-returns
 returns c =
     let o = c .before .before in
     let s = o .before .before in
-    opening-none (over s) (s .args .at .0) (s .args .form) (c .enum-told .given .1) (o .opening-at .ensures (s .args .carry .now) (s .args .owners .now) (s .args .offsets .now)) .1
+    opening-none (over s) (s .args .at .0) (s .args .form) (c .enum-told .given .1) (o .opening-at .ensures (carryIn (s .args .state .now)) (ownersIn (s .args .state .now)) (offsetsIn (s .args .state .now))) .1
 
 -- the branch, the unconditional behind it, and T
 module _ (c : tie.After-skip) where
@@ -66,7 +67,7 @@ module _ (c : tie.After-skip) where
   opens : OpeningFound (over start) (start .args .form) i skip place-t name-t
   opens =
       opening-found (over start) i (start .args .form) (c .skip .given .1)
-      (c .before .before .opening-at .ensures (start .args .carry .now) (start .args .owners .now) (start .args .offsets .now))
+      (c .before .before .opening-at .ensures (carryIn (start .args .state .now)) (ownersIn (start .args .state .now)) (offsetsIn (start .args .state .now)))
 
   stored : AreBytes (start .args .frames .now)
   stored k = c .before .before .before .shared-slice-known .given k .fits
@@ -93,7 +94,7 @@ returns-2 c =
     let o = a .before .before in
     let s = start o in
     trampoline-no-last (s .args .form) (program o) (i o) (skip o) (opens o .jumps .next-is) (place-t o) (opens o .lands .next-is)
-    (jump-none (over s) (place-t o) (c .enum-told2 .given .1) (a .jump-after .ensures (s .args .carry .now) (s .args .owners .now) (s .args .offsets .now)))
+    (jump-none (over s) (place-t o) (c .enum-told2 .given .1) (a .jump-after .ensures (carryIn (s .args .state .now)) (ownersIn (s .args .state .now)) (offsetsIn (s .args .state .now))))
 
 -- the last unconditional
 module _ (c : tie.After-last) where
@@ -106,7 +107,7 @@ module _ (c : tie.After-last) where
   jumps : JumpFound (over (start opening)) (place-t opening) last
   jumps =
       let s = start opening in
-      jump-found (over s) (place-t opening) (c .last .given .1) (c .before .before .jump-after .ensures (s .args .carry .now) (s .args .owners .now) (s .args .offsets .now))
+      jump-found (over s) (place-t opening) (c .last .given .1) (c .before .before .jump-after .ensures (carryIn (s .args .state .now)) (ownersIn (s .args .state .now)) (offsetsIn (s .args .state .now)))
 
   last-together : contextAt (program opening) last ≡ contextAt (program opening) (i opening)
   last-together = jump-context (over (start opening)) (place-t opening) last jumps ∙ t-together opening
@@ -127,7 +128,7 @@ returns-3 c =
     let o = opening a in
     let s = start o in
     trampoline-no-label (s .args .form) (program o) (i o) (skip o) (opens o .jumps .next-is) (place-t o) (opens o .lands .next-is) (last a) (jumps a .next-is)
-    (landing-none (over s) (last a) (c .enum-told3 .given .1) (l .landing-after .ensures (s .args .carry .now) (s .args .owners .now) (s .args .offsets .now)))
+    (landing-none (over s) (last a) (c .enum-told3 .given .1) (l .landing-after .ensures (carryIn (s .args .state .now)) (ownersIn (s .args .state .now)) (offsetsIn (s .args .state .now))))
 
 -- S: the whole shape
 module _ (c : tie.After-s) where
@@ -149,7 +150,7 @@ module _ (c : tie.After-s) where
   lands : LandingFound (over begin) (last a) place-s name-s
   lands =
       landing-found (over begin) (last a) (c .s .given .1)
-      (c .before .before .landing-after .ensures (begin .args .carry .now) (begin .args .owners .now) (begin .args .offsets .now))
+      (c .before .before .landing-after .ensures (carryIn (begin .args .state .now)) (ownersIn (begin .args .state .now)) (offsetsIn (begin .args .state .now)))
 
   s-together : contextAt (program o) place-s ≡ contextAt (program o) (i o)
   s-together = landing-context (over begin) (last a) place-s (begin .pre .0 .held) name-s lands ∙ last-together a
@@ -177,7 +178,7 @@ module _ (c : tie.After-s) where
       (opens o .is) (opens o .jumps .is) (opens o .lands .is) (jumps a .is) (lands .is)
 
   -- what a transfer carries
-  carries : (j : ℕ) → Moves (over begin) j → TargetIn (begin .args .frames .now) (begin .args .starts .now) (begin .args .count) (getD (begin .args .carry .now) j 0)
+  carries : (j : ℕ) → Moves (over begin) j → TargetIn (begin .args .frames .now) (startsIn (begin .args .state .now)) (begin .args .count) (getD (carryIn (begin .args .state .now)) j 0)
   carries j m = carried-target (over begin) (begin .pre .0) j (m .inside) (m .kind) (m .transfer)
 
 names-bare-requires : tie.Need-names-bare-requires
@@ -190,7 +191,7 @@ tested-t c =
     c .names-bare .ensures (name-t (o l))
     (bare-to (over (begin l)) (begin l .pre .0) (stored (o l)) (begin l .args .links .now) (begin l .pre .1) (place-t (o l)) (name-t (o l)) (opens (o l) .lands .inside)
     (opens (o l) .lands .is) (i (o l)) m (sym (t-together (o l))))
-    (begin l .args .forms .now) (begin l .args .offsets .now) (begin l .pre .0) (m .kind) (m .transfer)
+    (formsIn (begin l .args .state .now)) (offsetsIn (begin l .args .state .now)) (begin l .pre .0) (m .kind) (m .transfer)
 
 returns-4 : tie.Need-returns-4
 returns-4 c =
@@ -210,7 +211,7 @@ tested-s c =
     c .names-bare2 .ensures (name-s l)
     (bare-to (over (begin l)) (begin l .pre .0) (stored (o l)) (begin l .args .links .now) (begin l .pre .1) (place-s l) (name-s l) (lands l .inside) (lands l .is)
     (skip (o l)) m (skip-together (o l) ∙ sym (s-together l)))
-    (begin l .args .forms .now) (begin l .args .offsets .now) (begin l .pre .0) (m .kind) (m .transfer)
+    (formsIn (begin l .args .state .now)) (offsetsIn (begin l .args .state .now)) (begin l .pre .0) (m .kind) (m .transfer)
 
 returns-5 : tie.Need-returns-5
 returns-5 c =
@@ -221,7 +222,7 @@ returns-5 c =
 references-requires : tie.Need-references-requires
 references-requires c κs =
     let l = c .before .before .before .before .before in
-    (begin l .pre .1 .beside .full, λ others. sound-any _ _ _ _ _ _ (begin l .args .offsets .now) others (begin l .pre .0))
+    (begin l .pre .1 .beside .full, λ others. sound-any _ _ _ _ _ _ (offsetsIn (begin l .args .state .now)) others (begin l .pre .0))
 
 -- the links to T are its references
 counted : (c : tie.After-references) → let l : tie.After-s = c .before .before .before .before .before .before in
@@ -230,7 +231,7 @@ counted c =
     let l = c .before .before .before .before .before .before in
     let t = over (begin l) in
     let k = contextAt (program (o l)) (place-t (o l)) in
-    c .references .ensures (means t k (name-t (o l))) (begin l .args .offsets .now)
+    c .references .ensures (means t k (name-t (o l))) (offsetsIn (begin l .args .state .now))
     (refers-to t (begin l .pre .0) (stored (o l)) (begin l .args .links .now) (begin l .pre .1) (place-t (o l)) (name-t (o l)) (opens (o l) .lands .inside) (opens (o l) .lands .is))
     ∙ sym (references-by t k (name-t (o l)))
 

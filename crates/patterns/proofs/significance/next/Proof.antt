@@ -9,19 +9,20 @@ use Rattle.laws.proofs.Counts.{scan-hit, scan-miss, scan-end}
 use Rattle.rules.specs.Rewriting.{insignificant, next as nextPlace}
 use Rattle.slots.specs.Slots.{Slots, slots, programOf}
 use Rattle.patterns.proofs.Programs.{at-program, significantAt, next-starts}
+use Rattle.slots.specs.State.{startsIn, formsIn}
 use Rattle.patterns.proofs.significance.next.Statement.{statement}
 use Rattle.patterns.proofs.significance.next.Tie as tie
 
 abbrev Inv-loop : tie.InvT-loop
-Inv-loop frames starts count forms j₀ j =
-    (carry owners offsets : List ℕ) → let t : Slots = slots frames starts count forms carry owners offsets in
+Inv-loop frames state count j₀ j =
+    (carry owners offsets : List ℕ) → let t : Slots = slots frames (startsIn state) count (formsIn state) carry owners offsets in
     nextPlace (programOf t) j₀ ≡ scan (significantAt t) (count - j) j
 
 abbrev μ-loop : tie.MeasureT-loop
-μ-loop frames starts count forms j₀ j = count - j
+μ-loop frames state count j₀ j = count - j
 
 loop-holds : tie.Need-loop-holds Inv-loop μ-loop
-loop-holds c carry owners offsets = let s = c .before in next-starts (slots (s .args .frames .now) (s .args .starts .now) (s .args .count) (s .args .forms .now) carry owners offsets) (s .args .from .0)
+loop-holds c carry owners offsets = let s = c .before in next-starts (slots (s .args .frames .now) (startsIn (s .args .state .now)) (s .args .count) (formsIn (s .args .state .now)) carry owners offsets) (s .args .from .0)
 
 significant-at-requires : tie.Need-significant-at-requires Inv-loop μ-loop
 significant-at-requires c κs = (c .before .before .before .pre, c .loop-test .taken)
@@ -32,7 +33,7 @@ module _ (c : tie.After-significant-at Inv-loop μ-loop) (carry owners offsets :
   start = c .before .before .before .before
 
   abbrev here : Slots
-  here = slots (start .args .frames .now) (start .args .starts .now) (start .args .count) (start .args .forms .now) carry owners offsets
+  here = slots (start .args .frames .now) (startsIn (start .args .state .now)) (start .args .count) (formsIn (start .args .state .now)) carry owners offsets
 
   tested : c .significant-at .result ≡ significantAt here (c .before .before .loop .j)
   tested = c .significant-at .ensures carry owners offsets ∙ ap (λ x. not (insignificant x)) (sym (at-program here (c .before .before .loop .j) (c .before .loop-test .taken)))

@@ -14,11 +14,12 @@ use Rattle.slots.proofs.Slots.{slot-data, written-frame}
 use Rattle.patterns.specs.Targets.{labelAs, standsAt}
 use Rattle.patterns.proofs.Programs.{at-program, past-program}
 use Rattle.patterns.proofs.Instructions.{no-label, low-label, high-label}
+use Rattle.slots.specs.State.{startsIn, formsIn}
 use Rattle.patterns.proofs.targets.local_label_at.Statement.{statement}
 use Rattle.patterns.proofs.targets.local_label_at.Tie as tie
 
 abbrev over : (c : tie.Start) (carry owners offsets : List ℕ) → Slots
-over c carry owners offsets = slots (c .args .frames .now) (c .args .starts .now) (c .args .count) (c .args .forms .now) carry owners offsets
+over c carry owners offsets = slots (c .args .frames .now) (startsIn (c .args .state .now)) (c .args .count) (formsIn (c .args .state .now)) carry owners offsets
 
 returns : tie.Need-returns
 returns c carry owners offsets = let s = c .before .before in sym (ap (λ x. labelAs (localLabel x)) (past-program (over s carry owners offsets) (s .args .at .0) (c .if1 .taken)) ∙ no-label _ (λ e. omega arith))
@@ -48,10 +49,10 @@ module _ (c : tie.After-frame-at) (carry owners offsets : List ℕ) where
   kind-is : kindOf (slotAt here (start .args .at .0)) ≡ 2
   kind-is = sym (c .before .before .kind-at .ensures carry owners offsets) ∙ c .before .if2 .left
 
-  holds : FrameOf 2 (start .args .at .0) (frameAt (start .args .frames .now) (start .args .starts .now) (start .args .at .0)) (written here (start .args .at .0))
+  holds : FrameOf 2 (start .args .at .0) (frameAt (start .args .frames .now) (startsIn (start .args .state .now)) (start .args .at .0)) (written here (start .args .at .0))
   holds = written-frame here (start .pre) (start .args .at .0) (c .before .before .before .if1 .left) 1 kind-is
 
-  stands : standsAt here (start .args .at .0) ≡ label (pairAt (frameAt (start .args .frames .now) (start .args .starts .now) (start .args .at .0)) 1)
+  stands : standsAt here (start .args .at .0) ≡ label (pairAt (frameAt (start .args .frames .now) (startsIn (start .args .state .now)) (start .args .at .0)) 1)
   stands = at-program here (start .args .at .0) (c .before .before .before .if1 .left) ∙ slot-data here (start .args .at .0) 0 kind-is ∙ holds .is
 
 pair-in-requires : tie.Need-pair-in-requires

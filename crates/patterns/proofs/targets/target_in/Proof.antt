@@ -11,11 +11,12 @@ use Rattle.rules.specs.Statements.{argumentAt}
 use Rattle.listing.specs.Tables.{frameAt}
 use Rattle.patterns.specs.Targets.{lastBytes}
 use Rattle.patterns.proofs.Instructions.{target-frame, target-count, target-inside}
+use Rattle.slots.specs.State.{startsIn}
 use Rattle.patterns.proofs.targets.target_in.Statement.{statement}
 use Rattle.patterns.proofs.targets.target_in.Tie as tie
 
 abbrev frame : (c : tie.Start) → List ℕ
-frame c = frameAt (c .args .frames .now) (c .args .starts .now) (c .args .at .0)
+frame c = frameAt (c .args .frames .now) (startsIn (c .args .state .now)) (c .args .at .0)
 
 abbrev last : (s : List ℕ) → ℕ
 last s = length (operandsAt (getD s 1 0)) - 1

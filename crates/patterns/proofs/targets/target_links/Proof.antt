@@ -13,11 +13,12 @@ use Rattle.slots.proofs.Tables.{bounds, length-frame}
 use Rattle.slots.proofs.Linking.{spans, length-beside}
 use Rattle.patterns.specs.Targets.{lastLinks}
 use Rattle.patterns.proofs.Instructions.{target-frame, target-count, target-inside}
+use Rattle.slots.specs.State.{startsIn}
 use Rattle.patterns.proofs.targets.target_links.Statement.{statement}
 use Rattle.patterns.proofs.targets.target_links.Tie as tie
 
 abbrev frame : (c : tie.Start) → List ℕ
-frame c = frameAt (c .args .frames .now) (c .args .starts .now) (c .args .at .0)
+frame c = frameAt (c .args .frames .now) (startsIn (c .args .state .now)) (c .args .at .0)
 
 abbrev last : (s : List ℕ) → ℕ
 last s = length (operandsAt (getD s 1 0)) - 1
@@ -67,25 +68,25 @@ inside c =
       begins c,
       target-inside _ _ _ (s .pre .0) (s .args .at .0) (s .pre .1),
       ap length (c .before .before .before .links-at .ensures),
-      length-beside (s .args .frames .now) (s .args .starts .now) (s .args .count) (s .pre .0) (s .args .links .now) (s .pre .2) (s .args .at .0) (s .pre .1 .inside),
+      length-beside (s .args .frames .now) (startsIn (s .args .state .now)) (s .args .count) (s .pre .0) (s .args .links .now) (s .pre .2) (s .args .at .0) (s .pre .1 .inside),
     )
 
 links-at-requires : tie.Need-links-at-requires
 links-at-requires c κs =
     let s = c .before .before .before in
-    spans (s .args .frames .now) (s .args .starts .now) (s .args .count) (s .pre .0) (s .args .links .now) (s .pre .2) (s .args .at .0) (s .pre .1 .inside)
+    spans (s .args .frames .now) (startsIn (s .args .state .now)) (s .args .count) (s .pre .0) (s .args .links .now) (s .pre .2) (s .args .at .0) (s .pre .1 .inside)
 
 mul-result : tie.Need-mul-result
 mul-result c = record { fits = omega (arith, inside c, ap length (c .before .before .before .links-at .ensures), beside-short c) }
   where
-    beside-short : (c : tie.After-argument-in) → length (frameAt (c .before .before .before .before .before .before .before .args .links .now) (c .before .before .before .before .before .before .before .args .starts .now) (c .before .before .before .before .before .before .before .args .at .0)) ≤ 28672
+    beside-short : (c : tie.After-argument-in) → length (frameAt (c .before .before .before .before .before .before .before .args .links .now) (startsIn (c .before .before .before .before .before .before .before .args .state .now)) (c .before .before .before .before .before .before .before .args .at .0)) ≤ 28672
     beside-short c =
         let s = c .before .before .before .before .before .before .before in
         omega (
           arith,
-          length-beside (s .args .frames .now) (s .args .starts .now) (s .args .count) (s .pre .0) (s .args .links .now) (s .pre .2) (s .args .at .0) (s .pre .1 .inside),
-          length-frame (s .args .frames .now) (s .args .starts .now) (s .args .count) (s .pre .0) (s .args .at .0) (s .pre .1 .inside),
-          bounds (s .args .frames .now) (s .args .starts .now) (s .args .count) (s .pre .0) (s .args .at .0) (s .pre .1 .inside) .within,
+          length-beside (s .args .frames .now) (startsIn (s .args .state .now)) (s .args .count) (s .pre .0) (s .args .links .now) (s .pre .2) (s .args .at .0) (s .pre .1 .inside),
+          length-frame (s .args .frames .now) (startsIn (s .args .state .now)) (s .args .count) (s .pre .0) (s .args .at .0) (s .pre .1 .inside),
+          bounds (s .args .frames .now) (startsIn (s .args .state .now)) (s .args .count) (s .pre .0) (s .args .at .0) (s .pre .1 .inside) .within,
         )
 
 sub-result : tie.Need-sub-result
@@ -100,7 +101,7 @@ returns c =
     let a = c .before in
     let s = a .before .before .before .before .before .before .before in
     rest-is (a .argument-in .result) _ ∙ ap (λ x. drop (a .argument-in .result) x) (a .before .before .before .links-at .ensures)
-    ∙ ap (λ (k : ℕ). drop k (frameAt (s .args .links .now) (s .args .starts .now) (s .args .at .0))) (begins a)
+    ∙ ap (λ (k : ℕ). drop k (frameAt (s .args .links .now) (startsIn (s .args .state .now)) (s .args .at .0))) (begins a)
 
 pub target-links-spec : {M : Type 1} → statement M
 target-links-spec =

@@ -20,7 +20,7 @@ line-requires c κs =
     let s = k .before in
     let a = s .args in (
       s .pre .2,
-      subst (λ (t : List ℕ). Framed t) (sym (f .frame-at .ensures))
+      subst (λ (t : List ℕ). Framed t) (sym (f .frame-in .ensures))
           (framed (a .frames .now) (a .starts .now) (a .count) (s .pre .0) (all-bytes k) (a .i) (s .pre .1)),
     )
 
@@ -32,7 +32,7 @@ returns c =
     let a = s .args in
     let room : List ℕ = c .line .last .1 .0 in
     stands (a .frames .now) (a .starts .now) (a .count) (s .pre .0) (all-bytes k) (a .i) (s .pre .1) (a .room .now) room (c .line .result)
-    (subst (λ (t : List ℕ). Lined t (a .room .now) room (c .line .result)) (f .frame-at .ensures) (c .line .ensures))
+    (subst (λ (t : List ℕ). Lined t (a .room .now) room (c .line .result)) (f .frame-in .ensures) (c .line .ensures))
 
 pub line-at-spec : {M : Type 1} → statement M
 line-at-spec = tie.close (tie.spec (λ c κs. search needs) line-requires returns)
