@@ -1,0 +1,79 @@
+/* For fuzz.c: the image of a run is held against its own listing, whole and damaged, and the rewrites are counted. */
+#ifndef ANSWERS_H
+#define ANSWERS_H
+
+#include "../mortarbee.h"
+#include "rooms.h"
+
+static uint64_t audits, told_rewrites;
+static uint8_t run_image[MORTARBEE_IMAGE_ROOM], shipped_bytes[MORTARBEE_IMAGE_ROOM + 1];
+
+/* The settings by number: 1 keeps comments, 2 lets Callf shrink, 4 lets folds run. */
+static struct mortarbee_audited ask_audit(unsigned set, const uint8_t *from, size_t n, size_t shipped_n) {
+    lend(&listing_room, n, 0);
+    memcpy(listing_room.start, from, n);
+    lend(&image_room, shipped_n, 0);
+    memcpy(image_room.start, shipped_bytes, shipped_n);
+    begin_call();
+    struct mortarbee_audited r = mortarbee_audit(set & 1, set & 2, set & 4, listing_room.start, n, image_room.start, shipped_n);
+    end_call();
+    check(memcmp(listing_room.start, from, n) == 0 && memcmp(image_room.start, shipped_bytes, shipped_n) == 0, "an audit changed what it was lent");
+    audits++;
+    return r;
+}
+
+static struct mortarbee_told ask_steps(unsigned set, const uint8_t *from, size_t n, size_t room) {
+    lend(&listing_room, n, 0);
+    memcpy(listing_room.start, from, n);
+    lend(&out_room, room, next());
+    begin_call();
+    struct mortarbee_told r = mortarbee_steps(set & 1, set & 2, set & 4, listing_room.start, n, out_room.start, room);
+    end_call();
+    check(memcmp(listing_room.start, from, n) == 0, "the listing was changed");
+    check(kept_from(&out_room, r.number ? 0 : r.lines), "a byte changed on refusal or behind the lines");
+    return r;
+}
+
+static void try_audit(unsigned set, const uint8_t *from, size_t n, size_t image_n) {
+    memcpy(shipped_bytes, run_image, image_n);
+    struct mortarbee_audited r = ask_audit(set, from, n, image_n);
+    check(r.number == 0 && r.finding == 0, "the run's own image is not the same");
+    if (image_n > 0) {
+        size_t at = next() % image_n;
+        r = ask_audit(set, from, n, at);
+        check(r.finding == 2 && r.address == at, "an image that ends early is not found");
+        shipped_bytes[at] ^= 1;
+        r = ask_audit(set, from, n, image_n);
+        check(r.finding == 1 && r.address == at && r.shipped == shipped_bytes[at] && r.wanted == run_image[at], "a changed byte is not found");
+        shipped_bytes[at] ^= 1;
+    }
+    shipped_bytes[image_n] = 0;
+    r = ask_audit(set, from, n, image_n + 1);
+    check(r.finding == 3 && r.address == image_n, "an image that goes on is not found");
+}
+
+static void try_answers(unsigned set, const uint8_t *from, size_t n) {
+    lend(&listing_room, n, 0);
+    memcpy(listing_room.start, from, n);
+    lend(&out_room, MORTARBEE_LISTING_ROOM, 0);
+    lend(&image_room, MORTARBEE_IMAGE_ROOM, 0);
+    struct mortarbee_reply run = mortarbee_optimize_jumps(set & 1, set & 2, set & 4, listing_room.start, n, out_room.start, MORTARBEE_LISTING_ROOM, image_room.start,
+                                                          MORTARBEE_IMAGE_ROOM);
+    memcpy(run_image, image_room.start, run.number ? 0 : run.image);
+    if (run.number) {
+        struct mortarbee_audited r = ask_audit(set, from, n, 0);
+        struct mortarbee_told t = ask_steps(set, from, n, 0);
+        check(r.number == run.number && r.place == run.place && r.argument == run.argument && r.amount == run.amount, "an audit refused otherwise than the run");
+        check(t.number == run.number && t.place == run.place && t.argument == run.argument && t.amount == run.amount, "the rewrites refused otherwise than the run");
+        return;
+    }
+    try_audit(set, from, n, run.image);
+    struct mortarbee_told t = ask_steps(set, from, n, 21 * run.rewrites);
+    check(t.number == 0 && t.rewrites == run.rewrites && t.lines == 21 * run.rewrites, "other rewrites than the run's");
+    if (run.rewrites > 0) {
+        check(ask_steps(set, from, n, 21 * run.rewrites - 1).number == 12, "a room that is too short for the rewrites, and no 12");
+    }
+    told_rewrites += run.rewrites;
+}
+
+#endif

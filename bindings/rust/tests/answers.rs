@@ -1,0 +1,38 @@
+//! An audit and the rewrites, on document 01's whole run.
+use mortarbee::{audit, optimize_jumps, steps, Finding, Origin, Settings, IMAGE_ROOM, LISTING_ROOM, STEPS_ROOM};
+
+const WHOLE: &[u8] = b"012E018001\n012B010001\n028001\n0143\n020001\n012B0000000005\n";
+
+fn image() -> Vec<u8> {
+    let (mut out, mut image) = (vec![0; LISTING_ROOM], vec![0; IMAGE_ROOM]);
+    let done = optimize_jumps(Settings::default(), WHOLE, &mut out, &mut image).unwrap();
+    image.truncate(done.image);
+    image
+}
+
+#[test]
+fn holds_an_image() {
+    let asked = Settings::default();
+    let mut shipped = image();
+    assert_eq!(audit(asked, WHOLE, &shipped), Ok(Finding::Same));
+    let origin = Some(Origin { statement: 5, offset: 1 });
+    assert_eq!(audit(asked, WHOLE, &shipped[..4]), Ok(Finding::Short { address: 4, origin }));
+    shipped[4] ^= 1;
+    assert_eq!(audit(asked, WHOLE, &shipped), Ok(Finding::Differs { address: 4, wanted: 0xFD, shipped: 0xFC, origin }));
+    shipped[4] ^= 1;
+    shipped.push(0);
+    assert_eq!(audit(asked, WHOLE, &shipped), Ok(Finding::Long { address: 5 }));
+    assert_eq!(audit(asked, b"0143\n050003\n0143\n", &[0, 0, 1]), Ok(Finding::Differs { address: 2, wanted: 0, shipped: 1, origin: None }));
+    assert_eq!(audit(asked, b"0143\n01\n", &[]).unwrap_err().number, 1);
+}
+
+#[test]
+fn tells_the_rewrites() {
+    let mut out = vec![7; STEPS_ROOM];
+    assert_eq!(steps(Settings::default(), WHOLE, &mut out), Ok(2));
+    assert_eq!(&out[..42], b"760100002E00002F0001\n760300052B00052C0005\n");
+    assert!(out[42..].iter().all(|&b| b == 7));
+    let mut short = [7; 41];
+    let r = steps(Settings::default(), WHOLE, &mut short).unwrap_err();
+    assert_eq!((r.number, r.place, short), (12, 6, [7; 41]));
+}

@@ -1,0 +1,72 @@
+-- A listing is accepted where a run with room enough accepts it, and is refused as the run refuses it.
+use mathlib.Core.Path.{_≡_, refl, sym, ap, _∙_}
+use mathlib.Core.List.{List}
+use Prim.Native.Nat.{ℕ}
+use Rattle.laws.proofs.Tests.{clash}
+use Rattle.rules.specs.declared.Settings.{Settings}
+use Rattle.rules.specs.declared.Refusal.{Refusal}
+use Rattle.rules.specs.declared.Refusal.the-variants.{Room}
+use Rattle.rules.specs.Answers.{Judged, ok, no, _>>=_, _>>_}
+use Rattle.rules.specs.Programs.{Program}
+use Rattle.rules.specs.Listing.{readListing}
+use Rattle.rules.specs.Judging.{judge}
+use Rattle.rules.specs.Run.{run, listingRoomOfProgram, imageRoomOfProgram}
+use Rattle.promises.specs.Demand2.{Input}
+use Rattle.promises.proofs.OutputRoom.{never-room}
+use Rattle.starting.specs.Begun.{accepted}
+
+-- a refusal of one thing as that of another
+ap-no : {A B : Type 0} {q r : Refusal} → _≡_ {A = Judged A} (no q) (no r) → _≡_ {A = Judged B} (no q) (no r)
+ap-no {q = q} {r = r} e = let z : q ≡ r = cc in ap no z
+
+module _ (text : List ℕ) where
+  pub accepted-of : (p : Program) (image : List ℕ) → readListing text ≡ ok p → judge p ≡ ok image → accepted text ≡ ok p
+  unfolding accepted _>>=_ _>>_
+  accepted-of p image d j = rw (d, j)
+
+  pub accepted-unread : (r : Refusal) → readListing text ≡ no r → accepted text ≡ no r
+  unfolding accepted _>>=_
+  accepted-unread r d = rw d
+
+  pub accepted-bad : (p : Program) (r : Refusal) → readListing text ≡ ok p → judge p ≡ no r → accepted text ≡ no r
+  unfolding accepted _>>=_ _>>_
+  accepted-bad p r d j = rw (d, j)
+
+  -- accepted-input: what is accepted was read and assembles
+  pub accepted-input : (p : Program) → accepted text ≡ ok p → Input p
+  accepted-input p e = on (readListing text) refl
+    where
+      judged : (q : Program) (x : Judged (List ℕ)) → judge q ≡ x → readListing text ≡ ok q → Input p
+      judged q (ok image) j d =
+          let same : ok q ≡ ok p = sym (accepted-of q image d j) ∙ e in
+          let z : q ≡ p = cc in
+          record { text = text; reads = d ∙ ap ok z; image = image; assembles = ap judge (sym z) ∙ j }
+      judged q (no r) j d = let z : ok p ≡ no r = sym e ∙ accepted-bad q r d j in clash (cc)
+
+      on : (x : Judged Program) → readListing text ≡ x → Input p
+      on (ok q) d = judged q (judge q) refl d
+      on (no r) d = let z : ok p ≡ no r = sym e ∙ accepted-unread r d in clash (cc)
+
+  run-unread : (asked : Settings) (a b : ℕ) (q : Refusal) → readListing text ≡ no q → run asked text a b ≡ no q
+  unfolding run _>>=_
+  run-unread asked a b q d = rw d
+
+  run-bad : (asked : Settings) (a b : ℕ) (p : Program) (q : Refusal) → readListing text ≡ ok p → judge p ≡ no q → run asked text a b ≡ no q
+  unfolding run _>>=_ _>>_
+  run-bad asked a b p q d j = rw (d, j)
+
+  -- accepted-run: a refusal is the run's, whatever rooms it is lent
+  pub accepted-run : (asked : Settings) (r : Refusal) (listingRoom imageRoom : ℕ) → accepted text ≡ no r → run asked text listingRoom imageRoom ≡ no r
+  accepted-run asked r a b e = on (readListing text) refl
+    where
+      judged : (p : Program) (x : Judged (List ℕ)) → judge p ≡ x → readListing text ≡ ok p → run asked text a b ≡ no r
+      judged p (ok image) j d = let z : ok p ≡ no r = sym (accepted-of p image d j) ∙ e in clash (cc)
+      judged p (no q) j d = run-bad asked a b p q d j ∙ ap-no (sym (accepted-bad p q d j) ∙ e)
+
+      on : (x : Judged Program) → readListing text ≡ x → run asked text a b ≡ no r
+      on (ok p) d = judged p (judge p) refl d
+      on (no q) d = run-unread asked a b q d ∙ ap-no (sym (accepted-unread q d) ∙ e)
+
+  -- accepted-never-12: no room is lent
+  pub accepted-never-12 : (asked : Settings) (n : ℕ) → accepted text ≡ no (Room n) → ⊥
+  accepted-never-12 asked n e = never-room asked text n (accepted-run asked (Room n) listingRoomOfProgram imageRoomOfProgram e)

@@ -1,0 +1,4 @@
+-- ---- what is promised
+pub mod Accepts
+-- ---- what the proofs share
+pub mod Begins

@@ -1,0 +1,11 @@
+-- ---- what is promised
+pub mod Done
+-- ---- what the proofs share
+pub mod Again
+pub mod Changes
+pub mod Rules
+pub mod Walks
+pub mod Told
+pub mod InSlots
+-- ---- runs
+pub mod Runs
