@@ -10,7 +10,8 @@ archive=$target/staticlib/libborder.a
 flags="-std=c11 -D_GNU_SOURCE -O2 -Wall -Wextra"
 cc=${CC:-cc}
 [ "$(uname -m)" = x86_64 ] || cc=x86_64-linux-gnu-gcc
-kit=${RATTLE_HOME:-$(dirname "$(dirname "$(readlink -f "$(command -v rt)")")")}
+. "$here/../tools/words/kit.sh"
+find_kit || kit=/none
 linker=$kit/on/$(uname -m)/toolchain/bin/ld.lld
 
 # The headers are those of this machine: what the programs take from them is the same for each processor.
@@ -23,14 +24,14 @@ with_kit() {
 }
 
 mkdir -p "$target/bindings"
-for program in c/batch c/where fuzz/fuzz; do
+for program in c/batch c/where c/lines fuzz/fuzz; do
     out=$target/bindings/${program#*/}
     if command -v "$cc" >/dev/null; then
         "$cc" $flags -o "$out" "$here/$program.c" "$archive"
     elif command -v clang >/dev/null && [ -x "$linker" ]; then
         with_kit "$here/$program.c" "$out"
     else
-        echo "build.sh: no compiler for x86-64: neither $cc (Debian: gcc-x86-64-linux-gnu) nor clang" >&2
+        echo "build.sh: no compiler for x86-64: neither $cc (C11; Debian: gcc-x86-64-linux-gnu) nor clang with the kit's linker" >&2
         exit 3
     fi
 done

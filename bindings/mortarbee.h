@@ -58,6 +58,23 @@ struct mortarbee_reply mortarbee_text(const uint8_t *listing, size_t listing_len
 /* A room that is never too short. */
 #define MORTARBEE_TEXT_ROOM 86016
 
+/* ---- C-19: the listing of a text for people, in the old form: what mortarbee_text writes reads back as the same statements, unless these pass the old form's
+   total of 49,152 characters without their source lines: then it is 2. Any text is taken. The reader calls itself at each parenthesis: a line of 1,024 bytes may
+   take 1.5 MB of stack. */
+
+struct mortarbee_reading {
+    uint64_t number;   /* 0: done; 2: a limit is passed; 15: no line of such a text; 12: the room is too short; then no byte has changed */
+    uint64_t place;    /* of the line refused, from 0; for 12 the statement count */
+    uint64_t argument; /* 0 */
+    int64_t amount;    /* for 15 the column, from 0, of the first byte that no good line could have there, or of the line's end; else 0 */
+    uint64_t listing;  /* bytes written to the listing room; what lies behind is unchanged */
+};
+
+struct mortarbee_reading mortarbee_read(const uint8_t *text, size_t text_len, uint8_t *listing, size_t listing_len);
+
+/* A room that is never too short: 49,152 characters and 1,024 line feeds. */
+#define MORTARBEE_READ_ROOM 50176
+
 /* ---- C-22: a damaged listing salvaged. Any text is taken. Lines that are no good frames by themselves come out as comments, and the report has a line for each:
    7B, 1 or 2, the place; where lines are left off, a last line 7C and the place of the first. What comes out is never refused 1 or 2. */
 
@@ -76,6 +93,77 @@ struct mortarbee_saved {
 };
 
 struct mortarbee_saved mortarbee_salvage(const uint8_t *text, size_t text_len, uint8_t *listing, size_t listing_len, uint8_t *report, size_t report_len);
+
+/* ---- C-13: what did it do to my code? */
+
+/* Rooms that are never too short: two bytes for each of 1,024 statements; twice 57,344 characters, and seven more for each of twice 1,024 statements. */
+#define MORTARBEE_STEMS_ROOM 2048
+#define MORTARBEE_DIFFERENCES_ROOM 129024
+
+struct mortarbee_stemmed {
+    uint64_t number;   /* as of mortarbee_optimize_jumps; 12 also where the list's room is too short */
+    uint64_t place;
+    uint64_t argument;
+    int64_t amount;
+    uint64_t listing;  /* as of mortarbee_optimize_jumps */
+    uint64_t rewrites;
+    uint64_t image;
+    uint64_t stems;    /* entries of the list, one for each statement that came out; two bytes each, high byte first */
+};
+
+/* mortarbee_optimize_jumps that hands out, in `list`, the place that each statement of the new listing stems from. Ask for comments where the differences
+   are to be of what was rewritten alone. */
+struct mortarbee_stemmed mortarbee_stems(uint8_t comments, uint8_t callf, uint8_t folds, const uint8_t *listing, size_t listing_len, uint8_t *out, size_t out_len,
+                                       uint8_t *image, size_t image_len, uint8_t *list, size_t list_len);
+
+struct mortarbee_differed {
+    uint64_t number;   /* 0: told; 1 and 2 of a listing, the first one first; 13: a pairing out of order, repeated or beyond a listing; 12; then no byte has changed */
+    uint64_t place;    /* for 1 and 2 that of the statement, for 13 the entry's index, for 12 the first listing's statement count */
+    uint64_t argument; /* 0 */
+    int64_t amount;    /* 0 */
+    uint64_t whose;    /* for 1 and 2 the listing, 1 or 2; else 0 */
+    uint64_t text;     /* bytes of text */
+};
+
+/* The differences of two listings as lines: 70 kept, place, place, frame; 71 removed, place, frame; 72 added, place, frame; 73 changed, place, place, the
+   count of the old frame's bytes, old frame, new frame. Where `given` is not 0, entry i of the pairing (two bytes, high byte first) is the place of the first
+   listing that statement i of the second is paired with; else what both begin and end with is paired. */
+struct mortarbee_differed mortarbee_differences(const uint8_t *first, size_t first_len, const uint8_t *second, size_t second_len, uint8_t given,
+                                                   const uint8_t *pairing, size_t pairing_len, uint8_t *out, size_t out_len);
+/* ---- What is this image? A shipped image is held against what its long listing shrinks to under the three settings. No room is lent, so 12 is never
+   given; any other refusal is the one that `mortarbee_optimize_jumps` gives. */
+struct mortarbee_audited {
+    uint64_t number;    /* 0: held; else the listing's refusal, and zeros from `finding` on */
+    uint64_t place;
+    uint64_t argument;
+    int64_t amount;
+    uint64_t finding;   /* 0: the same; 1: another byte at the address; 2: the shipped image ends there; 3: only the shipped image goes on there */
+    uint64_t address;   /* the first that differs; 0 where the images are the same */
+    uint64_t wanted;    /* for 1: the byte that the listing shrinks to, and the shipped one */
+    uint64_t shipped;
+    uint64_t owned;     /* for 1 and 2: 1 where the wanted byte belongs to a statement; 0 in a gap that an org leaves */
+    uint64_t statement; /* its place in the listing, from 0, and the byte's offset in what became of it */
+    uint64_t offset;
+};
+
+struct mortarbee_audited mortarbee_audit(uint8_t comments, uint8_t callf, uint8_t folds, const uint8_t *listing, size_t listing_len, const uint8_t *shipped,
+                                         size_t shipped_len);
+
+/* ---- The rewrites in order, a line of 21 characters each: 76, the rule (1 an inverted fold, 2 a trampoline, 3 a shrink), the place in two bytes, and what
+   stood there and what stands there now: the form, and in two bytes the place whose target it carries. Refusals: the listing's, then 12 with the count. */
+struct mortarbee_told {
+    uint64_t number;
+    uint64_t place;
+    uint64_t argument;
+    int64_t amount;
+    uint64_t lines;    /* bytes written to the room: 21 a rewrite */
+    uint64_t rewrites; /* as many as the run makes */
+};
+
+struct mortarbee_told mortarbee_steps(uint8_t comments, uint8_t callf, uint8_t folds, const uint8_t *listing, size_t listing_len, uint8_t *out, size_t out_len);
+
+/* A room that is never too short: 3,072 lines. */
+#define MORTARBEE_STEPS_ROOM 64512
 
 /* ---- C-24: settings kept by edition. A store is the first 160 bytes of the room: 32 places of five, the family and the edition in two bytes each, high
    byte first, and the switches (1 comments, 2 Callf, 4 folds). Zeros are an empty store. What lies behind the 160 bytes never changes. */

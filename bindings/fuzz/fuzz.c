@@ -1,5 +1,6 @@
 /* Hands arbitrary bytes to each entry for a time, and looks for a crash, a byte changed on refusal or behind a result, a hang, source lines that alter an
-   answer, and addresses, editions, runs under an edition, images read back and texts that are not what C-17, C-24, C-21 and C-16 say.
+   answer, and addresses, editions, runs under an edition, images read back, texts, texts read, lists of stems and differences that are not what C-17, C-24,
+   C-21, C-16, C-19 and C-13 say.
    usage: fuzz [--seed N] [--seconds N]. What failed is written to fuzz.failed. Built by ../build.sh. */
 #include "../mortarbee.h"
 #include "rooms.h"
@@ -8,7 +9,12 @@
 #include "stores.h"
 #include "images.h"
 #include "people.h"
+#include "reads.h"
 #include "salvages.h"
+#include "answers.h"
+
+static void lend_text(void);
+#include "differences.h"
 
 static uint64_t done, refusals[13], marked, compared, under_runs;
 static unsigned asked; /* the settings, by number: 1 keeps comments, 2 lets Callf shrink, 4 lets folds run */
@@ -141,7 +147,12 @@ static void hand_over(uint64_t number) {
     try_places(plain);
     lend_text();
     try_people(plain);
+    try_reading(plain.number != 1 && plain.number != 2);
     struct mortarbee_reply rewritten = try_entry(1);
+    size_t written = rewritten.number ? 0 : rewritten.listing;
+    static uint8_t new_listing[MORTARBEE_LISTING_ROOM];
+    memcpy(new_listing, out, written);
+    try_stems(asked, rewritten, out, image);
     check(plain.number == rewritten.number && plain.place == rewritten.place && plain.argument == rewritten.argument && plain.amount == rewritten.amount,
           "assembled and rewritten are not refused alike");
     check(plain.number != 0 || rewritten.image <= plain.image, "a rewritten image that is longer");
@@ -156,6 +167,8 @@ static void hand_over(uint64_t number) {
     try_under();
     try_images();
     try_salvage();
+    try_differences(new_listing, written);
+    try_answers(number % 8, text->at, text->n);
 }
 
 int main(int argc, char **argv) {
@@ -177,6 +190,7 @@ int main(int argc, char **argv) {
     make_room(&image_room, MORTARBEE_IMAGE_ROOM + 16);
     make_room(&store_room, STORE_MOST);
     make_room(&people_room, MORTARBEE_TEXT_ROOM);
+    make_difference_rooms();
     zeros();
     double end = now() + (double)seconds;
     uint64_t texts = 0;
@@ -197,8 +211,13 @@ int main(int argc, char **argv) {
     printf("; places: %llu with an address, %llu refused", (unsigned long long)addresses, (unsigned long long)without_address);
     printf("; images: %llu read back, %llu refused", (unsigned long long)read_back_done, (unsigned long long)read_back_refused);
     printf("; texts for people: %llu of %llu bytes", (unsigned long long)texts_written, (unsigned long long)text_bytes);
+    printf("; texts read: %llu, refused 15: %llu, 2: %llu", (unsigned long long)texts_read, (unsigned long long)texts_unread, (unsigned long long)texts_over);
     printf("; salvaged: %llu texts, %llu lines replaced, %llu times lines left off", (unsigned long long)salvaged_texts,
            (unsigned long long)replaced_lines, (unsigned long long)left_off);
+    printf("; lists of stems: %llu; differences: %llu told, refused 1: %llu, 2: %llu, 13: %llu", (unsigned long long)lists_written,
+           (unsigned long long)differences_told, (unsigned long long)differences_refused[1], (unsigned long long)differences_refused[2],
+           (unsigned long long)differences_refused[13]);
+    printf("; audits: %llu, rewrites told: %llu", (unsigned long long)audits, (unsigned long long)told_rewrites);
     printf("; stores: %llu calls, %llu accepted runs under an edition; refused:", (unsigned long long)store_calls, (unsigned long long)under_runs);
     for (int i = 12; i <= 19; i++) {
         if (i == 12 || i >= 17) {

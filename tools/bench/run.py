@@ -6,6 +6,7 @@ import argparse
 import os
 import platform
 import random
+import shutil
 import subprocess
 import sys
 import time
@@ -79,15 +80,18 @@ def once(program, text, times, limit):
 
 
 def seconds_of(program, text, limit):
-    """Seconds for one listing: by itself if it takes long, else by what a batch takes more than one, the least of three."""
-    alone = [once(program, text, 1, limit)]
-    if alone[0] is None or alone[0] > 2:
-        return alone[0]
-    alone += [once(program, text, 1, limit) for _ in range(2)]
-    times = 4
-    while times < 1000 and once(program, text, times, limit) < 0.4:
+    """Seconds for one listing: by itself if it takes long, else by what a batch takes more than one, the least of three; None past the limit."""
+    alone = once(program, text, 1, limit)
+    if alone is None or alone > 2:
+        return alone
+    alone = min([alone] + [t for t in (once(program, text, 1, limit) for _ in range(2)) if t is not None])
+    times, took = 4, 0
+    while times < 1000 and took is not None and took < 0.4:
+        took = once(program, text, times, times * limit)
         times *= 4
-    return max(0, min(once(program, text, times, limit) for _ in range(3)) - min(alone)) / (times - 1)
+    times //= 4
+    batches = [t for t in (once(program, text, times, times * limit) for _ in range(3)) if t is not None]
+    return max(1e-9, min(batches) - alone) / (times - 1) if batches else alone
 
 
 def shown(seconds, limit):
@@ -122,15 +126,22 @@ def counter(program, limit):
     return count
 
 
+def seconds(text):
+    value = float(text)
+    if not 0 < value <= 86400:
+        raise argparse.ArgumentTypeError("seconds, above 0 and at most a day")
+    return value
+
+
 def main():
     p = argparse.ArgumentParser(description=__doc__, formatter_class=argparse.RawDescriptionHelpFormatter)
     p.add_argument("--sources", help="the folder of the Rust's sources; needed until the oracle is built")
     p.add_argument("--assemble", action="store_true", help="time `assemble` alone")
-    p.add_argument("--limit", type=float, default=60, help="seconds for one listing")
+    p.add_argument("--limit", type=seconds, default=60, help="seconds for one listing")
     options = p.parse_args()
     rust = [os.path.join(build_oracle(options.sources), "oracle-release"), "--batch"] + (["--assemble"] if options.assemble else [])
     programs = [ours(options.assemble), Program("the Rust", rust)]
-    version = subprocess.run(["rustc", "--version"], capture_output=True, text=True).stdout.strip()
+    version = subprocess.run(["rustc", "--version"], capture_output=True, text=True).stdout.strip() if shutil.which("rustc") else "no rustc here"
     emulated = "" if platform.machine() == "x86_64" else " Ours is compiled for x86-64 and runs emulated here, beside a native Rust."
     print("%s, %s, %s, %d processors.%s" % ("`assemble` alone" if options.assemble else "`optimize_jumps`", version, platform.machine(),
                                           os.cpu_count(), emulated))

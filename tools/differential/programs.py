@@ -90,6 +90,9 @@ def ours(assemble):
     batch = os.path.join(TARGET, "bindings", "batch")
     if not os.path.exists(batch):
         raise SystemExit("no %s: run 'rt staticlib border' and bindings/build.sh first" % batch)
+    trial = subprocess.run([RUNNER, batch, "--assemble"], stdin=subprocess.DEVNULL, capture_output=True, text=True)
+    if trial.returncode:
+        raise SystemExit(trial.stderr.strip() or "%s cannot be run here" % batch)
     return Program("ours", [RUNNER, batch, "--sized"] + (["--assemble"] if assemble else []), sized=True)
 
 
@@ -100,8 +103,9 @@ def build_oracle(sources):
         if not sources:
             raise SystemExit("no oracle yet: name the folder of the Rust's sources with --sources")
         if not shutil.which("rustc"):
-            raise SystemExit("no rustc: the oracle cannot be built here")
-        subprocess.run(["sh", os.path.join(ROOT, "tools", "oracle", "build.sh"), sources, out], check=True)
+            raise SystemExit("no rustc (1.85 or newer): the oracle cannot be built here")
+        if subprocess.run(["sh", os.path.join(ROOT, "tools", "oracle", "build.sh"), sources, out]).returncode:
+            raise SystemExit("the oracle cannot be built here")
     return out
 
 

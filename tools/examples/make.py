@@ -1,8 +1,9 @@
-"""Writes the listings of the folder examples to the programs `examples` and `texts` (crates/NAME/stdin), and holds their stored
+"""Writes the listings of the folder examples to the programs `examples`, `texts` and `tray` (crates/NAME/stdin), and holds their stored
 output (crates/NAME/stdout) against the answers and the texts beside the listings.
 
-    python3 tools/examples/make.py write     # writes crates/examples/stdin and crates/texts/stdin
-    python3 tools/examples/make.py compare   # each NAME.out and NAME.txt is what the program wrote, examples/README.md has each name,
+    python3 tools/examples/make.py write     # writes crates/NAME/stdin of the three
+    python3 tools/examples/make.py compare   # each NAME.out and NAME.txt is what the program wrote, and each file of examples/tray what the
+                                             # program `tray` wrote for a word, examples/README.md has each name,
                                              # each line that docs/FORMAT.md shows stands in a listing that is accepted, with its text,
                                              # and the listings of docs/RULES.md are those of the folder, with their answers
 """
@@ -15,10 +16,21 @@ EXAMPLES = ROOT / "examples"
 STDIN = ROOT / "crates/examples/stdin"
 STDOUT = ROOT / "crates/examples/stdout"
 TEXTS = ROOT / "crates/texts"
+TRAY = ROOT / "crates/tray"
+# What the program `tray` writes behind a line `== WORD`, and the file of examples/tray that has it.
+WORDS = {
+    "optimize": "tray.out",
+    "text": "tray.txt",
+    "text --addresses": "long.txt",
+    "image --hex": "long.hex",
+    "text --addresses, of the short one": "short.txt",
+    "image --hex, of the short one": "short.hex",
+    "read-back 8, of its image": "back.out",
+}
 
 
 def names():
-    return sorted(path.stem for path in EXAMPLES.glob("*.lst"))
+    return sorted(str(path.relative_to(EXAMPLES).with_suffix("")) for path in EXAMPLES.rglob("*.lst"))
 
 
 def listing(name):
@@ -40,6 +52,11 @@ def texts():
     """What the program wrote for people, for each listing; None where it refused it."""
     for part in (TEXTS / "stdout").read_text().split("==\n")[:-1]:
         yield None if part.startswith("7E") else part
+
+
+def through_words():
+    """What the program `tray` wrote for each word."""
+    return dict(part.split("\n", 1) for part in ("\n" + (TRAY / "stdout").read_text()).split("\n== ")[1:])
 
 
 def shown():
@@ -68,6 +85,12 @@ def faults():
             yield f"{name}.txt is not what the program wrote"
         lines = listing(name).split()
         people.update(zip(lines[lines[:1] == ["7D02"] :], (text or "").splitlines()))
+    if (TRAY / "stdin").read_text() != listing("tray/tray"):
+        yield "crates/tray/stdin is not what `write` writes"
+    written = through_words()
+    for word, file in WORDS.items():
+        if (EXAMPLES / "tray" / file).read_text().rstrip("\n") != written.get(word, "").rstrip("\n"):
+            yield f"tray/{file} is not what the program wrote for {word}"
     table = (EXAMPLES / "README.md").read_text()
     accepted = set()
     for name, answer in zip(names(), answers(), strict=True):
@@ -91,6 +114,7 @@ if __name__ == "__main__":
     if sys.argv[1:] == ["write"]:
         STDIN.write_text(blocks())
         (TEXTS / "stdin").write_text(blocks())
+        (TRAY / "stdin").write_text(listing("tray/tray"))
         print(len(names()), "listings")
     elif sys.argv[1:] == ["compare"]:
         found = list(faults())

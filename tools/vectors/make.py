@@ -49,7 +49,7 @@ def printed(answer):
         return answer.line().encode()
     zeros = len(answer.image) - len(answer.image.lstrip(b"\0"))
     digits = answer.image[zeros:].hex().upper()
-    return answer.lines + b"7F%04X%06X\nIMAGE %x %s\n" % (answer.rewrites, answer.length, zeros, digits.encode())
+    return answer.lines + b"7F%04X%06X\nIMAGE %X %s\n" % (answer.rewrites, answer.length, zeros, digits.encode())
 
 
 def expected(text, oracle):

@@ -21,13 +21,13 @@ pub struct Done {
 /// One of the refusals of documents 01 and 02.
 #[derive(Clone, Copy, Debug, PartialEq, Eq)]
 pub struct Refusal {
-    /// 1 to 12; 14 of `where_sits`; 16 of `read_back`; 17 to 19 of a store.
+    /// 1 to 12; 13 of `differences`; 14 of `where_sits`; 15 of `read`; 16 of `read_back`; 17 to 19 of a store.
     pub number: u8,
-    /// The statement's place from 0; for 12 the statement count; 0 for 14, 16 and of a store.
+    /// The statement's place from 0; for 12 the statement count; for 13 the entry's index; 0 for 14, 16 and of a store.
     pub place: usize,
     /// For 8 to 11 the place of the argument or data item, from 0; else 0.
     pub argument: usize,
-    /// For 8, 9 and 11 its value, for 10 the difference; else 0.
+    /// For 8, 9 and 11 its value, for 10 the difference, for 15 the column, from 0; else 0.
     pub amount: i32,
 }
 
@@ -105,6 +105,7 @@ extern "C" {
     ) -> Reply;
     fn mortarbee_read_back(image: *const u8, image_len: usize, start: usize, listing: *mut u8, listing_len: usize) -> Reply;
     fn mortarbee_text(listing: *const u8, listing_len: usize, text: *mut u8, text_len: usize) -> Reply;
+    fn mortarbee_read(text: *const u8, text_len: usize, listing: *mut u8, listing_len: usize) -> ReadReply;
     fn mortarbee_where_sits(listing: *const u8, listing_len: usize, n: usize) -> SitsReply;
     fn mortarbee_salvage(
         text: *const u8,
@@ -114,6 +115,48 @@ extern "C" {
         report: *mut u8,
         report_len: usize,
     ) -> SavedReply;
+    fn mortarbee_stems(
+        comments: u8,
+        callf: u8,
+        folds: u8,
+        listing: *const u8,
+        listing_len: usize,
+        out: *mut u8,
+        out_len: usize,
+        image: *mut u8,
+        image_len: usize,
+        list: *mut u8,
+        list_len: usize,
+    ) -> StemsReply;
+    fn mortarbee_differences(
+        first: *const u8,
+        first_len: usize,
+        second: *const u8,
+        second_len: usize,
+        given: u8,
+        pairing: *const u8,
+        pairing_len: usize,
+        out: *mut u8,
+        out_len: usize,
+    ) -> DiffersReply;
+    fn mortarbee_audit(
+        comments: u8,
+        callf: u8,
+        folds: u8,
+        listing: *const u8,
+        listing_len: usize,
+        shipped: *const u8,
+        shipped_len: usize,
+    ) -> AuditReply;
+    fn mortarbee_steps(
+        comments: u8,
+        callf: u8,
+        folds: u8,
+        listing: *const u8,
+        listing_len: usize,
+        out: *mut u8,
+        out_len: usize,
+    ) -> StepsReply;
     fn mortarbee_add_edition(room: *mut u8, room_len: usize, family: u16, comments: u8, callf: u8, folds: u8) -> NumberedReply;
     fn mortarbee_get_edition(room: *const u8, room_len: usize, family: u16, edition: u16) -> FoundReply;
     fn mortarbee_get_newest(room: *const u8, room_len: usize, family: u16) -> FoundReply;
@@ -185,6 +228,22 @@ pub fn text(listing: &[u8], text: &mut [u8]) -> Result<usize, Refusal> {
     answer(unsafe { mortarbee_text(listing.as_ptr(), listing.len(), text.as_mut_ptr(), text.len()) }).map(|done| done.listing)
 }
 
+/// A room for the listing of a text that is never too short.
+pub const READ_ROOM: usize = 50_176;
+
+#[repr(C)]
+struct ReadReply {
+    told: Told,
+    listing: u64,
+}
+
+/// C-19: reads a text for people, writes its listing in the old form, and gives the listing's length. 15 has the column, from 0, of the first byte
+/// that no good line could have there.
+pub fn read(text: &[u8], listing: &mut [u8]) -> Result<usize, Refusal> {
+    let r = unsafe { mortarbee_read(text.as_ptr(), text.len(), listing.as_mut_ptr(), listing.len()) };
+    r.told.unless(r.listing as usize)
+}
+
 /// Rooms that are never too short for `salvage`: listing and report.
 pub const SALVAGE_ROOM: usize = 58_373;
 pub const REPORT_ROOM: usize = 9_223;
@@ -213,6 +272,162 @@ pub fn salvage(text: &[u8], listing: &mut [u8], report: &mut [u8]) -> Result<Sav
         mortarbee_salvage(text.as_ptr(), text.len(), listing.as_mut_ptr(), listing.len(), report.as_mut_ptr(), report.len())
     };
     r.told.unless(Saved { statements: r.statements as usize, listing: r.listing as usize, report: r.report as usize })
+}
+
+/// A room for a list of stems that is never too short.
+pub const STEMS_ROOM: usize = 2_048;
+
+#[repr(C)]
+struct StemsReply {
+    told: Told,
+    listing: u64,
+    rewrites: u64,
+    image: u64,
+    stems: u64,
+}
+
+/// C-13: `optimize_jumps` that hands out, in `list`, the place that each statement of the new listing stems from, in two bytes, high byte first. Gives how many
+/// they are, too. Ask for comments where the differences are to be of what was rewritten alone.
+pub fn optimize_stems(asked: Settings, listing: &[u8], out: &mut [u8], image: &mut [u8], list: &mut [u8]) -> Result<(Done, usize), Refusal> {
+    let r = unsafe {
+        mortarbee_stems(
+            asked.comments as u8,
+            asked.callf as u8,
+            asked.folds as u8,
+            listing.as_ptr(),
+            listing.len(),
+            out.as_mut_ptr(),
+            out.len(),
+            image.as_mut_ptr(),
+            image.len(),
+            list.as_mut_ptr(),
+            list.len(),
+        )
+    };
+    r.told.unless((Done { listing: r.listing as usize, rewrites: r.rewrites as usize, image: r.image as usize }, r.stems as usize))
+}
+
+/// A room for differences that is never too short.
+pub const DIFFERENCES_ROOM: usize = 129_024;
+
+#[repr(C)]
+struct DiffersReply {
+    told: Told,
+    whose: u64,
+    text: u64,
+}
+
+/// What a refusal of `differences` is about: 1 and 2 are a listing's, 13 and 12 of both.
+#[derive(Clone, Copy, Debug, PartialEq, Eq)]
+pub enum Whose {
+    First,
+    Second,
+    Both,
+}
+
+/// C-13: writes the differences of two listings as lines 70 to 73, and gives the text's length. A pairing has two bytes an entry, high byte first: entry i is the
+/// place of the first listing that statement i of the second is paired with; an empty one pairs nothing. Without one, what both begin and end with is paired.
+pub fn differences(first: &[u8], second: &[u8], pairing: Option<&[u8]>, out: &mut [u8]) -> Result<usize, (Whose, Refusal)> {
+    let list = pairing.unwrap_or(&[]);
+    let r = unsafe {
+        mortarbee_differences(
+            first.as_ptr(),
+            first.len(),
+            second.as_ptr(),
+            second.len(),
+            pairing.is_some() as u8,
+            list.as_ptr(),
+            list.len(),
+            out.as_mut_ptr(),
+            out.len(),
+        )
+    };
+    let whose = match r.whose {
+        1 => Whose::First,
+        2 => Whose::Second,
+        _ => Whose::Both,
+    };
+    r.told.unless(r.text as usize).map_err(|refusal| (whose, refusal))
+}
+
+#[repr(C)]
+struct AuditReply {
+    told: Told,
+    finding: u64,
+    address: u64,
+    wanted: u64,
+    shipped: u64,
+    owned: u64,
+    statement: u64,
+    offset: u64,
+}
+
+#[repr(C)]
+struct StepsReply {
+    told: Told,
+    lines: u64,
+    rewrites: u64,
+}
+
+/// The statement of a listing that a byte of the image belongs to, by its place, and the byte's offset in what became of it.
+#[derive(Clone, Copy, Debug, PartialEq, Eq)]
+pub struct Origin {
+    pub statement: usize,
+    pub offset: usize,
+}
+
+/// What holding an image against a listing finds: the first address at which they are not the same. No origin: the byte is a gap that an org leaves.
+#[derive(Clone, Copy, Debug, PartialEq, Eq)]
+pub enum Finding {
+    Same,
+    Differs { address: usize, wanted: u8, shipped: u8, origin: Option<Origin> },
+    /// The shipped image ends there, where the wanted one has a byte.
+    Short { address: usize, origin: Option<Origin> },
+    /// The wanted image ends there, where the shipped one has a byte.
+    Long { address: usize },
+}
+
+/// Holds a shipped image against what its long listing shrinks to.
+pub fn audit(asked: Settings, listing: &[u8], shipped: &[u8]) -> Result<Finding, Refusal> {
+    let r = unsafe {
+        mortarbee_audit(
+            asked.comments as u8,
+            asked.callf as u8,
+            asked.folds as u8,
+            listing.as_ptr(),
+            listing.len(),
+            shipped.as_ptr(),
+            shipped.len(),
+        )
+    };
+    let address = r.address as usize;
+    let origin = (r.owned != 0).then_some(Origin { statement: r.statement as usize, offset: r.offset as usize });
+    r.told.unless(match r.finding {
+        0 => Finding::Same,
+        1 => Finding::Differs { address, wanted: r.wanted as u8, shipped: r.shipped as u8, origin },
+        2 => Finding::Short { address, origin },
+        _ => Finding::Long { address },
+    })
+}
+
+/// A room that is never too short for `steps`.
+pub const STEPS_ROOM: usize = 64_512;
+
+/// Writes the rewrites of a listing in order, a line of 21 characters each, and gives their number.
+pub fn steps(asked: Settings, listing: &[u8], out: &mut [u8]) -> Result<usize, Refusal> {
+    let r = unsafe {
+        mortarbee_steps(
+            asked.comments as u8,
+            asked.callf as u8,
+            asked.folds as u8,
+            listing.as_ptr(),
+            listing.len(),
+            out.as_mut_ptr(),
+            out.len(),
+        )
+    };
+    debug_assert_eq!(r.lines, 21 * r.rewrites);
+    r.told.unless(r.rewrites as usize)
 }
 
 /// C-17: the address of statement n, the position before its own org or pad; where n is the statement count, the end position. Answered from

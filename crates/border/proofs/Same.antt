@@ -14,6 +14,8 @@ use Rattle.store.specs.declared.Found.{Found}
 use Rattle.store.specs.declared.Numbered.{Numbered}
 use Rattle.store.specs.Rooms.{getIn, newestIn}
 use Rattle.editions.specs.Under.{under}
+use Rattle.border_differences.specs.declared.stems.StemsReply.{StemsReply}
+use Rattle.border_differences.specs.Replies.{HandsOut}
 use Rattle.border.specs.declared.replies.Reply.{Reply}
 use Rattle.border.specs.declared.replies.SitsReply.{SitsReply}
 use Rattle.border.specs.declared.replies.NumberedReply.{NumberedReply}
@@ -36,6 +38,12 @@ found-same r a b e h = subst (λ (x : Found). SaysFound r x) e h
 pub as-asked : (text out image : List ℕ) (asked given : Settings) (a : Answer) (out′ image′ : List ℕ) → asked ≡ given
     → Answered asked text out image a out′ image′ → Answered given text out image a out′ image′
 as-asked text out image asked given a out′ image′ e h = subst (λ (x : Settings). Answered x text out image a out′ image′) e h
+
+-- C-13: and the same is handed out
+pub handed-as-asked : (asked given : Settings) (text : List ℕ) (r : StemsReply) (out image list out′ image′ list′ : List ℕ) → asked ≡ given
+    → HandsOut asked text r out image list out′ image′ list′ → HandsOut given text r out image list out′ image′ list′
+handed-as-asked asked given text r out image list out′ image′ list′ e h =
+    subst (λ (x : Settings). HandsOut x text r out image list out′ image′ list′) e h
 
 -- a run under the newest edition or under a given one, as the test of its number goes
 pub as-tested : (store : List ℕ) (f e : ℕ) (text out image : List ℕ) (b : Bool) → eqb e 0 ≡ b → (a : Answer) (out′ image′ : List ℕ)

@@ -40,7 +40,7 @@ pub extern "C" fn mortarbee_assemble(listing: &[u8], image: &mut [u8]) -> Reply
 }
 
 // The settings that three bytes ask for: 0 is no, any other yes.
-fn settings_of(comments: u8, callf: u8, folds: u8) -> Settings
+pub fn settings_of(comments: u8, callf: u8, folds: u8) -> Settings
     ensures { λ r. ⌜ r ≡ askedBy comments callf folds ⌝ }
 {
     Settings {

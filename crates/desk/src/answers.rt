@@ -1,10 +1,10 @@
 // One listing of many: what the program prints for it and its image in digits; and, where asked, the same with rooms that are too short and under
 // other settings.
 use crate::rooms::part;
+use crate::rooms::put_digit;
 use crate::rooms::put_pair;
 use crate::switches::put_others;
 use entries::optimize_jumps;
-use io::print_hex;
 use io::write_all;
 use libc::STDOUT_FILENO;
 use printing::page_length;
@@ -16,8 +16,8 @@ use rules::Settings;
 use rules::Sizes;
 ghost use Rattle.io.specs.Counts.{Counts};
 
-// The answer to a listing, and a line `==`.
-pub fn put_answer(asked: Settings, text: &[u8], on_all_sides: bool) {
+// The answer to a listing, and a line `==`; handed back too.
+pub fn put_answer(asked: Settings, text: &[u8], on_all_sides: bool) -> Answer {
     let mut page = [0u8; 62482];
     let mut image = [0u8; 65536];
     let answer = print_run(asked, text, &mut page, &mut image);
@@ -32,6 +32,7 @@ pub fn put_answer(asked: Settings, text: &[u8], on_all_sides: bool) {
         Answer::Refused(r) => put_refusal(r),
     }
     write_all(STDOUT_FILENO, b"==\n");
+    answer
 }
 
 // The same with rooms that are too short, and under the other settings.
@@ -63,6 +64,22 @@ fn zeros(bytes: &[u8]) -> usize
     i
 }
 
+// A number's last digit in hexadecimal, where it is shown.
+fn put_last(is_shown: bool, n: usize) {
+    if is_shown {
+        put_digit((n % 16) as u8);
+    }
+}
+
+// At most 65,536 in hexadecimal, with no zeros in front.
+fn put_count(n: usize) {
+    put_last(n >= 65536, n / 65536);
+    put_last(n >= 4096, n / 4096);
+    put_last(n >= 256, n / 256);
+    put_last(n >= 16, n / 16);
+    put_last(true, n);
+}
+
 // IMAGE, how many zeros it begins with in hexadecimal, and the rest in digit pairs.
 fn put_image(image: &[u8; 65536], n: usize) {
     let image: &[u8] = image;
@@ -73,7 +90,7 @@ fn put_image(image: &[u8; 65536], n: usize) {
 fn put_bytes(bytes: &[u8]) {
     let k = zeros(bytes);
     write_all(STDOUT_FILENO, b"IMAGE ");
-    print_hex(STDOUT_FILENO, k as u64, 1);
+    put_count(k);
     write_all(STDOUT_FILENO, b" ");
     put_digits(&bytes[k..]);
     write_all(STDOUT_FILENO, b"\n");

@@ -4,7 +4,7 @@ mod blocks; // where a block ends
 mod rooms; // what the words of the program share
 mod switches; // a listing under the other settings
 
-use answers::put_answer;
+pub use answers::put_answer;
 pub use answers::put_page;
 pub use blocks::behind;
 pub use blocks::block_end;

@@ -23,3 +23,9 @@ pub fn put_pair(b: u8) {
     let pair = [digit(b / 16), digit(b % 16)];
     write_all(STDOUT_FILENO, &pair);
 }
+
+// One digit on standard output.
+pub fn put_digit(x: u8) {
+    let one = [digit(x)];
+    write_all(STDOUT_FILENO, &one);
+}

@@ -1,13 +1,16 @@
 // `settings`: the store of C-24 on standard input. `add` and `drop` write the store as it is then, `newest` writes an edition's number, `show` a line a
 // setting. `under`: document 01's job under an edition; the store comes in descriptor 3.
+mod faults; // what is wrong with a store, in words
+
 use check::same;
+use faults::refuse;
+use faults::refuse_family;
 use io::print_decimal;
 use io::read_full;
 use io::write_all;
 use libc::STDERR_FILENO;
 use libc::STDIN_FILENO;
 use libc::STDOUT_FILENO;
-use rules::Refusal;
 use rules::Settings;
 use store::Found;
 use store::Numbered;
@@ -18,7 +21,6 @@ use store::drop_old;
 use store::get_edition;
 use store::get_newest;
 use store::show_place;
-use telling::say;
 use words::numbers::Typed;
 use words::numbers::number_of;
 use words::optimizing::optimize;
@@ -92,7 +94,7 @@ fn add(family: u16, asked: Settings) {
 
 fn add_in(room: &mut [u8], family: u16, asked: Settings) {
     let answer = add_edition(room, family, asked);
-    put_store(answer, room);
+    put_store(answer, room, family);
 }
 
 fn drop_all(family: u16) {
@@ -103,21 +105,16 @@ fn drop_all(family: u16) {
 
 fn drop_in(room: &mut [u8], family: u16) {
     let answer = drop_old(room, family);
-    put_store(answer, room);
+    put_store(answer, room, family);
 }
 
-fn put_store(answer: Numbered, room: &[u8]) {
+fn put_store(answer: Numbered, room: &[u8], family: u16) {
     match answer {
         Numbered::Is(_) => {
             write_all(STDOUT_FILENO, room);
         }
-        Numbered::Refused(r) => refuse(r),
+        Numbered::Refused(r) => refuse_family(r, room, family),
     }
-}
-
-// A refusal about no statement.
-fn refuse(r: Refusal) {
-    say(r, b"");
 }
 
 fn newest(family: u16) {
@@ -125,7 +122,7 @@ fn newest(family: u16) {
     let n = read_full(STDIN_FILENO, &mut room);
     match get_newest(&room[..n], family) {
         Found::Is(edition) => put_number(edition.number),
-        Found::Refused(r) => refuse(r),
+        Found::Refused(r) => refuse(r, &room[..n]),
     }
 }
 
@@ -157,7 +154,7 @@ fn show_at(room: &[u8], k: usize) -> bool {
         Shown::Is(s) => put_setting(s),
         Shown::Free => true,
         Shown::Refused(r) => {
-            refuse(r);
+            refuse(r, room);
             false
         }
     }
@@ -191,18 +188,22 @@ fn under_family(family: u16) {
     let mut room = io::buffer();
     let n = read_full(3, &mut room);
     if os::arg_count() < 4 {
-        run_under(get_newest(&room[..n], family));
+        run_under(get_newest(&room[..n], family), &room[..n], family);
     } else {
         match word_at(3) {
-            Two::Is(edition) => run_under(get_edition(&room[..n], family, edition)),
+            Two::Is(edition) => run_under(
+                get_edition(&room[..n], family, edition),
+                &room[..n],
+                family,
+            ),
             Two::Nothing => misuse(),
         }
     }
 }
 
-fn run_under(found: Found) {
+fn run_under(found: Found, room: &[u8], family: u16) {
     match found {
         Found::Is(edition) => optimize(edition.settings),
-        Found::Refused(r) => refuse(r),
+        Found::Refused(r) => refuse_family(r, room, family),
     }
 }

@@ -1,9 +1,11 @@
 // The program: a listing on standard input, the answer on standard output; the word after its name says the job.
-mod checking; // reads a listing and says how many statements it has
-mod imaging; // the image of a listing as it stands
+mod batching; // many listings
 
 use check::same;
 use libc::STDERR_FILENO;
+use looking::checking;
+use looking::imaging;
+use looking::judging;
 use words::optimizing;
 use words::options::Asked;
 use words::options::options_from;
@@ -25,6 +27,8 @@ fn job(word: &[u8]) {
         optimize(2);
     } else if same(word, b"check") {
         checking::check_listing();
+    } else if same(word, b"judge") {
+        judging::judge_listing();
     } else if same(word, b"image") {
         imaging::image();
     } else if same(word, b"batch") {
@@ -35,8 +39,18 @@ fn job(word: &[u8]) {
         reading::from_word();
     } else if same(word, b"text") {
         showing::text();
+    } else if same(word, b"read") {
+        parsing::read_text();
     } else if same(word, b"salvage") {
         saving::salvage_text();
+    } else if same(word, b"stems") {
+        stems();
+    } else if same(word, b"differences") {
+        comparing::compare();
+    } else if same(word, b"steps") {
+        steps();
+    } else if same(word, b"audit") {
+        audit();
     } else if same(word, b"settings") {
         keeping::settings();
     } else if same(word, b"under") {
@@ -63,9 +77,30 @@ fn optimize(first: usize)
     }
 }
 
+fn stems() {
+    match options_from(2) {
+        Asked::Are(asked) => comparing::stems(asked),
+        Asked::Nothing => {}
+    }
+}
+
 fn batch() {
     match options_from(2) {
-        Asked::Are(asked) => desk::answer_all(asked, false),
+        Asked::Are(asked) => batching::answer_all(asked),
+        Asked::Nothing => {}
+    }
+}
+
+fn steps() {
+    match options_from(2) {
+        Asked::Are(asked) => answering::tell_steps(asked),
+        Asked::Nothing => {}
+    }
+}
+
+fn audit() {
+    match options_from(2) {
+        Asked::Are(asked) => answering::audit_image(asked),
         Asked::Nothing => {}
     }
 }

@@ -1,16 +1,15 @@
 // `salvage`: what can be kept of a damaged listing (C-22). The listing goes to standard output, and what was done to standard error, in words;
 // `salvage report` writes the report's lines to standard output instead.
-mod causes; // why a line is bad
-mod texts; // lines and digits of a text
+mod texts; // the lines of a text
 mod wording; // what was done, line by line
 
-use causes::tell;
 use check::same;
 use desk::part;
 use io::read_full;
 use io::write_all;
 use libc::STDIN_FILENO;
 use libc::STDOUT_FILENO;
+use reasons::tell;
 use salvage::Saved;
 use salvage::entry::salvage;
 use salvage::walks::Extent;

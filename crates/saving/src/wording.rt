@@ -1,13 +1,14 @@
 // What was done, in words on standard error: each line that was replaced, from where on lines are left off, and how many.
-use crate::causes::tell;
-use crate::causes::tell_cause;
-use crate::causes::tell_number;
-use crate::texts::byte_at;
 use crate::texts::ends_with_returns;
 use crate::texts::line_count;
 use crate::texts::line_end;
-use crate::texts::place_at;
+use causes::characters::byte_at;
+use causes::characters::pair_at;
+use causes::lines::line_length;
 use listing::new_form;
+use reasons::tell;
+use reasons::tell_bad;
+use reasons::tell_count;
 ghost use Prim.Native.Nat.{_<_, _≤_};
 
 // Of a text, how many statements came out of it, and the report.
@@ -23,11 +24,11 @@ pub fn tell_all(text: &[u8], statements: usize, report: &[u8]) {
     tell_left(report, replaced, marked);
     let all = less(line_count(text), first_line(marked) - 1);
     tell(b"kept ");
-    tell_number(less(statements, replaced));
+    tell_count(less(statements, replaced));
     tell(b", replaced ");
-    tell_number(replaced);
+    tell_count(replaced);
     tell(b", left off ");
-    tell_number(less(all, statements));
+    tell_count(less(all, statements));
     tell(b"\n");
 }
 
@@ -54,7 +55,7 @@ fn told_place(report: &[u8], n: usize) -> usize
 {
     if n < 1024 {
         if 9 * n + 8 < report.len() {
-            return place_at(report, 9 * n + 4);
+            return pair_at(report, 9 * n + 4) as usize;
         }
     }
     262144
@@ -91,13 +92,22 @@ fn tell_place(place: usize, marked: bool)
     requires { ⌜ place ≤ 262144 ⌝ }
 {
     tell(b"standard input:");
-    tell_number(place + first_line(marked));
+    tell_count(place + first_line(marked));
 }
 
-// The second digit of the number.
+// 1 or 2, and why.
+fn tell_cause(line: &[u8], marked: bool, number: u8) {
+    tell(b": ");
+    tell_count(number as usize);
+    tell(b", ");
+    let n = line_length(line);
+    tell_bad(number, &line[..n], n < line.len(), marked);
+}
+
+// The number in line n of the report.
 fn number_at(report: &[u8], n: usize) -> u8 {
     if n < 1024 {
-        byte_at(report, 9 * n + 3)
+        byte_at(report, 9 * n + 2)
     } else {
         0
     }
@@ -111,7 +121,7 @@ fn tell_left(report: &[u8], n: usize, marked: bool) {
     if report.len() < 9 * n + 7 {
         return;
     }
-    let place = place_at(report, 9 * n + 2);
+    let place = pair_at(report, 9 * n + 2) as usize;
     tell_place(place, marked);
     tell(b": left off from here on: ");
     if place == 1024 {

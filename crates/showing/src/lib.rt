@@ -41,10 +41,14 @@ fn text_room() -> [u8; 86016]
 fn write_text() {
     let mut listing = io::large_buffer();
     let n = read_full(STDIN_FILENO, &mut listing);
+    text_of(&listing[..n]);
+}
+
+pub fn text_of(listing: &[u8]) {
     let mut room = text_room();
-    match readable_text(&listing[..n], &mut room) {
+    match readable_text(listing, &mut room) {
         Answer::Done(sizes) => put(&room, sizes.listing),
-        Answer::Refused(r) => say(r, &listing[..n]),
+        Answer::Refused(r) => say(r, listing),
     }
 }
 
@@ -54,14 +58,18 @@ fn put(room: &[u8], n: usize) {
     write_all(STDOUT_FILENO, &room[..n]);
 }
 
-// Only a listing that assembles has bytes.
 fn write_addressed() {
     let mut listing = io::large_buffer();
     let n = read_full(STDIN_FILENO, &mut listing);
+    addressed(&listing[..n]);
+}
+
+// Only a listing that assembles has bytes.
+pub fn addressed(listing: &[u8]) {
     let mut image = io::large_buffer();
-    match assemble(&listing[..n], &mut image) {
-        Answer::Done(sizes) => with_image(&listing[..n], &image, sizes.image),
-        Answer::Refused(r) => say(r, &listing[..n]),
+    match assemble(listing, &mut image) {
+        Answer::Done(sizes) => with_image(listing, &image, sizes.image),
+        Answer::Refused(r) => say(r, listing),
     }
 }
 

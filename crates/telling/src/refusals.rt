@@ -1,7 +1,5 @@
 // The 7E line of a refusal on standard output, and its sentence on standard error with the line's text.
-use crate::amounts::tell_amount;
-use crate::lines::line_at;
-use crate::lines::quote;
+use causes::lines::line_of;
 use entries::Fault;
 use entries::fault_of;
 use io::print_decimal;
@@ -10,6 +8,8 @@ use libc::STDERR_FILENO;
 use libc::STDOUT_FILENO;
 use listing::new_form;
 use printing::refusal_line;
+use reasons::tell_reason;
+use reasons::tell_text;
 use rules::Refusal;
 
 // What a number means, in a sentence on standard error.
@@ -26,7 +26,9 @@ fn sentence(number: u8) {
         9 => tell(b"a relative target is outside 0 to 65,535"),
         10 => tell(b"a relative target is too far away"),
         11 => tell(b"the target is in another page of 4,096 bytes"),
+        13 => tell(b"the pairing is out of order, or names a statement that is not there"),
         14 => tell(b"there is no such statement: the listing has fewer"),
+        15 => tell(b"the line is none of a listing for people"),
         16 => tell(b"the start is beyond the end of the image"),
         17 => tell(b"the store does not have that family or edition"),
         18 => tell(b"the store is full, or the family has its last edition, 65,535"),
@@ -48,18 +50,8 @@ fn tell_line(place: usize) {
     }
 }
 
-// The line of a statement, from 0: the line that marks the new form is no statement.
-fn line_of(place: usize, marked: bool) -> usize {
-    if place < 65536 {
-        if marked {
-            return place + 1;
-        }
-    }
-    place
-}
-
 // For a person, on standard error: the number and what it means; for one that names a statement, its place and the line.
-fn tell_person(r: Refusal, text: &[u8]) {
+pub fn tell_person(r: Refusal, text: &[u8]) {
     let f = fault_of(r);
     tell(b"refused ");
     print_decimal(STDERR_FILENO, f.number as u64);
@@ -72,19 +64,30 @@ fn tell_person(r: Refusal, text: &[u8]) {
     }
 }
 
-// The place, the sentence, how far it is off, and the line's text.
-fn tell_statement(f: Fault, text: &[u8]) {
+// The place, the line and the sentence.
+fn tell_place(f: Fault, marked: bool) {
     tell(b", statement ");
     print_decimal(STDERR_FILENO, f.place as u64);
-    let marked = new_form(text);
-    let at = line_of(f.place, marked);
-    tell_line(at);
+    tell_line(line_of(f.place, marked));
     tell(b": ");
     sentence(f.number);
     tell(b"\n");
-    let line = line_at(text, at);
-    tell_amount(f.number, f.argument, f.amount, marked, line);
-    quote(line);
+}
+
+fn tell_statement(f: Fault, text: &[u8]) {
+    tell_place(f, new_form(text));
+    tell_reason(f, text);
+}
+
+// The same of a text for people, whose refusals are 2 and 15.
+pub fn say_text(r: Refusal, text: &[u8]) {
+    let line = refusal_line(r);
+    write_all(STDOUT_FILENO, &line);
+    let f = fault_of(r);
+    tell(b"refused ");
+    print_decimal(STDERR_FILENO, f.number as u64);
+    tell_place(f, false);
+    tell_text(f, text);
 }
 
 // The 7E line on standard output, and then the sentence.

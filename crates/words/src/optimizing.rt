@@ -12,11 +12,15 @@ use telling::say;
 pub fn optimize(asked: Settings) {
     let mut text = io::large_buffer();
     let n = read_full(STDIN_FILENO, &mut text);
+    optimize_text(asked, &text[..n]);
+}
+
+pub fn optimize_text(asked: Settings, text: &[u8]) {
     let mut page = [0u8; 62482];
     let mut image = [0u8; 65536];
-    let answer = print_run(asked, &text[..n], &mut page, &mut image);
+    let answer = print_run(asked, text, &mut page, &mut image);
     match answer {
         Answer::Done(_) => put_page(&page, page_length(answer)),
-        Answer::Refused(r) => say(r, &text[..n]),
+        Answer::Refused(r) => say(r, text),
     }
 }

@@ -7,6 +7,8 @@ use io::write_all;
 use libc::STDERR_FILENO;
 use libc::STDIN_FILENO;
 use libc::STDOUT_FILENO;
+use reasons::tell_statements;
+use rules::Refusal;
 use sits::Sits;
 use sits::where_sits;
 use telling::say;
@@ -30,9 +32,21 @@ fn misuse() {
 fn place_of(k: usize) {
     let mut text = io::large_buffer();
     let n = read_full(STDIN_FILENO, &mut text);
-    match where_sits(&text[..n], k) {
+    place_in(&text[..n], k);
+}
+
+pub fn place_in(text: &[u8], k: usize) {
+    match where_sits(text, k) {
         Sits::At(at) => put_address(at.0),
-        Sits::Refused(r) => say(r, &text[..n]),
+        Sits::Refused(r) => refuse(r, text),
+    }
+}
+
+fn refuse(r: Refusal, text: &[u8]) {
+    say(r, text);
+    match r {
+        Refusal::Absent => tell_statements(text),
+        _ => {}
     }
 }
 

@@ -8,6 +8,7 @@ use libc::STDERR_FILENO;
 use libc::STDIN_FILENO;
 use libc::STDOUT_FILENO;
 use readback::entry::read_back;
+use reasons::tell_bytes;
 use rules::Answer;
 use rules::Refusal;
 use telling::say;
@@ -37,7 +38,6 @@ fn image_room() -> [u8; 262144]
     [0; 262144]
 }
 
-// No listing that is read back is longer than its room.
 fn from(start: usize) {
     let mut image = image_room();
     let n = read_full(STDIN_FILENO, &mut image);
@@ -48,25 +48,31 @@ fn from(start: usize) {
         );
         return;
     }
+    from_image(&image[..n], start);
+}
+
+// No listing that is read back is longer than its room.
+pub fn from_image(image: &[u8], start: usize) {
     let mut listing = io::large_buffer();
-    match read_back(&image[..n], start, &mut listing) {
+    match read_back(image, start, &mut listing) {
         Answer::Done(sizes) => put(&listing, sizes.listing),
-        Answer::Refused(r) => say_of_image(r),
+        Answer::Refused(r) => say_of_image(r, image.len()),
     }
 }
 
-// 2 is about the image or about a listing that nobody has: no line is told.
-fn say_of_image(r: Refusal) {
+// What is refused is the image, or a listing that nobody has: no line is told.
+fn say_of_image(r: Refusal, n: usize) {
+    say(r, b"");
     match r {
         Refusal::Limit(_) => {
             write_all(
                 STDERR_FILENO,
-                b"the image has more than 65,536 bytes, or its listing would have more than 1,024 statements\n",
+                b"  65,536 bytes are allowed, and 1,024 statements of its listing\n",
             );
         }
         _ => {}
     }
-    say(r, b"");
+    tell_bytes(n);
 }
 
 fn put(listing: &[u8], n: usize) {

@@ -1,0 +1,28 @@
+-- `nodes::probes::append_zeros` ends.
+use mathlib.Core.Path.{_≡_, refl}
+use Prim.Native.Nat.{_-_, _≤_}
+use native.Mathlib.Omega.{arith}
+use lib.ListN.{length}
+use borrow.Author.Needs.{needs}
+use Rattle.nodes.proofs.probes.append_zeros.Statement.{statement}
+use Rattle.nodes.proofs.probes.append_zeros.Tie as tie
+
+abbrev Inv-loop : tie.InvT-loop
+Inv-loop out₀ at n to₀ k₀ out to k = (k ≤ n) × (length out ≡ length out₀)
+
+abbrev μ-loop : tie.MeasureT-loop
+μ-loop out₀ at n to₀ k₀ out to k = n - k
+
+pub append-zeros-spec : {M : Type 1} → statement M
+append-zeros-spec =
+    tie.close
+    (tie.spec
+    Inv-loop
+    μ-loop
+    (λ c. (omega arith, refl))
+    (λ c κs. search needs)
+    (λ c. omega arith)
+    (λ c. omega arith)
+    (λ c. (omega arith, omega arith))
+    (λ c. omega arith)
+    (λ c. search needs))
