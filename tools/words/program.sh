@@ -64,12 +64,14 @@ check_age() {
     fi
 }
 
-# On a terminal, after two seconds: a sign of life. How many rewrites are done cannot be seen from outside: they are one proved call (D-98).
+# On a terminal, after two seconds: a sign of life, with the rewrites that are done. The run is one proved call that writes nothing on its way, so a second one,
+# begun with it on the same listing, counts (D-98).
 show_life() {
     seconds=2 lines=$(wc -l <"$work/input")
     sleep 2
     while :; do
-        printf '\rmortarbee: at work on %d lines, %d s ' "$lines" "$seconds" >&2
+        rewrites=$(tail -n 1 "$work/count")
+        printf '\rmortarbee: at work on %d lines, %s%d s ' "$lines" "${rewrites:+$rewrites rewrites done, }" "$seconds" >&2
         sleep 1
         seconds=$((seconds + 1))
     done
@@ -77,15 +79,21 @@ show_life() {
 
 begin_life() {
     [ -t 2 ] || return 0
+    : >"$work/count"
+    if [ "$1" = optimize ]; then
+        shift
+        start "$program" count "$@" <"$work/input" >"$work/count" 2>/dev/null &
+        counter=$!
+    fi
     show_life &
     life=$!
 }
 
 end_life() {
     [ -n "$life" ] || return 0
-    kill "$life" 2>/dev/null
+    kill "$life" $counter 2>/dev/null
     printf '\r\033[K' >&2
-    life=''
+    life='' counter=''
 }
 
 # Waits for what was started, and gives its status. Until then a signal ends it too, and at once.
@@ -102,7 +110,7 @@ run() {
     [ -x "$program" ] || build
     check_age
     find_emulator || stop "the program is for x86-64, and there is no emulator: put rt or qemu-x86_64 on the PATH, or set RATTLE_HOME"
-    begin_life
+    begin_life "$@"
     start "$program" "$@" <"$work/input" >"$work/output" 2>"$work/said" 3<"$work/beside" 5<"$work/pairing" &
     await $!
     status=$?
@@ -127,14 +135,14 @@ clean() {
 end_by() {
     trap - EXIT HUP INT TERM
     [ -z "$child" ] || kill "$child" 2>/dev/null
-    [ -z "$life" ] || kill "$life" 2>/dev/null
+    [ -z "$life" ] || kill "$life" $counter 2>/dev/null
     [ -z "$builder" ] || kill -- "-$builder" 2>/dev/null
     clean
     kill -s "$1" $$
 }
 
 begin() {
-    child='' life='' builder='' beside='' refused='' most=262145
+    child='' life='' counter='' builder='' beside='' refused='' most=262145
     work=$(mktemp -d) || stop "no temporary folder"
     trap clean EXIT
     trap 'end_by HUP' HUP

@@ -51,6 +51,8 @@ fn job(word: &[u8]) {
         steps();
     } else if same(word, b"audit") {
         audit();
+    } else if same(word, b"count") {
+        count();
     } else if same(word, b"settings") {
         keeping::settings();
     } else if same(word, b"under") {
@@ -101,6 +103,14 @@ fn steps() {
 fn audit() {
     match options_from(2) {
         Asked::Are(asked) => answering::audit_image(asked),
+        Asked::Nothing => {}
+    }
+}
+
+// A word of the script's own: how many rewrites are done, while they are done.
+fn count() {
+    match options_from(2) {
+        Asked::Are(asked) => counting::count_rewrites(asked),
         Asked::Nothing => {}
     }
 }
