@@ -246,6 +246,7 @@ grep -q '^10: ' out || wrong "another refusal is explained"
 try 0 '' explain 0x11
 grep -q '^17: ' out || wrong "another refusal is explained"
 try 0 '' explain 7E0B00010000000345
+try 0 '' explain 7e0b00010000000345
 grep -q '^11: ' out || wrong "another refusal is explained"
 try 0 '' version
 grep -q '^program [0-9a-f]\{64\}$' out || wrong "no checksum"
