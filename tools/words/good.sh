@@ -261,3 +261,15 @@ tried=$((tried + 1))
 { "$mortarbee" text --addresses wide.lst 2>err; echo $? >ended; } | head -n 1 >out
 [ ! -s err ] || wrong "something was said"
 [ "$(cat ended)" = 0 ] || wrong "status $(cat ended) instead of 0"
+# A run of some seconds: each of 600 jumps is tried again after each of 420 rewrites, and refused late, by the branch behind them. On a terminal it says how many are done.
+{ echo 020001; yes 012B010001 | head -n 600; printf '012C010002\n050789\n020002\n'; yes 012B010002 | head -n 420; } >long.lst
+what='mortarbee long.lst on a terminal'
+if command -v script >/dev/null; then
+    tried=$((tried + 1))
+    : >err
+    script -qec "'$mortarbee' -o long.out long.lst" typed >/dev/null </dev/null
+    grep -q 'at work on 1024 lines, [0-9]* rewrites done, [0-9]* s' typed || wrong "it does not say how many rewrites are done"
+    [ "$(tail -n 1 long.out)" = 7F01A4000AD1 ] || wrong "another output"
+else
+    echo "test.sh: $what was not tried: there is no command script"
+fi
