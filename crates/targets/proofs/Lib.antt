@@ -1,0 +1,11 @@
+-- ---- what is promised
+pub mod SaidSame
+pub mod ToldSame
+-- ---- what the proofs share
+pub mod Coming
+pub mod Same
+pub mod Listed
+pub mod Reading
+pub mod Answered
+-- ---- runs
+pub mod Runs
