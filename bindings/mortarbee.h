@@ -165,6 +165,25 @@ struct mortarbee_told mortarbee_steps(uint8_t comments, uint8_t callf, uint8_t f
 /* A room that is never too short: 3,072 lines. */
 #define MORTARBEE_STEPS_ROOM 64512
 
+/* ---- What each transfer of the output names, a line of 45 characters each: 74, 00 where its target names the byte that it named in the input or 01 where
+   it needs eyes, its place and the place whose target it carries in two bytes each, and for the input and then the output the value in four bytes, the
+   place of the statement that has the byte in two (FFFF: none has), and the byte's offset in it in two. Refusals: the listing's, then 12 with the count. */
+struct mortarbee_aimed {
+    uint64_t number;
+    uint64_t place;
+    uint64_t argument;
+    int64_t amount;
+    uint64_t lines;     /* bytes written to the room: 45 a transfer */
+    uint64_t transfers; /* of the output */
+    uint64_t marked;    /* how many of them need eyes */
+};
+
+struct mortarbee_aimed mortarbee_targets(uint8_t comments, uint8_t callf, uint8_t folds, const uint8_t *listing, size_t listing_len, uint8_t *out,
+                                         size_t out_len);
+
+/* A room that is never too short: 1,024 lines. */
+#define MORTARBEE_TARGETS_ROOM 46080
+
 /* ---- C-24: settings kept by edition. A store is the first 160 bytes of the room: 32 places of five, the family and the edition in two bytes each, high
    byte first, and the switches (1 comments, 2 Callf, 4 folds). Zeros are an empty store. What lies behind the 160 bytes never changes. */
 

@@ -1,11 +1,11 @@
-/* For fuzz.c: the image of a run is held against its own listing, whole and damaged, and the rewrites are counted. */
+/* For fuzz.c: the image of a run is held against its own listing, whole and damaged, the rewrites are counted, and the lines of the targets are looked at. */
 #ifndef ANSWERS_H
 #define ANSWERS_H
 
 #include "../mortarbee.h"
 #include "rooms.h"
 
-static uint64_t audits, told_rewrites;
+static uint64_t audits, told_rewrites, told_targets;
 static uint8_t run_image[MORTARBEE_IMAGE_ROOM], shipped_bytes[MORTARBEE_IMAGE_ROOM + 1];
 
 /* The settings by number: 1 keeps comments, 2 lets Callf shrink, 4 lets folds run. */
@@ -32,6 +32,36 @@ static struct mortarbee_told ask_steps(unsigned set, const uint8_t *from, size_t
     check(memcmp(listing_room.start, from, n) == 0, "the listing was changed");
     check(kept_from(&out_room, r.number ? 0 : r.lines), "a byte changed on refusal or behind the lines");
     return r;
+}
+
+static struct mortarbee_aimed ask_targets(unsigned set, const uint8_t *from, size_t n, size_t room) {
+    lend(&listing_room, n, 0);
+    memcpy(listing_room.start, from, n);
+    lend(&out_room, room, next());
+    begin_call();
+    struct mortarbee_aimed r = mortarbee_targets(set & 1, set & 2, set & 4, listing_room.start, n, out_room.start, room);
+    end_call();
+    check(memcmp(listing_room.start, from, n) == 0, "the listing was changed");
+    check(kept_from(&out_room, r.number ? 0 : r.lines), "a byte changed on refusal or behind the lines of the targets");
+    return r;
+}
+
+/* A line is not marked where place and offset are the same and the place is not FFFF. */
+static void try_targets(unsigned set, const uint8_t *from, size_t n) {
+    struct mortarbee_aimed r = ask_targets(set, from, n, MORTARBEE_TARGETS_ROOM);
+    check(r.number == 0 && r.lines == 45 * r.transfers && r.marked <= r.transfers, "the counts of the targets");
+    uint64_t marked = 0;
+    for (uint64_t i = 0; i < r.transfers; i++) {
+        const uint8_t *line = out_room.start + 45 * i;
+        int same = memcmp(line + 20, line + 36, 8) == 0 && memcmp(line + 20, "FFFF", 4) != 0;
+        check(memcmp(line, same ? "7400" : "7401", 4) == 0 && line[44] == '\n', "a target is marked, or is not, against its numbers");
+        marked += !same;
+    }
+    check(marked == r.marked, "the count of the marked targets");
+    if (r.transfers > 0) {
+        check(ask_targets(set, from, n, r.lines - 1).number == 12, "a room that is too short for the targets, and no 12");
+    }
+    told_targets += r.transfers;
 }
 
 static void try_audit(unsigned set, const uint8_t *from, size_t n, size_t image_n) {
@@ -64,10 +94,13 @@ static void try_answers(unsigned set, const uint8_t *from, size_t n) {
         struct mortarbee_audited r = ask_audit(set, from, n, 0);
         struct mortarbee_told t = ask_steps(set, from, n, 0);
         check(r.number == run.number && r.place == run.place && r.argument == run.argument && r.amount == run.amount, "an audit refused otherwise than the run");
+        struct mortarbee_aimed a = ask_targets(set, from, n, 0);
+        check(a.number == run.number && a.place == run.place && a.argument == run.argument && a.amount == run.amount, "the targets refused otherwise than the run");
         check(t.number == run.number && t.place == run.place && t.argument == run.argument && t.amount == run.amount, "the rewrites refused otherwise than the run");
         return;
     }
     try_audit(set, from, n, run.image);
+    try_targets(set, from, n);
     struct mortarbee_told t = ask_steps(set, from, n, 21 * run.rewrites);
     check(t.number == 0 && t.rewrites == run.rewrites && t.lines == 21 * run.rewrites, "other rewrites than the run's");
     if (run.rewrites > 0) {

@@ -157,6 +157,15 @@ extern "C" {
         out: *mut u8,
         out_len: usize,
     ) -> StepsReply;
+    fn mortarbee_targets(
+        comments: u8,
+        callf: u8,
+        folds: u8,
+        listing: *const u8,
+        listing_len: usize,
+        out: *mut u8,
+        out_len: usize,
+    ) -> TargetsReply;
     fn mortarbee_add_edition(room: *mut u8, room_len: usize, family: u16, comments: u8, callf: u8, folds: u8) -> NumberedReply;
     fn mortarbee_get_edition(room: *const u8, room_len: usize, family: u16, edition: u16) -> FoundReply;
     fn mortarbee_get_newest(room: *const u8, room_len: usize, family: u16) -> FoundReply;
@@ -428,6 +437,41 @@ pub fn steps(asked: Settings, listing: &[u8], out: &mut [u8]) -> Result<usize, R
     };
     debug_assert_eq!(r.lines, 21 * r.rewrites);
     r.told.unless(r.rewrites as usize)
+}
+
+#[repr(C)]
+struct TargetsReply {
+    told: Told,
+    lines: u64,
+    transfers: u64,
+    marked: u64,
+}
+
+/// A room that is never too short for `targets`.
+pub const TARGETS_ROOM: usize = 46_080;
+
+/// How many transfers an output has, and how many of them need eyes.
+#[derive(Clone, Copy, Debug, PartialEq, Eq)]
+pub struct Targets {
+    pub transfers: usize,
+    pub marked: usize,
+}
+
+/// Writes what each transfer of the output names, beside what its target named in the input, a line of 45 characters each.
+pub fn targets(asked: Settings, listing: &[u8], out: &mut [u8]) -> Result<Targets, Refusal> {
+    let r = unsafe {
+        mortarbee_targets(
+            asked.comments as u8,
+            asked.callf as u8,
+            asked.folds as u8,
+            listing.as_ptr(),
+            listing.len(),
+            out.as_mut_ptr(),
+            out.len(),
+        )
+    };
+    debug_assert_eq!(r.lines, 45 * r.transfers);
+    r.told.unless(Targets { transfers: r.transfers as usize, marked: r.marked as usize })
 }
 
 /// C-17: the address of statement n, the position before its own org or pad; where n is the statement count, the end position. Answered from

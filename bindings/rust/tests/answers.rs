@@ -1,5 +1,5 @@
-//! An audit and the rewrites, on document 01's whole run.
-use mortarbee::{audit, optimize_jumps, steps, Finding, Origin, Settings, IMAGE_ROOM, LISTING_ROOM, STEPS_ROOM};
+//! An audit, the rewrites and the targets, on document 01's whole run.
+use mortarbee::{audit, optimize_jumps, steps, targets, Finding, Origin, Settings, Targets, IMAGE_ROOM, LISTING_ROOM, STEPS_ROOM, TARGETS_ROOM};
 
 const WHOLE: &[u8] = b"012E018001\n012B010001\n028001\n0143\n020001\n012B0000000005\n";
 
@@ -35,4 +35,19 @@ fn tells_the_rewrites() {
     let mut short = [7; 41];
     let r = steps(Settings::default(), WHOLE, &mut short).unwrap_err();
     assert_eq!((r.number, r.place, short), (12, 6, [7; 41]));
+}
+
+#[test]
+fn tells_the_targets() {
+    let mut out = vec![7; TARGETS_ROOM];
+    assert_eq!(targets(Settings::default(), WHOLE, &mut out), Ok(Targets { transfers: 2, marked: 0 }));
+    assert_eq!(&out[..90], b"74000000000100000006000500000000000300050000\n74000005000500000005000300000000000200030000\n");
+    assert!(out[90..].iter().all(|&b| b == 7));
+    let mut short = [7; 89];
+    let r = targets(Settings::default(), WHOLE, &mut short).unwrap_err();
+    assert_eq!((r.number, r.place, short), (12, 6, [7; 89]));
+    // label + 3 names no byte any more
+    let offset = b"012B100100010000000003\n020001\n012B010001\n0143\n";
+    assert_eq!(targets(Settings::default(), offset, &mut out), Ok(Targets { transfers: 2, marked: 1 }));
+    assert_eq!(&out[..45], b"740100000000000000060003000000000005FFFF0000\n");
 }

@@ -1,5 +1,6 @@
 // The entries for C and Rust. Nothing is asked of the caller, and every lent byte is accounted for.
 mod differing; // C-13
+mod aiming; // what the transfers name
 mod answering; // an audit and the rewrites
 mod exported; // the functions
 mod replies; // their answers, as structs of numbers
@@ -7,10 +8,12 @@ mod texts; // C-16
 mod reading; // C-19
 mod salvaging; // C-22, with its answer
 
+pub use aiming::mortarbee_targets;
 pub use answering::mortarbee_audit;
 pub use answering::mortarbee_steps;
 pub use border_answers::AuditReply;
 pub use border_answers::StepsReply;
+pub use border_answers::TargetsReply;
 pub use border_differences::DiffersReply;
 pub use border_differences::StemsReply;
 pub use border_read::ReadReply;

@@ -1,2 +1,4 @@
 -- What the functions for C answer.
 pub mod Replies
+-- the targets
+pub mod Aims

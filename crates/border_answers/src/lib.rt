@@ -1,8 +1,11 @@
 // The answers about the rewriting for C and Rust: an audit and the rewrites, each as a struct of numbers.
+mod aims; // what the transfers name
 mod audits; // an image held against a listing
 mod faults; // a refusal as four numbers
 mod rewrites; // the rewrites one by one
 
+pub use aims::TargetsReply;
+pub use aims::targets_answer;
 pub use audits::AuditReply;
 pub use audits::audit_answer;
 pub use rewrites::StepsReply;

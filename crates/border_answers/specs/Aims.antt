@@ -1,0 +1,32 @@
+-- What `targets` answers for C: a struct of numbers, the first 0 where nothing is refused.
+use mathlib.Core.Path.{_≡_}
+use Prim.Native.Nat.{ℕ}
+use Rattle.rules.specs.Refusals.{Fault, ofNone, faultOf}
+use Rattle.targets.specs.declared.Told.{Told}
+use Rattle.targets.specs.declared.Told.the-variants.{Done, Refused}
+use Rattle.border_answers.specs.declared.aims.TargetsReply.{TargetsReply}
+
+abbrev pub targetsFault : Told → Fault
+targetsFault (Done c) = ofNone 0
+targetsFault (Refused r) = faultOf r
+
+abbrev pub bytesOf : Told → ℕ
+bytesOf (Done c) = c .bytes
+bytesOf (Refused r) = 0
+
+abbrev pub transfersOf : Told → ℕ
+transfersOf (Done c) = c .transfers
+transfersOf (Refused r) = 0
+
+abbrev pub markedOf : Told → ℕ
+markedOf (Done c) = c .marked
+markedOf (Refused r) = 0
+
+pub record SaysTargets (r : TargetsReply) (a : Told) : Type 0 where
+  pub number : r .number ≡ targetsFault a .number
+  pub place : r .place ≡ targetsFault a .place
+  pub argument : r .argument ≡ targetsFault a .argument
+  pub amount : r .amount ≡ targetsFault a .amount
+  pub lines : r .lines ≡ bytesOf a
+  pub transfers : r .transfers ≡ transfersOf a
+  pub marked : r .marked ≡ markedOf a
