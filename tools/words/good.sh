@@ -39,6 +39,14 @@ try 0 '' steps --no-folds good.lst
 wrote '760300012B00012C0001\n760300052B00052C0005\n'
 try 0 '' steps </dev/null
 wrote ''
+try 0 '' targets good.lst
+wrote '74000000000100000006000500000000000300050000\n74000005000500000005000300000000000200030000\n'
+printf '012B100100010000000003\n020001\n012B010001\n0143\n' >offset.lst
+try 0 '1 of 2 targets name another byte than before, or none' targets offset.lst
+wrote '740100000000000000060003000000000005FFFF0000\n74000002000200000003000200000000000200020000\n'
+try 0 '' targets --no-folds good.lst
+try 0 '' targets </dev/null
+wrote ''
 printf '\220\001\000\001\375' >ours.bin
 try 0 'the same: 5 bytes' audit good.lst ours.bin
 wrote '77000000000000FFFF0000\n'
@@ -233,7 +241,7 @@ wrote '05000B\n0143\n7F000000000C\nIMAGE C \n==\n'
 # texts
 try 0 '' help
 try 0 '' --help
-for word in optimize judge check image text read where read-back salvage stems differences steps audit settings batch explain help version; do
+for word in optimize judge check image text read where read-back salvage stems differences steps targets audit settings batch explain help version; do
     try 0 '' help "$word"
     grep -q "^mortarbee $word" out || wrong "its help begins otherwise"
 done

@@ -1,6 +1,10 @@
-// The words about the rewriting: `steps`, one line a rewrite, and `audit`, which holds an image (on descriptor 3) against a listing.
+// The words about the rewriting: `steps`, one line a rewrite, `targets`, one line a transfer, and `audit`, which holds an image (on
+// descriptor 3) against a listing.
+mod aiming; // what the transfers name
 mod auditing; // is this image ours?
 
+pub use aiming::targets_of;
+pub use aiming::tell_targets;
 pub use auditing::audit_image;
 pub use auditing::audit_of;
 use desk::part;

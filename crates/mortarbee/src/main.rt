@@ -49,6 +49,8 @@ fn job(word: &[u8]) {
         comparing::compare();
     } else if same(word, b"steps") {
         steps();
+    } else if same(word, b"targets") {
+        targets();
     } else if same(word, b"audit") {
         audit();
     } else if same(word, b"count") {
@@ -96,6 +98,13 @@ fn batch() {
 fn steps() {
     match options_from(2) {
         Asked::Are(asked) => answering::tell_steps(asked),
+        Asked::Nothing => {}
+    }
+}
+
+fn targets() {
+    match options_from(2) {
+        Asked::Are(asked) => answering::tell_targets(asked),
         Asked::Nothing => {}
     }
 }
