@@ -31,7 +31,7 @@ module _ (t : Slots) (f i : ℕ) where
 
   module _ (j m : ℕ) (h : InvertedFound t f i j m) (to : ℕ) where
     pub inverts : Agree to f → Inverts t to i j
-    inverts a = record { rises = h .jump-rises; branches = h .branches; jumps = h .jumps; together = h .together; agrees = subst (Agree to) (sym (h .form)) a }
+    inverts a = record { rises = h .shaped .jump-rises; branches = h .shaped .branches; jumps = h .shaped .jumps; together = h .shaped .together; agrees = subst (Agree to) (sym (h .shaped .form)) a }
 
     pub inverted-is : invertedAt f to (programOf t) i ≡ candidate (inverted t to i j)
     unfolding inverted
@@ -43,15 +43,15 @@ module _ (t : Slots) (f i : ℕ) where
     pub bounces : Bounces t f i skip target last
     bounces =
         record {
-          skip-rises = h .skip-rises;
-          target-rises = h .target-rises;
-          last-rises = h .last-rises;
-          branches = h .branches;
-          form = h .form;
-          skips = h .skips;
-          lands = h .lands;
-          jumps = h .jumps;
-          together = h .together;
+          skip-rises = h .shaped .skip-rises;
+          target-rises = h .shaped .target-rises;
+          last-rises = h .shaped .last-rises;
+          branches = h .shaped .branches;
+          form = h .shaped .form;
+          skips = h .shaped .skips;
+          lands = h .shaped .lands;
+          jumps = h .shaped .jumps;
+          together = h .shaped .together;
         }
 
     pub bounced-is : trampolineAt f (programOf t) i ≡ candidate (bounced t f i skip target last)

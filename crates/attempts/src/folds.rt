@@ -25,7 +25,7 @@ ghost use Rattle.attempts.specs.Folds.{inverted, bounced, Inverts, Bounc
 ghost use Rattle.slots.specs.State.{startsIn, formsIn, carryIn, tableOf, Kept};
 
 // Forms at two places, and the place whose target the first carries.
-fn put_two(state: &mut State, at: Place, form: u8, from: u16, jump: Place, left: u8)
+pub fn put_two(state: &mut State, at: Place, form: u8, from: u16, jump: Place, left: u8)
     requires { ⌜ (length (formsIn (now state)) ≡ 1025) × (length (carryIn (now state)) ≡ 1025) × (at .0 < 1024) × (jump .0 < 1024) ⌝ }
     ensures { λ _. ⌜ (formsIn (now (state .exit)) ≡ set (set (formsIn (now (state .entry))) (at .0) form) (jump .0) left)
         × (carryIn (now (state .exit)) ≡ set (carryIn (now (state .entry))) (at .0) from) × Kept (now (state .entry)) (now
@@ -37,7 +37,7 @@ fn put_two(state: &mut State, at: Place, form: u8, from: u16, jump: Place, left:
 }
 
 // Forms at three places.
-fn put_three(state: &mut State, skip: Place, a: u8, target: Place, b: u8, last: Place, c: u8)
+pub fn put_three(state: &mut State, skip: Place, a: u8, target: Place, b: u8, last: Place, c: u8)
     requires { ⌜ (length (formsIn (now state)) ≡ 1025) × (skip .0 < 1024) × (target .0 < 1024) × (last .0 < 1024) ⌝ }
     ensures { λ _. ⌜ (formsIn (now (state .exit)) ≡ set (set (set (formsIn (now (state .entry))) (skip .0) a) (target .0) b) (last .0) c)
         × (carryIn (now (state .exit)) ≡ carryIn (now (state .entry))) × Kept (now (state .entry)) (now (state .exit)) ⌝ }

@@ -7,6 +7,8 @@ mod shrinks; // a shorter form
 
 pub use accepting::acceptable;
 pub use deepest::fill_deepest;
+pub use folds::put_three;
+pub use folds::put_two;
 pub use folds::try_inverted;
 pub use folds::try_trampoline;
 pub use shrinks::try_form;

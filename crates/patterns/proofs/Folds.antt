@@ -1,4 +1,4 @@
--- What a fold comes to: none where a statement or a test of its pattern fails, and else the candidate.
+-- What a shape comes to: none where a statement or a test of its pattern fails, and else what the fold leaves.
 use mathlib.Core.Path.{_≡_, refl, sym, subst, ap, _∙_}
 use mathlib.Core.List.{[], _∷_}
 use mathlib.Core.Option.{Option, none, some}
@@ -17,11 +17,12 @@ use Rattle.rules.specs.declared.Place.{Place}
 use Rattle.rules.specs.Forms.{formAt, isTransfer, isUnconditional, br, jmp, jmpf}
 use Rattle.rules.specs.Names.{contextAt}
 use Rattle.rules.specs.Programs.{gone, Instruction, Program, at, asLabel}
-use Rattle.rules.specs.Rewriting.{next, branch, unconditional, localLabel, namesBare, noInnerLabelBetween, noInteriorLabelAt, references, aimed, candidate, dropAll, invertedAt, trampolineAt}
+use Rattle.rules.specs.Rewriting.{next, branch, unconditional, localLabel, namesBare, references, aimed, dropAll}
 use Rattle.listing.specs.Tables.{Held}
 use Rattle.slots.specs.Slots.{Slots, goneForm, programOf}
 use Rattle.patterns.specs.declared.LocalLabel.the-variants.{Name, Nothing}
 use Rattle.patterns.specs.Targets.{standsAt, formIn, instrAt, labelAs}
+use Rattle.patterns.specs.Shapes.{invertedShape, trampolineShape}
 use Rattle.patterns.specs.Matches.{Moves, JumpFound, JumpAfter, LandingFound, LandingAfter, OpeningFound, OpeningIs}
 use Rattle.patterns.specs.declared.shapes.Opening.{Opening}
 use Rattle.patterns.specs.declared.shapes.Opening.the-variants.{At as Opening·At, Nothing as Opening·Nothing}
@@ -117,23 +118,23 @@ module _ (t : Slots) (i : ℕ) where
   pub opening-found : (f : ℕ) {r : Opening} {j m : Place} {n : ℕ} → r ≡ Opening·At j m n → OpeningIs t f i r → OpeningFound t f i (j .0) (m .0) n
   opening-found f e h = subst (OpeningIs t f i) e h
 
-  pub opening-none : (f : ℕ) {r : Opening} → r ≡ Opening·Nothing → OpeningIs t f i r → ((to : ℕ) → invertedAt f to (programOf t) i ≡ none) × (trampolineAt f (programOf t) i ≡ none)
+  pub opening-none : (f : ℕ) {r : Opening} → r ≡ Opening·Nothing → OpeningIs t f i r → ((to : ℕ) → invertedShape f to (programOf t) i ≡ none) × (trampolineShape f (programOf t) i ≡ none)
   opening-none f e h = subst (OpeningIs t f i) e h
 
 -- ---- inverted, for any form that takes the branch's place
 
 module _ (from to : ℕ) (p : Program) (i : ℕ) where
-  pub inverted-no-branch : branch from (at p i) ≡ none → invertedAt from to p i ≡ none
-  unfolding invertedAt
+  pub inverted-no-branch : branch from (at p i) ≡ none → invertedShape from to p i ≡ none
+  unfolding invertedShape
   inverted-no-branch e = bind-no (branch from (at p i)) _ e
 
-  pub inverted-no-jump : unconditional (at p (next p (suc i))) ≡ none → invertedAt from to p i ≡ none
-  unfolding invertedAt
+  pub inverted-no-jump : unconditional (at p (next p (suc i))) ≡ none → invertedShape from to p i ≡ none
+  unfolding invertedShape
   inverted-no-jump e = bind-nothing (branch from (at p i)) _ (λ b. bind-no (unconditional (at p (next p (suc i)))) _ e)
 
   module _ (j : ℕ) (jumps : next p (suc i) ≡ j) where
-    pub inverted-no-label : localLabel (at p (next p (suc j))) ≡ none → invertedAt from to p i ≡ none
-    unfolding invertedAt
+    pub inverted-no-label : localLabel (at p (next p (suc j))) ≡ none → invertedShape from to p i ≡ none
+    unfolding invertedShape
     inverted-no-label e =
         rw jumps
         (bind-nothing (branch from (at p i)) _ (λ b.
@@ -141,32 +142,32 @@ module _ (from to : ℕ) (p : Program) (i : ℕ) where
 
     module _ (m : ℕ) (lands : next p (suc j) ≡ m) (b x : Instruction) (n : ℕ)
         (at-i : branch from (at p i) ≡ some b) (at-j : unconditional (at p j) ≡ some x) (at-m : localLabel (at p m) ≡ some n) where
-      pub inverted-is : invertedAt from to p i ≡ given (namesBare n b && (noInnerLabelBetween p i m && noInteriorLabelAt p i)) (candidate (dropAll (j ∷ []) (set p i (aimed to b x))))
-      unfolding invertedAt bind
+      pub inverted-is : invertedShape from to p i ≡ given (namesBare n b) (some (record { last = m; folded = dropAll (j ∷ []) (set p i (aimed to b x)) }))
+      unfolding invertedShape bind
       inverted-is = rw (jumps, lands, at-i, at-j, at-m)
 
 -- ---- trampolines
 
 module _ (f : ℕ) (p : Program) (i : ℕ) where
-  pub trampoline-no-branch : branch f (at p i) ≡ none → trampolineAt f p i ≡ none
-  unfolding trampolineAt
+  pub trampoline-no-branch : branch f (at p i) ≡ none → trampolineShape f p i ≡ none
+  unfolding trampolineShape
   trampoline-no-branch e = bind-no (branch f (at p i)) _ e
 
-  pub trampoline-no-skip : unconditional (at p (next p (suc i))) ≡ none → trampolineAt f p i ≡ none
-  unfolding trampolineAt
+  pub trampoline-no-skip : unconditional (at p (next p (suc i))) ≡ none → trampolineShape f p i ≡ none
+  unfolding trampolineShape
   trampoline-no-skip e = bind-nothing (branch f (at p i)) _ (λ b. bind-no (unconditional (at p (next p (suc i)))) _ e)
 
   module _ (skip : ℕ) (skips : next p (suc i) ≡ skip) where
-    pub trampoline-no-target : localLabel (at p (next p (suc skip))) ≡ none → trampolineAt f p i ≡ none
-    unfolding trampolineAt
+    pub trampoline-no-target : localLabel (at p (next p (suc skip))) ≡ none → trampolineShape f p i ≡ none
+    unfolding trampolineShape
     trampoline-no-target e =
         rw skips
         (bind-nothing (branch f (at p i)) _ (λ b.
         bind-nothing (unconditional (at p skip)) _ (λ x. bind-no (localLabel (at p (next p (suc skip)))) _ e)))
 
     module _ (target : ℕ) (bounces : next p (suc skip) ≡ target) where
-      pub trampoline-no-last : unconditional (at p (next p (suc target))) ≡ none → trampolineAt f p i ≡ none
-      unfolding trampolineAt
+      pub trampoline-no-last : unconditional (at p (next p (suc target))) ≡ none → trampolineShape f p i ≡ none
+      unfolding trampolineShape
       trampoline-no-last e =
           rw (skips, bounces)
           (bind-nothing (branch f (at p i)) _ (λ b.
@@ -174,8 +175,8 @@ module _ (f : ℕ) (p : Program) (i : ℕ) where
           bind-nothing (localLabel (at p target)) _ (λ t. bind-no (unconditional (at p (next p (suc target)))) _ e))))
 
       module _ (last : ℕ) (jumps : next p (suc target) ≡ last) where
-        pub trampoline-no-label : localLabel (at p (next p (suc last))) ≡ none → trampolineAt f p i ≡ none
-        unfolding trampolineAt
+        pub trampoline-no-label : localLabel (at p (next p (suc last))) ≡ none → trampolineShape f p i ≡ none
+        unfolding trampolineShape
         trampoline-no-label e =
             rw (skips, bounces, jumps)
             (bind-nothing (branch f (at p i)) _ (λ b.
@@ -186,9 +187,8 @@ module _ (f : ℕ) (p : Program) (i : ℕ) where
         module _ (label : ℕ) (lands : next p (suc last) ≡ label) (b x y : Instruction) (t s : ℕ)
             (at-i : branch f (at p i) ≡ some b) (at-skip : unconditional (at p skip) ≡ some x) (at-target : localLabel (at p target) ≡ some t)
             (at-last : unconditional (at p last) ≡ some y) (at-label : localLabel (at p label) ≡ some s) where
-          pub trampoline-is : trampolineAt f p i
+          pub trampoline-is : trampolineShape f p i
               ≡ given (namesBare t b && (namesBare s x && eqb (references (contextAt p target) t p) 1))
-              (given (noInnerLabelBetween p i label && noInteriorLabelAt p i)
-              (candidate (dropAll (skip ∷ target ∷ last ∷ []) (set p i (aimed f b y)))))
-          unfolding trampolineAt bind
+              (some (record { last = label; folded = dropAll (skip ∷ target ∷ last ∷ []) (set p i (aimed f b y)) }))
+          unfolding trampolineShape bind
           trampoline-is = rw (skips, bounces, jumps, lands, at-i, at-skip, at-target, at-last, at-label)

@@ -3,6 +3,7 @@ pub mod Programs
 pub mod Instructions
 pub mod InnerLabels
 pub mod Mentions
+pub mod Begins
 pub mod Folds
 pub mod Order
 pub mod Naming

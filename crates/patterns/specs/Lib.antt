@@ -2,5 +2,6 @@
 pub mod Targets
 pub mod Labels
 pub mod Mentions
+pub mod Shapes
 pub mod Matches
 pub mod Order

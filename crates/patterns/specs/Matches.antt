@@ -22,6 +22,7 @@ use Rattle.patterns.specs.declared.shapes.Landing.the-variants.{At as La
 use Rattle.patterns.specs.declared.shapes.Opening.{Opening}
 use Rattle.patterns.specs.declared.shapes.Opening.the-variants.{At as Opening·At, Nothing as Opening·Nothing}
 use Rattle.patterns.specs.Targets.{standsAt, instrAt}
+use Rattle.patterns.specs.Shapes.{invertedShape, trampolineShape}
 
 -- ---- the next statement of a pattern
 
@@ -64,12 +65,12 @@ pub record OpeningFound (t : Slots) (f : ℕ) (i j m : Placeℕ) (n : ℕ) : Typ
 
 abbrev pub OpeningIs : Slots → (f : ℕ) (i : Placeℕ) → Opening → Type 0
 OpeningIs t f i (Opening·At j m n) = OpeningFound t f i (j .0) (m .0) n
-OpeningIs t f i Opening·Nothing = ((to : ℕ) → invertedAt f to (programOf t) i ≡ none) × (trampolineAt f (programOf t) i ≡ none)
+OpeningIs t f i Opening·Nothing = ((to : ℕ) → invertedShape f to (programOf t) i ≡ none) × (trampolineShape f (programOf t) i ≡ none)
 
--- ---- the two shapes
+-- ---- the two shapes, whatever inner labels there are
 
 -- the branch is at i, the unconditional at j, the label at m; what the unconditional names means at the branch the same
-pub record InvertedFound (t : Slots) (from : ℕ) (i j m : Placeℕ) : Type 0 where
+pub record InvertedShaped (t : Slots) (from : ℕ) (i j m : Placeℕ) : Type 0 where
   pub jump-rises : i < j
   pub label-rises : j < m
   pub inside : m < t .count
@@ -77,14 +78,15 @@ pub record InvertedFound (t : Slots) (from : ℕ) (i j m : Placeℕ) : Type 0 wh
   pub form : getD (t .forms) i 0 ≡ from
   pub jumps : Moves t j
   pub together : contextAt (programOf t) j ≡ contextAt (programOf t) i
-  pub fold : (to : ℕ) → invertedAt from to (programOf t) i ≡ candidate (dropAll (j ∷ []) (set (programOf t) i (aimed to (instrAt t i) (instrAt t j))))
+  pub shape : (to : ℕ) → invertedShape from to (programOf t) i
+      ≡ some (record { last = m; folded = dropAll (j ∷ []) (set (programOf t) i (aimed to (instrAt t i) (instrAt t j))) })
 
-abbrev pub InvertedIs : Slots → (from : ℕ) (i : Placeℕ) → Inverted → Type 0
-InvertedIs t from i (Inverted·At j m) = InvertedFound t from i (j .0) (m .0)
-InvertedIs t from i Inverted·Nothing = (to : ℕ) → invertedAt from to (programOf t) i ≡ none
+abbrev pub InvertedBegins : Slots → (from : ℕ) (i : Placeℕ) → Inverted → Type 0
+InvertedBegins t from i (Inverted·At j m) = InvertedShaped t from i (j .0) (m .0)
+InvertedBegins t from i Inverted·Nothing = (to : ℕ) → invertedShape from to (programOf t) i ≡ none
 
 -- the branch is at i, the unconditional to S at skip, T at target, the last unconditional at last, S at label
-pub record TrampolineFound (t : Slots) (f : ℕ) (i skip target last label : Placeℕ) : Type 0 where
+pub record TrampolineShaped (t : Slots) (f : ℕ) (i skip target last label : Placeℕ) : Type 0 where
   pub skip-rises : i < skip
   pub target-rises : skip < target
   pub last-rises : target < last
@@ -96,6 +98,25 @@ pub record TrampolineFound (t : Slots) (f : ℕ) (i skip target last label : Pla
   pub lands : isSome (localLabel (standsAt t target)) ≡ true
   pub jumps : Moves t last
   pub together : contextAt (programOf t) last ≡ contextAt (programOf t) i
+  pub shape : trampolineShape f (programOf t) i
+      ≡ some (record { last = label; folded = dropAll (skip ∷ target ∷ last ∷ []) (set (programOf t) i (aimed f (instrAt t i) (instrAt t last))) })
+
+abbrev pub TrampolineBegins : Slots → (f : ℕ) (i : Placeℕ) → Trampoline → Type 0
+TrampolineBegins t f i (Trampoline·At a b c d) = TrampolineShaped t f i (a .0) (b .0) (c .0) (d .0)
+TrampolineBegins t f i Trampoline·Nothing = trampolineShape f (programOf t) i ≡ none
+
+-- ---- the folds: no inner label stands in the way
+
+pub record InvertedFound (t : Slots) (from : ℕ) (i j m : Placeℕ) : Type 0 where
+  pub shaped : InvertedShaped t from i j m
+  pub fold : (to : ℕ) → invertedAt from to (programOf t) i ≡ candidate (dropAll (j ∷ []) (set (programOf t) i (aimed to (instrAt t i) (instrAt t j))))
+
+abbrev pub InvertedIs : Slots → (from : ℕ) (i : Placeℕ) → Inverted → Type 0
+InvertedIs t from i (Inverted·At j m) = InvertedFound t from i (j .0) (m .0)
+InvertedIs t from i Inverted·Nothing = (to : ℕ) → invertedAt from to (programOf t) i ≡ none
+
+pub record TrampolineFound (t : Slots) (f : ℕ) (i skip target last label : Placeℕ) : Type 0 where
+  pub shaped : TrampolineShaped t f i skip target last label
   pub fold : trampolineAt f (programOf t) i ≡ candidate (dropAll (skip ∷ target ∷ last ∷ []) (set (programOf t) i (aimed f (instrAt t i) (instrAt t last))))
 
 abbrev pub TrampolineIs : Slots → (f : ℕ) (i : Placeℕ) → Trampoline → Type 0

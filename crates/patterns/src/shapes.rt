@@ -21,7 +21,7 @@ ghost use Rattle.rules.specs.Rewriting.{noInnerLabelBetween, noInteriorLabelAt}
 ghost use Rattle.listing.specs.Tables.{Held};
 ghost use Rattle.slots.specs.Slots.{Slots, slots, programOf, Sound};
 ghost use Rattle.patterns.specs.Mentions.{Told};
-ghost use Rattle.patterns.specs.Matches.{JumpAfter, LandingAfter, OpeningIs, InvertedIs, TrampolineIs};
+ghost use Rattle.patterns.specs.Matches.{JumpAfter, LandingAfter, OpeningIs, InvertedBegins, TrampolineBegins, InvertedIs, TrampolineIs};
 ghost use Rattle.slots.specs.State.{startsIn, formsIn, tableOf};
 
 // The place of an unconditional.
@@ -102,6 +102,30 @@ fn is_free(frames: &[u8], state: &State, count: usize, at: Place, m: Place) -> b
 }
 
 // "Inverted: branch, unconditional, local label that the branch names bare." `from` is the form of the branch; m is the place of the label.
+// Inner labels are not looked at.
+pub fn inverted_shape(
+    frames: &[u8],
+    state: &State,
+    count: usize,
+    links: &[u16; 28672],
+    from: u8,
+    at: Place,
+) -> Inverted
+    requires { let t : Slots = tableOf (now frames) (now state) count in
+        ⌜ Sound t × Told t (now links) × (at .0 < count) × (isTransfer from ≡ true) ⌝ }
+    ensures { λ r. let t : Slots = tableOf (now (frames .entry)) (now (state .entry)) count in
+        ⌜ InvertedBegins t from (at .0) r ⌝ }
+{
+    let Opening::At(jump, m, _) = opening_at(frames, state, count, from, at) else {
+        return Inverted::Nothing;
+    };
+    if names_bare(frames, state, count, links, at, m.0) {
+        return Inverted::At(jump, m);
+    }
+    Inverted::Nothing
+}
+
+// The same, where no inner label stands in the way of the fold.
 pub fn inverted_at(
     frames: &[u8],
     state: &State,
@@ -115,12 +139,9 @@ pub fn inverted_at(
     ensures { λ r. let t : Slots = tableOf (now (frames .entry)) (now (state .entry)) count in
         ⌜ InvertedIs t from (at .0) r ⌝ }
 {
-    let Opening::At(jump, m, _) = opening_at(frames, state, count, from, at) else {
+    let Inverted::At(jump, m) = inverted_shape(frames, state, count, links, from, at) else {
         return Inverted::Nothing;
     };
-    if !names_bare(frames, state, count, links, at, m.0) {
-        return Inverted::Nothing;
-    }
     if is_free(frames, state, count, at, m) {
         return Inverted::At(jump, m);
     }
@@ -128,8 +149,8 @@ pub fn inverted_at(
 }
 
 // "Trampoline: branch to bare local T, unconditional to bare local S, T, unconditional, S". `form` is that of the branch; t and s are
-// the places of T and S. "T has exactly one reference in the whole listing".
-pub fn trampoline_at(
+// the places of T and S. "T has exactly one reference in the whole listing". Inner labels are not looked at.
+pub fn trampoline_shape(
     frames: &[u8],
     state: &State,
     count: usize,
@@ -140,7 +161,7 @@ pub fn trampoline_at(
     requires { let t : Slots = tableOf (now frames) (now state) count in
         ⌜ Sound t × Told t (now links) × (at .0 < count) × (isTransfer form ≡ true) ⌝ }
     ensures { λ r. let t : Slots = tableOf (now (frames .entry)) (now (state .entry)) count in
-        ⌜ TrampolineIs t form (at .0) r ⌝ }
+        ⌜ TrampolineBegins t form (at .0) r ⌝ }
 {
     let Opening::At(skip, t, _) = opening_at(frames, state, count, form, at) else {
         return Trampoline::Nothing;
@@ -157,9 +178,30 @@ pub fn trampoline_at(
     if !names_bare(frames, state, count, links, skip, s.0) {
         return Trampoline::Nothing;
     }
-    if references(frames, state, count, links, t.0) != 1 {
-        return Trampoline::Nothing;
+    if references(frames, state, count, links, t.0) == 1 {
+        return Trampoline::At(skip, t, last, s);
     }
+    Trampoline::Nothing
+}
+
+// The same, where no inner label stands in the way of the fold.
+pub fn trampoline_at(
+    frames: &[u8],
+    state: &State,
+    count: usize,
+    links: &[u16; 28672],
+    form: u8,
+    at: Place,
+) -> Trampoline
+    requires { let t : Slots = tableOf (now frames) (now state) count in
+        ⌜ Sound t × Told t (now links) × (at .0 < count) × (isTransfer form ≡ true) ⌝ }
+    ensures { λ r. let t : Slots = tableOf (now (frames .entry)) (now (state .entry)) count in
+        ⌜ TrampolineIs t form (at .0) r ⌝ }
+{
+    let Trampoline::At(skip, t, last, s) = trampoline_shape(frames, state, count, links, form, at)
+    else {
+        return Trampoline::Nothing;
+    };
     if is_free(frames, state, count, at, s) {
         return Trampoline::At(skip, t, last, s);
     }

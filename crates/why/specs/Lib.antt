@@ -1,0 +1,2 @@
+-- Words of the code's contracts.
+pub mod Tried
