@@ -27,7 +27,7 @@ pub length-why : (w : Why) → length (whyLine w) ≡ 27
 unfolding whyLine
 length-why w = length-line (0x75 ∷ attemptByte (w .attempt) ∷ (pair (w .place) ++ (reasonByte (w .reason) ∷ faultBytes (faultIn (w .reason)))))
 
-length-lines : (ws : List Why) → length (whyLines ws) ≡ 27 * length ws
+pub length-lines : (ws : List Why) → length (whyLines ws) ≡ 27 * length ws
 unfolding whyLines each
 length-lines [] = refl
 length-lines (w ∷ ws) = omega (arith, length-append (whyLine w) (each whyLine ws), length-why w, length-lines ws)
