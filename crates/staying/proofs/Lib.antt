@@ -1,4 +1,5 @@
--- That the reasons are complete, and runs of them.
+-- Why forms stay: what is promised, and runs.
 pub mod Stays
 pub mod Complete
+pub mod Few
 pub mod Runs

@@ -3,10 +3,11 @@ use mathlib.Core.Path.{_≡_, refl, sym, ap, _∙_}
 use mathlib.Core.List.{List}
 use mathlib.Core.Bool.{Bool, true, false}
 use mathlib.Core.Option.{none}
-use Prim.Native.Nat.{ℕ}
+use Prim.Native.Nat.{ℕ, _≤_}
 use native.Mathlib.Omega.{arith}
 use lib.Dec.{leb}
 use lib.ListN.{length}
+use borrow.Author.Tests.{le-leb}
 use Rattle.laws.specs.Lists.{every, total}
 use Rattle.laws.proofs.Tests.{clash}
 use Rattle.rules.specs.declared.Settings.{Settings}
@@ -17,17 +18,26 @@ use Rattle.rules.specs.Programs.{Program}
 use Rattle.rules.specs.Rewriting.{anchor, step, optimized, instrBytes}
 use Rattle.rules.specs.Run.{Output, outputOf, rewritten, run}
 use Rattle.promises.proofs.Accepted.{accepted-iff}
-use Rattle.promises.proofs.Anchors.{instrBytes-anchor}
-use Rattle.promises.proofs.Chains.{chain-ends}
+use Rattle.promises.proofs.Anchors.{instrBytes-anchor, length-anchor}
+use Rattle.promises.proofs.Chains.{chain-ends, chain-keeps}
+use Rattle.promises.proofs.Listings.{read-limits}
+use Rattle.promises.proofs.Weights.{step-length}
 use Rattle.starting.specs.Begun.{accepted}
-use Rattle.starting.proofs.Accepts.{accepted-of, accepted-run}
+use Rattle.starting.proofs.Accepts.{accepted-of, accepted-input, accepted-run, accepted-never-12}
 use Rattle.staying.specs.Reasons.{Why, whys}
 use Rattle.staying.specs.Lines.{whyLines}
 use Rattle.staying.specs.Promise.{isReason, allStay}
 use Rattle.staying.proofs.Complete.{complete}
+use Rattle.staying.proofs.Few.{few}
 use Rattle.why.specs.Entry.{Told, endTold, chainTold, toldIn, told}
 use Rattle.why.specs.Promise.{AllTold, AsRun}
+use Rattle.why.proofs.Walks.{length-lines}
 use Rattle.why.proofs.Told.{told-no, told-ok}
+
+-- the end form has a slot for each statement
+end-length : (asked : Settings) (p : Program) → length (optimized asked p .program) ≡ length p
+unfolding optimized
+end-length asked p = chain-keeps asked (λ q. length q ≡ length p) (λ r t st h. step-length r t st ∙ h) (total instrBytes p) (anchor p) (length-anchor p)
 
 -- what fits in the room is what was to be told
 fitted : (n : ℕ) (x : Told) (room : ℕ) (y : Told) → toldIn n x room ≡ ok y → y ≡ x
@@ -68,6 +78,28 @@ module _ (asked : Settings) (text : List ℕ) (room : ℕ) where
         complete = complete asked end;
       }
 
+  -- two lines for each of 1,024 statements
+  short : (p : Program) → accepted text ≡ ok p → length (whyLines (whys asked (optimized asked p .program))) ≤ 55296
+  short p d =
+      let i = accepted-input text p d in
+      let end = optimized asked p .program in
+      omega (arith, length-lines (whys asked end), few asked end, end-length asked p, read-limits (i .text) p (i .reads) .0)
+
+  enough : (n : ℕ) → 55296 ≤ room → told asked text room ≡ no (Room n) → ⊥
+  unfolding toldIn endTold require
+  enough n l e = on (accepted text) refl
+    where
+      on : (y : Judged Program) → accepted text ≡ y → ⊥
+      on (ok p) d =
+          let x = chainTold asked (optimized asked p) in
+          let fits : leb (length (whyLines (whys asked (optimized asked p .program)))) room ≡ true = le-leb _ room (omega (arith, l, short p d)) in
+          let z : no (Room n) ≡ ok x = sym e ∙ told-ok asked text room p d ∙ ap (λ (b : Bool). require b (Room (length p)) (ok x)) fits in
+          clash (cc)
+      on (no r) d =
+          let z : no r ≡ no (Room n) = sym (told-no asked text room r d) ∙ e in
+          let y : r ≡ Room n = cc in
+          accepted-never-12 text asked n (d ∙ ap no y)
+
   -- as-run: refusals are the run's, and so is the count of rewrites
   pub as-run : AsRun asked text room
   unfolding endTold outputOf rewritten
@@ -75,6 +107,7 @@ module _ (asked : Settings) (text : List ℕ) (room : ℕ) where
       record {
         refused = told-no asked text room;
         as-run = λ r e a b. accepted-run text asked r a b e;
+        enough = enough;
         counted = λ x o a b e h.
             let t = told-of x e in
             let i = accepted-iff asked text a b o .0 h in

@@ -7,6 +7,7 @@ use Prim.Native.Nat.{ℕ, _≤_}
 use Rattle.laws.specs.Lists.{every}
 use Rattle.rules.specs.declared.Settings.{Settings}
 use Rattle.rules.specs.declared.Refusal.{Refusal}
+use Rattle.rules.specs.declared.Refusal.the-variants.{Room}
 use Rattle.rules.specs.Answers.{ok, no}
 use Rattle.rules.specs.Programs.{Program}
 use Rattle.rules.specs.Rewriting.{step, optimized}
@@ -25,9 +26,10 @@ pub record AllTold (asked : Settings) (text : List ℕ) (x : Told) : Type 0 wher
   pub reasoned : every (λ w. isReason (w .reason)) (x .whys) ≡ true
   pub complete : Complete asked (optimized asked program .program)
 
--- a refusal but 12 is the run's, whatever rooms that is lent
+-- a refusal but 12 is the run's, whatever rooms that is lent; and 12 is never given of a room that holds two lines for each of 1,024 statements
 pub record AsRun (asked : Settings) (text : List ℕ) (room : ℕ) : Type 0 where
   pub refused : (r : Refusal) → accepted text ≡ no r → told asked text room ≡ no r
   pub as-run : (r : Refusal) → accepted text ≡ no r → (listingRoom imageRoom : ℕ) → run asked text listingRoom imageRoom ≡ no r
+  pub enough : (n : ℕ) → 55296 ≤ room → told asked text room ≡ no (Room n) → ⊥
   -- the rewrites are those that the run counts
   pub counted : (x : Told) (o : Output) (listingRoom imageRoom : ℕ) → told asked text room ≡ ok x → run asked text listingRoom imageRoom ≡ ok o → x .rewrites ≡ o .count
