@@ -1,4 +1,5 @@
-// Why a rewrite that is tried is not done. specs/ says what is tried at each place and what stands in its way, proofs/ that nothing is left out.
+// Why a rewrite that is tried is not done. specs/ says what is tried at each place and what stands in its way, proofs/ that nothing is
+// left out.
 use rules::Refusal;
 
 // `Counts` is the reason of a rewrite that would be done: where no rewrite remains, no attempt has it.

@@ -54,7 +54,8 @@ pub fn form_reason(
         ⌜ Standing t × (at .0 < count) × (kindOf (slotAt t (at .0)) ≡ 1) × Agree form (getD (formsIn (now state)) (at .0) 0)
         × Beside (now frames) (startsIn (now state)) count (now links) ⌝ }
     ensures { λ r. let t : Slots = tableOf (now (frames .entry)) (now (state .entry)) count in
-        ⌜ r ≡ reasonOf (set (programOf t) (at .0) (instr form (argsOf (slotAt t (at .0))) (getD (carryIn (now (state .entry))) (at .0) 0))) ⌝ }
+        let carried = getD (carryIn (now (state .entry))) (at .0) 0 in
+        ⌜ r ≡ reasonOf (set (programOf t) (at .0) (instr form (argsOf (slotAt t (at .0))) carried)) ⌝ }
 {
     let mut tried = *state;
     put_form(&mut tried, at, form);
