@@ -184,6 +184,15 @@ struct mortarbee_aimed mortarbee_targets(uint8_t comments, uint8_t callf, uint8_
 /* A room that is never too short: 1,024 lines. */
 #define MORTARBEE_TARGETS_ROOM 46080
 
+/* ---- Why forms stay: for each form or pattern that is tried on the end form, by place, a line of 27 characters: 75, what is tried (a form; 0x80 and up a
+   pattern by its place in rule 3's order), the place in two bytes, the reason (1 a change jump, 2 an inner label inside, 3 one between the pattern's
+   statements, 4 an offset beyond a pad, 5 the candidate is refused), and for 5 the refusal's number, place (two bytes), argument and amount (four bytes).
+   `lines` are 27 bytes a reason; `rewrites` are as many as the run makes. Refusals: the listing's, then 12 with the count. */
+struct mortarbee_told mortarbee_why(uint8_t comments, uint8_t callf, uint8_t folds, const uint8_t *listing, size_t listing_len, uint8_t *out, size_t out_len);
+
+/* A room that is never too short: two lines for each of 1,024 statements. */
+#define MORTARBEE_WHY_ROOM 55296
+
 /* ---- C-24: settings kept by edition. A store is the first 160 bytes of the room: 32 places of five, the family and the edition in two bytes each, high
    byte first, and the switches (1 comments, 2 Callf, 4 folds). Zeros are an empty store. What lies behind the 160 bytes never changes. */
 

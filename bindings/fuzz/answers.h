@@ -1,11 +1,12 @@
-/* For fuzz.c: the image of a run is held against its own listing, whole and damaged, the rewrites are counted, and the lines of the targets are looked at. */
+/* For fuzz.c: the image of a run is held against its own listing, whole and damaged, the rewrites are counted, the lines of the targets are looked
+   at, and why something stays is asked. */
 #ifndef ANSWERS_H
 #define ANSWERS_H
 
 #include "../mortarbee.h"
 #include "rooms.h"
 
-static uint64_t audits, told_rewrites, told_targets;
+static uint64_t audits, told_rewrites, told_targets, told_reasons;
 static uint8_t run_image[MORTARBEE_IMAGE_ROOM], shipped_bytes[MORTARBEE_IMAGE_ROOM + 1];
 
 /* The settings by number: 1 keeps comments, 2 lets Callf shrink, 4 lets folds run. */
@@ -64,6 +65,34 @@ static void try_targets(unsigned set, const uint8_t *from, size_t n) {
     told_targets += r.transfers;
 }
 
+static struct mortarbee_told ask_why(unsigned set, const uint8_t *from, size_t n, size_t room) {
+    lend(&listing_room, n, 0);
+    memcpy(listing_room.start, from, n);
+    lend(&out_room, room, next());
+    begin_call();
+    struct mortarbee_told r = mortarbee_why(set & 1, set & 2, set & 4, listing_room.start, n, out_room.start, room);
+    end_call();
+    check(memcmp(listing_room.start, from, n) == 0, "the listing was changed");
+    check(kept_from(&out_room, r.number ? 0 : r.lines), "a byte changed on refusal or behind the lines");
+    return r;
+}
+
+/* Each line has a reason; a room that holds the lines exactly is enough, and one byte less is not. */
+static void try_why(unsigned set, const uint8_t *from, size_t n, uint64_t rewrites) {
+    struct mortarbee_told r = ask_why(set, from, n, MORTARBEE_WHY_ROOM);
+    check(r.number == 0 && r.lines % 27 == 0 && r.rewrites == rewrites, "no reasons, or other rewrites than the run's");
+    for (uint64_t at = 0; at < r.lines; at += 27) {
+        const uint8_t *line = out_room.start + at;
+        check(line[0] == '7' && line[1] == '5' && line[26] == 10, "a reason is no line");
+        check(line[8] == '0' && line[9] > '0' && line[9] < '6', "a line without a reason: a rewrite remains");
+    }
+    told_reasons += r.lines / 27;
+    if (r.lines > 0) {
+        check(ask_why(set, from, n, r.lines).number == 0, "a room that is just enough for the reasons, and 12");
+        check(ask_why(set, from, n, r.lines - 1).number == 12, "a room that is too short for the reasons, and no 12");
+    }
+}
+
 static void try_audit(unsigned set, const uint8_t *from, size_t n, size_t image_n) {
     memcpy(shipped_bytes, run_image, image_n);
     struct mortarbee_audited r = ask_audit(set, from, n, image_n);
@@ -97,6 +126,8 @@ static void try_answers(unsigned set, const uint8_t *from, size_t n) {
         struct mortarbee_aimed a = ask_targets(set, from, n, 0);
         check(a.number == run.number && a.place == run.place && a.argument == run.argument && a.amount == run.amount, "the targets refused otherwise than the run");
         check(t.number == run.number && t.place == run.place && t.argument == run.argument && t.amount == run.amount, "the rewrites refused otherwise than the run");
+        struct mortarbee_told w = ask_why(set, from, n, 0);
+        check(w.number == run.number && w.place == run.place && w.argument == run.argument && w.amount == run.amount, "why refused otherwise than the run");
         return;
     }
     try_audit(set, from, n, run.image);
@@ -107,6 +138,7 @@ static void try_answers(unsigned set, const uint8_t *from, size_t n) {
         check(ask_steps(set, from, n, 21 * run.rewrites - 1).number == 12, "a room that is too short for the rewrites, and no 12");
     }
     told_rewrites += run.rewrites;
+    try_why(set, from, n, run.rewrites);
 }
 
 #endif

@@ -166,6 +166,15 @@ extern "C" {
         out: *mut u8,
         out_len: usize,
     ) -> TargetsReply;
+    fn mortarbee_why(
+        comments: u8,
+        callf: u8,
+        folds: u8,
+        listing: *const u8,
+        listing_len: usize,
+        out: *mut u8,
+        out_len: usize,
+    ) -> StepsReply;
     fn mortarbee_add_edition(room: *mut u8, room_len: usize, family: u16, comments: u8, callf: u8, folds: u8) -> NumberedReply;
     fn mortarbee_get_edition(room: *const u8, room_len: usize, family: u16, edition: u16) -> FoundReply;
     fn mortarbee_get_newest(room: *const u8, room_len: usize, family: u16) -> FoundReply;
@@ -472,6 +481,26 @@ pub fn targets(asked: Settings, listing: &[u8], out: &mut [u8]) -> Result<Target
     };
     debug_assert_eq!(r.lines, 45 * r.transfers);
     r.told.unless(Targets { transfers: r.transfers as usize, marked: r.marked as usize })
+}
+
+/// A room that is never too short for `why`.
+pub const WHY_ROOM: usize = 55_296;
+
+/// Writes why forms stay, a line of 27 characters for each form or pattern that is tried on the end form, and gives their number.
+pub fn why(asked: Settings, listing: &[u8], out: &mut [u8]) -> Result<usize, Refusal> {
+    let r = unsafe {
+        mortarbee_why(
+            asked.comments as u8,
+            asked.callf as u8,
+            asked.folds as u8,
+            listing.as_ptr(),
+            listing.len(),
+            out.as_mut_ptr(),
+            out.len(),
+        )
+    };
+    debug_assert_eq!(r.lines % 27, 0);
+    r.told.unless(r.lines as usize / 27)
 }
 
 /// C-17: the address of statement n, the position before its own org or pad; where n is the statement count, the end position. Answered from

@@ -1,5 +1,7 @@
-//! An audit, the rewrites and the targets, on document 01's whole run.
-use mortarbee::{audit, optimize_jumps, steps, targets, Finding, Origin, Settings, Targets, IMAGE_ROOM, LISTING_ROOM, STEPS_ROOM, TARGETS_ROOM};
+//! An audit, the rewrites, the targets and why something stays, on document 01's whole run and beside it.
+use mortarbee::{
+    audit, optimize_jumps, steps, targets, why, Finding, Origin, Settings, Targets, IMAGE_ROOM, LISTING_ROOM, STEPS_ROOM, TARGETS_ROOM, WHY_ROOM,
+};
 
 const WHOLE: &[u8] = b"012E018001\n012B010001\n028001\n0143\n020001\n012B0000000005\n";
 
@@ -50,4 +52,19 @@ fn tells_the_targets() {
     let offset = b"012B100100010000000003\n020001\n012B010001\n0143\n";
     assert_eq!(targets(Settings::default(), offset, &mut out), Ok(Targets { transfers: 2, marked: 1 }));
     assert_eq!(&out[..45], b"740100000000000000060003000000000005FFFF0000\n");
+}
+
+#[test]
+fn tells_why_forms_stay() {
+    let mut out = vec![7; WHY_ROOM];
+    assert_eq!(why(Settings::default(), WHOLE, &mut out), Ok(0));
+    assert!(out.iter().all(|&b| b == 7));
+    let far = b"050F80\n012B010001\n051002\n020001\n";
+    assert_eq!(why(Settings::default(), far, &mut out), Ok(2));
+    assert_eq!(&out[..54], b"752C0001050A00010000000080\n752A0001050B00010000001002\n");
+    assert!(out[54..].iter().all(|&b| b == 7));
+    let mut short = [7; 53];
+    let r = why(Settings::default(), far, &mut short).unwrap_err();
+    assert_eq!((r.number, r.place, short), (12, 4, [7; 53]));
+    assert_eq!(why(Settings::default(), b"0143\n01\n", &mut out).unwrap_err().number, 1);
 }

@@ -35,7 +35,7 @@ fn refused(r: Refusal) -> StepsReply
     }
 }
 
-fn steps_reply(answer: Answer) -> StepsReply
+pub fn steps_reply(answer: Answer) -> StepsReply
     ensures { λ r. ⌜ SaysSteps r answer ⌝ }
 {
     match answer {
