@@ -47,6 +47,43 @@ wrote '740100000000000000060003000000000005FFFF0000\n740000020002000000030002000
 try 0 '' targets --no-folds good.lst
 try 0 '' targets </dev/null
 wrote ''
+try 0 '' why good.lst
+wrote ''
+try 0 '' why --words - </dev/null
+wrote ''
+# Br at 0F80 misses 1002 by one byte, and Jmp crosses the edge
+printf '050F80\n012B010001\n051002\n020001\n' >far.lst
+try 0 '' why far.lst
+wrote '752C0001050A00010000000080\n752A0001050B00010000001002\n'
+try 0 '' why --words far.lst
+wrote 'far.lst:2: Jmpf stays: Br misses its target by 1 byte; Jmp crosses the 4,096-byte edge\n'
+try 0 '' why --words --no-folds --no-callf -o far.txt far.lst
+try 0 '' why --words - <far.lst
+wrote '<stdin>:2: Jmpf stays: Br misses its target by 1 byte; Jmp crosses the 4,096-byte edge\n'
+printf '013C010001\n051000\n020001\n' >call.lst
+try 0 '' why --no-callf call.lst
+wrote ''
+try 0 '' why --words call.lst
+wrote 'call.lst:1: Callf stays: Call crosses the 4,096-byte edge\n'
+printf '0142000000010D0000000000\n012B0000000000\n' >change.lst
+try 0 '' why --words change.lst
+wrote 'change.lst:2: Jmpf stays: it is a change jump\n'
+# stays STATEMENTS SENTENCE: what is said of the one that stays
+stays() {
+    printf '%s\n' $1 >stays.lst
+    try 0 '' why --words stays.lst
+    wrote "stays.lst:$2\n"
+}
+stays '012B0000000000 012C0000000002' '1: Jmpf stays: an inner label points inside it'
+stays '0143 0143 012B0000000007 08000004 0143' '3: Jmpf stays: Br leaves an offset beyond a pad; Jmp leaves an offset beyond a pad'
+stays '050100 020001 050FFB 012B010001 012A010002 051345 020002' \
+    '4: Jmpf stays: Br misses its target by 3709 bytes; Jmp makes line 5 cross the 4,096-byte edge'
+stays '7D02 05000000010F80 01000000022B010001 05000000031002 02000000040001' \
+    '3: Jmpf stays: Br misses its target by 1 byte; Jmp crosses the 4,096-byte edge'
+stays '012E018001 012B010001 028001 050082 020001' '1: Bz stays: the fold to Bnz misses its target by 1 byte'
+stays '012E018001 012B010001 028001 0143 020001 012C0000000001' '1: Bz stays: the fold to Bnz is barred: an inner label points inside it'
+stays '012E018001 012C018002 028001 012B010001 028002 012C0000000002 050200 020001' \
+    '1: Bz stays: the fold to Bnz is barred: an inner label stands between its statements; the fold of its trampoline is barred: an inner label stands between its statements'
 printf '\220\001\000\001\375' >ours.bin
 try 0 'the same: 5 bytes' audit good.lst ours.bin
 wrote '77000000000000FFFF0000\n'
@@ -241,7 +278,7 @@ wrote '05000B\n0143\n7F000000000C\nIMAGE C \n==\n'
 # texts
 try 0 '' help
 try 0 '' --help
-for word in optimize judge check image text read where read-back salvage stems differences steps targets audit settings batch explain help version; do
+for word in optimize judge check image text read where read-back salvage stems differences steps targets why audit settings batch explain help version; do
     try 0 '' help "$word"
     grep -q "^mortarbee $word" out || wrong "its help begins otherwise"
 done

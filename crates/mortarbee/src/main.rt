@@ -51,6 +51,10 @@ fn job(word: &[u8]) {
         steps();
     } else if same(word, b"targets") {
         targets();
+    } else if same(word, b"why") {
+        why(false);
+    } else if same(word, b"why-words") {
+        why(true);
     } else if same(word, b"audit") {
         audit();
     } else if same(word, b"count") {
@@ -105,6 +109,14 @@ fn steps() {
 fn targets() {
     match options_from(2) {
         Asked::Are(asked) => answering::tell_targets(asked),
+        Asked::Nothing => {}
+    }
+}
+
+// The script puts the file's name in front of each sentence.
+fn why(in_words: bool) {
+    match options_from(2) {
+        Asked::Are(asked) => answering::tell_why(asked, in_words),
         Asked::Nothing => {}
     }
 }
