@@ -1,6 +1,8 @@
 -- What the entry answers: the count is the number of lines, and 12 is judged by it.
-use mathlib.Core.Path.{_≡_, refl, sym, ap, ap₂, _∙_, subst}
+use mathlib.Core.Path.{_≡_, refl, sym, ap, _∙_, subst}
 use mathlib.Core.List.{List}
+use mathlib.Core.Bool.{Bool, true, false}
+use mathlib.Core.Logic.{_⊎_, inl, inr}
 use Prim.Native.Nat.{ℕ, _*_, _≤_, _<_}
 use native.Mathlib.Omega.{arith}
 use lib.Dec.{leb}
@@ -12,13 +14,16 @@ use Rattle.rules.specs.declared.Refusal.the-variants.{Room}
 use Rattle.rules.specs.Answers.{Judged, ok, no, _>>=_, require}
 use Rattle.rules.specs.Programs.{Program}
 use Rattle.rules.specs.Rewriting.{optimized}
+use Rattle.rules.specs.Run.{run}
+use Rattle.laws.proofs.Tests.{clash}
 use Rattle.starting.specs.Begun.{accepted}
+use Rattle.starting.proofs.Accepts.{accepted-run}
 use Rattle.digits.specs.Digits.{laid}
 use Rattle.digits.proofs.Rooms.{laid-front}
 use Rattle.targets.specs.declared.Told.{Told}
 use Rattle.targets.specs.declared.Told.the-variants.{Done, Refused}
 use Rattle.targets.specs.Targets.{Target, targets}
-use Rattle.targets.specs.Entry.{targetLines, marks, fitted, told, answerAs, roomAs, Leaves, targetsTo, Fits}
+use Rattle.targets.specs.Entry.{targetLines, marks, fitted, told, Leaves, targetsTo, Fits}
 use Rattle.targets.proofs.Listed.{length-lines}
 
 -- ---- of so many transfers
@@ -71,6 +76,24 @@ module _ (asked : Settings) (text room : List ℕ) where
       → Leaves (told asked text (length room)) r room out
   unfolding told _>>=_ targets targetsTo
   told-fits p r out e h = rw e h
+
+-- told-refusal: a refusal is the run's, whatever rooms that is lent, or 12 with the statement count
+module _ (asked : Settings) (text : List ℕ) (room : ℕ) (r : Refusal) (h : told asked text room ≡ no r) where
+  abbrev AsRun : Type 0
+  AsRun = ((a b : ℕ) → run asked text a b ≡ no r) ⊎ ((p : Program) × (accepted text ≡ ok p) × (r ≡ Room (length p)))
+
+  short-of : (p : Program) (b : Bool) (ts : List Target) → require b (Room (length p)) (ok ts) ≡ no r → r ≡ Room (length p)
+  unfolding require
+  short-of p true ts e = clash (cc)
+  short-of p false ts e = cc
+
+  pub told-refusal : AsRun
+  unfolding told _>>=_ fitted
+  told-refusal = on (accepted text) refl
+    where
+      on : (x : Judged Program) → accepted text ≡ x → AsRun
+      on (ok p) e = inr (p, e, short-of p (leb (length (targetLines (targets asked p))) room) (targets asked p) (rw e at h))
+      on (no q) e = let z : _≡_ {A = Judged (List Target)} (no q) (no r) = rw e at h in let y : q ≡ r = cc in inl (λ a b. accepted-run text asked r a b (e ∙ ap no y))
 
 -- "Show that any two results allowed by the contract coincide": `targets`
 pub one-told : (x : Judged (List Target)) (room : List ℕ) (r s : Told) (a b : List ℕ) → Leaves x r room a → Leaves x s room b → (r ≡ s) × (a ≡ b)

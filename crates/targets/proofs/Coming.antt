@@ -3,7 +3,7 @@ use mathlib.Core.Path.{_≡_, refl, sym, ap, _∙_, subst}
 use mathlib.Core.List.{List, [], _∷_, _++_}
 use mathlib.Core.Option.{Option, none, some}
 use mathlib.Core.Bool.{true}
-use Prim.Native.Nat.{ℕ, _-_, _+_, _*_, _/_, _%_, _≤_, _<_}
+use Prim.Native.Nat.{ℕ, _-_, _/_, _%_, _≤_, _<_}
 use native.Mathlib.Omega.{arith}
 use lib.ListN.{length, getD}
 use mir.Syntax.{w32}
@@ -11,7 +11,7 @@ use mir.Val.{ofZ}
 use Rattle.rules.specs.declared.Outcome.{Outcome}
 use Rattle.rules.specs.Expressions.{pair, four}
 use Rattle.rules.specs.Forms.{isTransfer, operandsAt}
-use Rattle.rules.specs.Programs.{Placeℕ, Operand, register, Stmt, argsOf, lastOf, Program, kindOf}
+use Rattle.rules.specs.Programs.{Placeℕ, Operand, register, Stmt, argsOf, lastOf, kindOf}
 use Rattle.rules.specs.Layout.{Origin as Source, origin}
 use Rattle.rules.specs.Names.{contextAt}
 use Rattle.rules.specs.Judging.{worthOf, namesOf}
@@ -27,7 +27,7 @@ use Rattle.patterns.specs.Targets.{standsAt, formIn}
 use Rattle.patterns.proofs.Programs.{at-program}
 use Rattle.patterns.proofs.Instructions.{last-get, transfer-slot}
 use Rattle.anchors.specs.Anchored.{Found, Small, offsetIn}
-use Rattle.targets.specs.Targets.{aimAt, numberOf, byteBytes, aimBytes}
+use Rattle.targets.specs.Targets.{aimAt, numberOf, byteBytes}
 use Rattle.targets.specs.Aimed.{placeIn, LowByte, AimIs}
 
 -- ---- the last operand of a transfer

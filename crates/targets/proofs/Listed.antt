@@ -12,7 +12,7 @@ use Rattle.laws.proofs.Lists.{each-append, each-one, total-append}
 use Rattle.laws.proofs.Counts.{each-tab, rises}
 use Rattle.laws.proofs.Tests.{cond-true, cond-false, false-true}
 use Rattle.rules.specs.Forms.{isTransfer, formAt}
-use Rattle.rules.specs.Programs.{Placeℕ, Stmt, onInstr, Instruction, Program, at}
+use Rattle.rules.specs.Programs.{Placeℕ, Stmt, onInstr, Program, at}
 use Rattle.rules.proofs.Laws.{by-instr, other}
 use Rattle.patterns.specs.Targets.{formIn}
 use Rattle.digits.specs.Digits.{laid}

@@ -1,8 +1,8 @@
 -- The state of a listing as it was read stands, and the end form is the definition's.
-use mathlib.Core.Path.{_≡_, refl, sym, ap, _∙_, subst}
+use mathlib.Core.Path.{_≡_, sym, ap, _∙_, subst}
 use mathlib.Core.List.{List}
 use mathlib.Core.Bool.{true}
-use Prim.Native.Nat.{ℕ, _≤_, _<_}
+use Prim.Native.Nat.{ℕ, _<_}
 use native.Mathlib.Omega.{arith}
 use lib.ListN.{length, getD}
 use Rattle.laws.specs.Lists.{total}
@@ -16,7 +16,7 @@ use Rattle.rules.specs.Rewriting.{Chain, anchor, chain, optimized, instrBytes}
 use Rattle.promises.proofs.Passes.{judge-passes, assembles-image}
 use Rattle.promises.proofs.Anchors.{instrBytes-anchor}
 use Rattle.listing.specs.Tables.{inputAt, inputOf, Held}
-use Rattle.slots.specs.Slots.{Slots, slotAt, programOf, Sound}
+use Rattle.slots.specs.Slots.{Slots, programOf, Sound}
 use Rattle.slots.specs.State.{startsIn, tableOf}
 use Rattle.slots.specs.Links.{contextsRead, Beside}
 use Rattle.asm.specs.Starting.{Started}

@@ -1,29 +1,41 @@
--- Runs computed from the definitions: the lines of targets. The table is one statement. Forms: Jmpf 2B, Br 2C, Bz 2E, Nop 43.
+-- Runs computed from the definitions: the lines of targets, and the rooms. The table is one statement. Forms: Jmpf 2B, Br 2C, Bz 2E, Nop 43.
 use mathlib.Core.List.{List, [], _∷_}
-use mathlib.Core.Bool.{Bool, false}
+use mathlib.Core.Bool.{Bool}
 use Prim.Native.Nat.{ℕ}
 use Prim.Native.String.{String}
 use lib.Dec.{T}
-use Rattle.laws.specs.Lists.{each, same}
+use Rattle.laws.specs.Lists.{same}
 use Rattle.laws.specs.Counts.{tab}
 use Rattle.rules.specs.Answers.{Judged, ok, no}
-use Rattle.rules.specs.Programs.{Program}
-use Rattle.rules.specs.Listing.{readListing}
+use Rattle.rules.specs.Refusals.{faultOf}
 use Rattle.rules.specs.Settings.{byDefault}
 use Rattle.rules.proofs.Computed.{lines, all, freely}
-use Rattle.targets.specs.Targets.{aimAt, targets, targetLine}
+use Rattle.starting.specs.Begun.{accepted}
+use Rattle.targets.specs.Targets.{Target, aimAt, targets, targetLine}
+use Rattle.targets.specs.Entry.{targetLines, fitted, told}
 
-unfoldable written : List ℕ → Judged Program → Bool
-unfolding freely aimAt targets targetLine tab same
-written expected (ok p) = same (each targetLine (targets byDefault p)) expected
-written expected (no r) = false
+unfoldable answer : (room : ℕ) (text : List ℕ) → Judged (List Target)
+unfolding freely accepted tab aimAt targets targetLine targetLines fitted told
+answer room text = told byDefault text room
+
+abbrev shows : Judged (List Target) → List ℕ → Bool
+shows (ok ts) ls = same (targetLines ts) ls
+shows (no r) ls = same (faultOf r .number ∷ faultOf r .place ∷ []) ls
 
 unfoldable names : String → String → Bool
-unfolding written
-names text expected = written (lines expected) (readListing (lines text))
+unfolding answer same
+names text expected = shows (answer 65536 (lines text)) (lines expected)
+
+unfoldable refuses : (room : ℕ) → String → (number place : ℕ) → Bool
+unfolding answer same
+refuses room text n i = shows (answer room (lines text)) (n ∷ i ∷ [])
+
+unfoldable fits : (room : ℕ) → String → String → Bool
+unfolding answer same
+fits room text expected = shows (answer room (lines text)) (lines expected)
 
 unfoldable computed : List Bool → Bool
-unfolding all names
+unfolding all names refuses fits
 computed table = all table
 
 aims : List Bool
@@ -38,6 +50,14 @@ aims =
     names "012B00000000FF" "740100000000000000FFFFFF0000000000FFFFFF0000" ∷
     -- no transfer
     names "0143" "" ∷
+    -- a room of 45 characters a line holds them, one character less does not, and 12 has the statement count
+    fits 45 "012B00000000FF" "740100000000000000FFFFFF0000000000FFFFFF0000" ∷
+    refuses 44 "012B00000000FF" 12 1 ∷
+    fits 0 "0143" "" ∷
+    refuses 89 "012E018001 012B010001 028001 0143 020001 012B0000000005" 12 6 ∷
+    -- the listing's own refusal comes first
+    refuses 0 "0143 01" 1 1 ∷
+    refuses 0 "012C0000000082" 10 0 ∷
     []
 
 aims-hold : T (computed aims)

@@ -4,23 +4,19 @@ use mathlib.Core.List.{List, [], _∷_}
 use mathlib.Core.Option.{Option, some}
 use mathlib.Core.Bool.{Bool, true, false, cond}
 use mathlib.Core.Logic.{⊎-elim}
-use Prim.Native.Nat.{ℕ, _+_, _≤_, _<_}
+use Prim.Native.Nat.{ℕ, _≤_, _<_}
 use native.Mathlib.Omega.{arith}
 use lib.Dec.{eqb, ltb}
 use lib.ListN.{length}
-use lib.IntN.{pos}
 use borrow.Author.Tests.{ltb-true, eq-eqb}
 use Rattle.laws.specs.Lists.{total, every}
 use Rattle.laws.proofs.Tests.{and-true, and-both, eq-or-not, lt-or-le}
 use Rattle.laws.proofs.Lists.{total-some, total-one, total-none, total-two-any, every-any}
 use Rattle.rules.specs.declared.Settings.{Settings}
-use Rattle.rules.specs.declared.Outcome.{Outcome}
-use Rattle.rules.specs.declared.Outcome.the-variants.{Is}
-use Rattle.rules.specs.Answers.{ok}
 use Rattle.rules.specs.Programs.{Placeℕ, Operand, register, Stmt, gone, instr, Program, at, argsOf, lastOf}
-use Rattle.rules.specs.Layout.{position, sizeIn, Origin, origin}
-use Rattle.rules.specs.Names.{contextAt, placed}
-use Rattle.rules.specs.Judging.{worthOf, namesOf, positionsFit, judge}
+use Rattle.rules.specs.Layout.{sizeIn, Origin, origin}
+use Rattle.rules.specs.Names.{contextAt}
+use Rattle.rules.specs.Judging.{worthOf, namesOf}
 use Rattle.rules.specs.Rewriting.{ofInner, everyInnerLabel, anchor, instrBytes, optimized}
 use Rattle.rules.proofs.Laws.{by-instr, other}
 use Rattle.promises.specs.Demand2.{Input}
@@ -33,7 +29,7 @@ use Rattle.promises.proofs.Acceptable.{acceptable-parts, end-acceptable}
 use Rattle.promises.proofs.ImageOfOutput.{end-assembles}
 use Rattle.promises.proofs.Carried.{Carrier, carrier, ofPlace, ofPlace-own, ofPlace-step, ofPlace-made}
 use Rattle.promises.proofs.TargetKept.{ends-once}
-use Rattle.targets.specs.Targets.{aimAt, sameByte, targetAt, isSame}
+use Rattle.targets.specs.Targets.{aimAt, sameByte}
 use Rattle.targets.specs.Promise.{SaidSame}
 
 -- a test of every operand holds of the last

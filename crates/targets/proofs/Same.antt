@@ -1,5 +1,5 @@
 -- Two targets by their bytes: the test of the last four, and the line.
-use mathlib.Core.Path.{_≡_, refl, sym, ap, ap₂, _∙_}
+use mathlib.Core.Path.{_≡_, refl, ap, ap₂, _∙_}
 use mathlib.Core.List.{List, [], _∷_, _++_, append-assoc}
 use mathlib.Core.Option.{Option, none, some}
 use mathlib.Core.Bool.{Bool, true, false, not, _&&_}
@@ -10,9 +10,8 @@ use lib.ListN.{length, set, length-append}
 use mir.Syntax.{w32}
 use mir.Val.{ofZ}
 use borrow.Author.Tests.{eqb-true, eq-eqb, ne-eqb}
-use Rattle.laws.specs.Lists.{each}
 use Rattle.laws.proofs.Lists.{each-append}
-use Rattle.laws.proofs.Tests.{and-true, and-both, first-false, same-test}
+use Rattle.laws.proofs.Tests.{and-true, and-both, same-test}
 use Rattle.rules.specs.Expressions.{pair, four}
 use Rattle.rules.specs.Programs.{Placeℕ, Program}
 use Rattle.rules.specs.Layout.{Origin}

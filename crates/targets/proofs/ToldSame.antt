@@ -1,9 +1,9 @@
 -- "For every transfer of demand 3 it says 'same'", of the lines that the entry tells.
 use mathlib.Core.Path.{_≡_, refl, sym, ap, _∙_}
-use mathlib.Core.List.{List, [], _∷_, _++_}
+use mathlib.Core.List.{List, [], _∷_}
 use mathlib.Core.Bool.{Bool, true, false, not, _&&_, _||_, cond}
 use mathlib.Core.Logic.{⊎-elim}
-use Prim.Native.Nat.{ℕ, _+_, _≤_, _<_}
+use Prim.Native.Nat.{ℕ, _+_, _<_}
 use native.Mathlib.Omega.{arith}
 use lib.Dec.{eqb, leb}
 use lib.ListN.{length, getD}
@@ -16,7 +16,7 @@ use Rattle.laws.proofs.Stores.{get-out}
 use Rattle.laws.proofs.Tests.{clash, eq-or-not, lt-or-le}
 use Rattle.rules.specs.declared.Settings.{Settings}
 use Rattle.rules.specs.declared.Refusal.the-variants.{Room}
-use Rattle.rules.specs.Answers.{Judged, ok, no, _>>=_, require}
+use Rattle.rules.specs.Answers.{ok, _>>=_, require}
 use Rattle.rules.specs.Forms.{isTransfer}
 use Rattle.rules.specs.Programs.{Placeℕ, Operand, Stmt, gone, instr, onInstr, Program, at}
 use Rattle.rules.specs.Rewriting.{optimized}

@@ -10,7 +10,6 @@ use Rattle.rules.specs.declared.Settings.{Settings}
 use Rattle.rules.specs.declared.Refusal.the-variants.{Room}
 use Rattle.rules.specs.Answers.{Judged, ok, no, _>>=_, require}
 use Rattle.rules.specs.Programs.{Program}
-use Rattle.rules.specs.Rewriting.{optimized}
 use Rattle.rules.specs.Run.{front}
 use Rattle.starting.specs.Begun.{accepted}
 use Rattle.targets.specs.declared.Told.{Told}

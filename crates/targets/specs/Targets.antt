@@ -16,7 +16,7 @@ use Rattle.rules.specs.declared.Outcome.{Outcome}
 use Rattle.rules.specs.declared.Outcome.the-variants.{Is, Unknown, Nothing}
 use Rattle.rules.specs.Expressions.{pair, four}
 use Rattle.rules.specs.Forms.{isTransfer}
-use Rattle.rules.specs.Programs.{Placeℕ, Program, at, Instruction, onInstr, argsOf, lastOf}
+use Rattle.rules.specs.Programs.{Placeℕ, Program, at, onInstr, argsOf, lastOf}
 use Rattle.rules.specs.Layout.{Origin, origin}
 use Rattle.rules.specs.Names.{contextAt}
 use Rattle.rules.specs.Judging.{worthOf, namesOf}

@@ -20,7 +20,6 @@ ghost use lib.ListN.{length};
 ghost use Rattle.rules.specs.Programs.{Program};
 ghost use Rattle.rules.specs.Judging.{assembles};
 ghost use Rattle.rules.specs.Rewriting.{optimized};
-ghost use Rattle.promises.specs.Demand2.{Input};
 ghost use Rattle.listing.specs.Tables.{inputOf};
 ghost use Rattle.slots.specs.Slots.{Slots, programOf};
 ghost use Rattle.slots.specs.State.{startsIn, tableOf};

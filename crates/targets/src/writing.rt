@@ -14,7 +14,6 @@ ghost use Rattle.listing.specs.Tables.{Held, inputOf};
 ghost use Rattle.slots.specs.Slots.{Slots, programOf, Sound};
 ghost use Rattle.slots.specs.State.{startsIn, tableOf};
 ghost use Rattle.digits.specs.Digits.{laid};
-ghost use Rattle.targets.specs.Targets.{Target};
 ghost use Rattle.targets.specs.Aimed.{AimsIn};
 ghost use Rattle.targets.specs.Entry.{targetsTo, targetLines, marks};
 

@@ -4,7 +4,6 @@ use Prim.Native.Nat.{ℕ, _-_, _≤_}
 use native.Mathlib.Omega.{arith}
 use lib.ListN.{length, getD}
 use borrow.Author.Needs.{needs}
-use Rattle.rules.specs.declared.Outcome.{Outcome}
 use Rattle.rules.specs.Forms.{operandsAt}
 use Rattle.slots.specs.Slots.{worthIn}
 use Rattle.slots.specs.State.{startsIn, formsIn, carryIn, ownersIn, offsetsIn}

@@ -1,10 +1,9 @@
 -- `targets::aims::offset_of` meets its contract.
-use mathlib.Core.Path.{sym, ap, _∙_, subst}
+use mathlib.Core.Path.{sym, ap, subst}
 use native.Mathlib.Omega.{arith}
 use borrow.Author.Needs.{needs}
 use Rattle.asm.specs.declared.Origin.the-variants.{At}
 use Rattle.anchors.specs.Anchored.{Small, offsetIn}
-use Rattle.targets.specs.Aimed.{placeIn}
 use Rattle.targets.proofs.aims.offset_of.Statement.{statement}
 use Rattle.targets.proofs.aims.offset_of.Tie as tie
 

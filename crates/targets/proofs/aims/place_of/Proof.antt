@@ -1,9 +1,9 @@
 -- `targets::aims::place_of` meets its contract.
-use mathlib.Core.Path.{sym, ap, _∙_, subst}
+use mathlib.Core.Path.{sym, ap, subst}
 use native.Mathlib.Omega.{arith}
 use borrow.Author.Needs.{needs}
 use Rattle.asm.specs.declared.Origin.the-variants.{At}
-use Rattle.anchors.specs.Anchored.{Small, offsetIn}
+use Rattle.anchors.specs.Anchored.{Small}
 use Rattle.targets.specs.Aimed.{placeIn}
 use Rattle.targets.proofs.aims.place_of.Statement.{statement}
 use Rattle.targets.proofs.aims.place_of.Tie as tie

@@ -1,6 +1,5 @@
 -- `targets::filling::aim_or_zeros` meets its contract.
 use mathlib.Core.Path.{_≡_, sym, ap, _∙_}
-use mathlib.Core.Bool.{Bool}
 use borrow.Author.Needs.{needs}
 use Rattle.laws.proofs.Tests.{both-ways}
 use Rattle.rules.specs.Forms.{isTransfer}

@@ -1,13 +1,12 @@
 -- `targets::filling::fill_aims` meets its contract. The loop's invariant: the places passed have their targets.
-use mathlib.Core.Path.{_≡_, refl, sym, ap, _∙_, subst}
+use mathlib.Core.Path.{_≡_, _∙_}
 use mathlib.Core.List.{List, []}
 use mathlib.Core.Bool.{true}
 use mathlib.Core.Logic.{⊎-elim}
-use Prim.Native.Nat.{ℕ, _-_, _+_, _≤_, _<_}
+use Prim.Native.Nat.{ℕ, _-_, _+_, _<_}
 use native.Mathlib.Omega.{arith}
 use lib.ListN.{length, getD, set, length-set}
 use lib.Seq.{getD-set-same, getD-set-other}
-use borrow.Author.Needs.{needs}
 use Rattle.laws.proofs.Tests.{eq-or-not}
 use Rattle.rules.specs.Forms.{isTransfer}
 use Rattle.rules.specs.Programs.{Program, at}

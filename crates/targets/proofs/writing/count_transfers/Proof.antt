@@ -1,7 +1,6 @@
 -- `targets::writing::count_transfers` meets its contract. The loop's invariant: n is the number of transfers among the first i places, whatever the
 -- input was.
 use mathlib.Core.Path.{_≡_, sym, ap, _∙_}
-use mathlib.Core.Bool.{Bool, true, false}
 use mathlib.Core.Logic.{⊎-elim}
 use Prim.Native.Nat.{ℕ, _-_, _+_, _≤_}
 use native.Mathlib.Omega.{arith}
