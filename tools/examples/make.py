@@ -23,6 +23,7 @@ WORDS = {
     "text": "tray.txt",
     "text --addresses": "long.txt",
     "image --hex": "long.hex",
+    "targets": "targets.out",
     "text --addresses, of the short one": "short.txt",
     "image --hex, of the short one": "short.hex",
     "read-back 8, of its image": "back.out",

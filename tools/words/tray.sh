@@ -30,6 +30,8 @@ try 0 '' differences "$tray/tray.lst"
 same differences.out
 try 0 '' steps "$tray/tray.lst"
 same steps.out
+try 0 '' targets "$tray/tray.lst"
+same targets.out
 try 0 '' read-back 8 short.bin
 same back.out
 cp out back.lst

@@ -1,5 +1,6 @@
 // The routine of examples/tray through the words of the program, in one run: its listing comes on standard input, and a line `== WORD` stands before
 // what each word writes. tools/examples holds it against the files of examples/tray.
+use answering::targets_of;
 use desk::numbered;
 use desk::part;
 use io::read_full;
@@ -47,6 +48,8 @@ fn through_words(listing: &[u8]) {
     image_of(listing, true);
     title(b"where 40");
     place_in(listing, 40);
+    title(b"targets");
+    targets_of(numbered(6), listing);
 }
 
 // The short routine, as `optimize` writes it, and its image.
