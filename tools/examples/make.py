@@ -61,10 +61,10 @@ def through_words():
 
 
 def shown():
-    """Each line of docs/FORMAT.md, and its text for people where the table has one."""
+    """Each statement of docs/FORMAT.md, and its text for people where the table has one. Lines from 70 on are answers."""
     for row in re.findall(r"^\| .*\|$", (ROOT / "docs/FORMAT.md").read_text(), re.M):
         found = re.search(r"\| `([0-9A-F]{4,})` \|(?: `([^`]+)` \|)?", row)
-        if found:
+        if found and not found[1].startswith("7"):
             yield found[1], found[2] and found[2].replace("\\|", "|")
 
 
