@@ -1,9 +1,7 @@
-// The words about the rewriting: `steps`, one line a rewrite, `targets`, one line a transfer, `why`, one line a rewrite that is not
-// done, and `audit`, which holds an image (on descriptor 3) against a listing.
+// The words about the rewriting: `steps`, one line a rewrite, `targets`, one line a transfer, and `audit`, which holds an image (on
+// descriptor 3) against a listing.
 mod aiming; // what the transfers name
 mod auditing; // is this image ours?
-mod sentences; // a line of `why` in words
-mod whys; // why do forms stay?
 
 pub use aiming::targets_of;
 pub use aiming::tell_targets;
@@ -18,8 +16,6 @@ use rules::Answer;
 use rules::Settings;
 use steps::steps;
 use telling::say;
-pub use whys::tell_why;
-pub use whys::why_of;
 
 // A text that is longer than the buffer is refused within it. No run has more than 3,072 rewrites of 21 characters each.
 pub fn tell_steps(asked: Settings) {

@@ -116,7 +116,7 @@ fn targets() {
 // The script puts the file's name in front of each sentence.
 fn why(in_words: bool) {
     match options_from(2) {
-        Asked::Are(asked) => answering::tell_why(asked, in_words),
+        Asked::Are(asked) => why_words::tell_why(asked, in_words),
         Asked::Nothing => {}
     }
 }

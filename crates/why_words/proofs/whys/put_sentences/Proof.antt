@@ -1,9 +1,9 @@
--- `answering::whys::put_sentences` reads within the lines and ends: each line lies behind the one before.
+-- `why_words::whys::put_sentences` reads within the lines and ends: each line lies behind the one before.
 use Prim.Native.Nat.{_-_, _≤_}
 use native.Mathlib.Omega.{arith}
 use lib.ListN.{length}
-use Rattle.answering.proofs.whys.put_sentences.Statement.{statement}
-use Rattle.answering.proofs.whys.put_sentences.Tie as tie
+use Rattle.why_words.proofs.whys.put_sentences.Statement.{statement}
+use Rattle.why_words.proofs.whys.put_sentences.Tie as tie
 
 abbrev Inv-loop : tie.InvT-loop
 Inv-loop lines marked at₀ at = at ≤ length lines
