@@ -3,7 +3,7 @@
 use mathlib.Core.Path.{_≡_, refl, sym, ap, _∙_}
 use mathlib.Core.List.{List, [], _∷_, map}
 use mathlib.Core.Bool.{Bool, true, false, cond}
-use Prim.Native.Nat.{ℕ, zero, suc, _≤_, _<_}
+use Prim.Native.Nat.{ℕ, zero, suc, _+_, _*_, _%_, _≤_, _<_}
 use native.Mathlib.Omega.{arith}
 use lib.Dec.{eqb, ltb}
 use lib.ListN.{getD, length}
@@ -11,12 +11,46 @@ use borrow.Author.Tests.{eq-eqb, ne-eqb, le-ltb}
 use Rattle.laws.proofs.Counts.{tab-ext}
 use Rattle.rules.specs.Forms.{isTransfer, operandsAt}
 use Rattle.rules.specs.Programs.{Operand, register, Stmt, instr, Instruction, onInstr, argsOf, lastOf, onLast, kindOf}
-use Rattle.listing.specs.Tables.{frameAt, inputAt, inputOf, Held}
+use Rattle.listing.specs.Tables.{frameAt, inputAt, inputOf, formIn, Held}
 use Rattle.slots.specs.Slots.{Slots, slots, goneForm, noOwner, written, targetOf, aimedAt, slotAt, programOf, isReg, Agree, WroteTarget, Sound}
 use Rattle.slots.proofs.Frames.{Frame, InstrFrame, ofInstr, ofLabel, ofVariable, ofComment, ofOrg, ofBytes, ofWords, ofPad}
+use Rattle.slots.specs.State.{lowBytes, startsIn}
+use Rattle.slots.proofs.State.{byte-at, byte-same, found-is}
 use Rattle.slots.proofs.Tables.{frame-is}
 use Rattle.slots.proofs.Slots.{slot-instr, slot-other, kind-kept, kind-read, written-frame}
-use Rattle.asm.specs.Starting.{formIn}
+use Rattle.asm.specs.Starting.{Column}
+
+-- ---- the rows that were copied
+
+-- a form that was read is a byte
+pub form-low : (i : ℕ) (s : List ℕ) (x : Stmt) → Frame i s x → formIn s < 70
+form-low i s x (ofInstr f) = rw (eq-eqb (getD s 0 0) 1 (f .kind)) (f .known)
+form-low i s x (ofLabel f) = rw (ne-eqb (getD s 0 0) 1 (λ e. omega (arith, f .kind))) (omega arith)
+form-low i s x (ofVariable f) = rw (ne-eqb (getD s 0 0) 1 (λ e. omega (arith, f .kind))) (omega arith)
+form-low i s x (ofComment f) = rw (ne-eqb (getD s 0 0) 1 (λ e. omega (arith, f .kind))) (omega arith)
+form-low i s x (ofOrg f) = rw (ne-eqb (getD s 0 0) 1 (λ e. omega (arith, f .kind))) (omega arith)
+form-low i s x (ofBytes f) = rw (ne-eqb (getD s 0 0) 1 (λ e. omega (arith, f .kind))) (omega arith)
+form-low i s x (ofWords f) = rw (ne-eqb (getD s 0 0) 1 (λ e. omega (arith, f .kind))) (omega arith)
+form-low i s x (ofPad f) = rw (ne-eqb (getD s 0 0) 1 (λ e. omega (arith, f .kind))) (omega arith)
+
+-- the rows a, b, c and d are the stripes of what was read
+pub stripes-are : (starts a b c d : List ℕ) (rest : List (List ℕ)) → length starts ≡ 4100 → Column starts 0 a → Column starts 1025 b → Column starts 2050 c → Column starts 3075 d
+    → startsIn (a ∷ b ∷ c ∷ d ∷ rest) ≡ starts
+stripes-are starts a b c d rest size p q r s = found-is (a ∷ b ∷ c ∷ d ∷ rest) starts size each
+  where
+    each : (j i : ℕ) → j < 4 → i < 1025 → getD (getD (a ∷ b ∷ c ∷ d ∷ rest) j []) i 0 ≡ getD starts (j * 1025 + i) 0
+    each zero i h l = p .1 i l ∙ ap (λ (n : ℕ). getD starts n 0) (let e : 0 + i ≡ 0 * 1025 + i = omega arith in e)
+    each (suc zero) i h l = q .1 i l
+    each (suc (suc zero)) i h l = r .1 i l
+    each (suc (suc (suc zero))) i h l = s .1 i l
+    each (suc (suc (suc (suc j)))) i h l = absurd (omega arith)
+
+-- the last of them has the forms
+pub forms-are : (frames starts d : List ℕ) (n : ℕ) → Held frames starts n → Column starts 3075 d → (i : ℕ) → i < n → getD (lowBytes d) i 0 ≡ formIn (frameAt frames starts i)
+forms-are frames starts d n h s i l =
+    let form : getD d i 0 ≡ formIn (frameAt frames starts i) = s .1 i (omega (arith, h .few)) ∙ h .noted i l .form in
+    byte-at d i ∙ ap (λ (f : ℕ). f % 256) form
+    ∙ byte-same (formIn (frameAt frames starts i)) (omega (arith, form-low i (frameAt frames starts i) (inputAt frames starts i) (frame-is frames starts n h i l)))
 
 -- the last operand put in its own place
 last-again : (xs : List Operand) → onLast (λ old. lastOf xs) xs ≡ xs

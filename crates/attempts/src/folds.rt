@@ -14,7 +14,7 @@ use slots::put_carry;
 use slots::put_form;
 ghost use mathlib.Core.Path.{_≡_};
 ghost use mathlib.Core.Bool.{true};
-ghost use Prim.Native.Nat.{_<_};
+ghost use Prim.Native.Nat.{ℕ, _<_};
 ghost use lib.ListN.{length, set};
 ghost use Rattle.rules.specs.Forms.{isTransfer};
 ghost use Rattle.rules.specs.Rewriting.{candidate, invertedAt, trampolineAt};
@@ -83,18 +83,18 @@ fn attempt_trampoline(
     state: &mut State,
     count: usize,
     links: &[u16; 28672],
-    form: u8,
     at: Place,
     skip: Place,
     target: Place,
     last: Place,
 ) -> bool
     requires { let t : Slots = tableOf (now frames) (now state) count in
-        ⌜ Standing t × Bounces t form (at .0) (skip .0) (target .0) (last .0) × Beside (now frames) (startsIn (now state)) count
-        (now links) ⌝ }
+        ⌜ Standing t × ((f : ℕ) × Bounces t f (at .0) (skip .0) (target .0) (last .0))
+        × Beside (now frames) (startsIn (now state)) count (now links) ⌝ }
     ensures { λ r. let t : Slots = tableOf (now (frames .entry)) (now (state .entry)) count in
         let u : Slots = tableOf (now (frames .entry)) (now (state .exit)) count in
-        ⌜ Tried (candidate (bounced t form (at .0) (skip .0) (target .0) (last .0))) t u r ⌝ }
+        ⌜ ((f : ℕ) → Bounces t f (at .0) (skip .0) (target .0) (last .0)
+        → Tried (candidate (bounced t f (at .0) (skip .0) (target .0) (last .0))) t u r) ⌝ }
 {
     let i = at.0;
     let c = last.0;
@@ -155,5 +155,5 @@ pub fn try_trampoline(
     else {
         return false;
     };
-    attempt_trampoline(frames, state, count, links, form, at, skip, target, last)
+    attempt_trampoline(frames, state, count, links, at, skip, target, last)
 }

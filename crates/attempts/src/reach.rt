@@ -58,7 +58,7 @@ fn fixed_target(
     let frame = frame_at(frames, state, count, c);
     let beside = links_at(links, state, c);
     let last = operand_count(frame[1]) - 1;
-    own_worth(frame, c, last, beside, &unnamed, count)
+    own_worth(frame, state, c, last, beside, &unnamed, count)
 }
 
 // Whether a form at this position refuses the value as its first operand.

@@ -39,7 +39,7 @@ pub fn audit(asked: Settings, listing: &[u8], shipped: &[u8]) -> Found
     ensures { λ r. ⌜ r ≡ auditAs (answer asked (now (listing .entry)) (now (shipped .entry))) ⌝ }
 {
     let mut frames = [0u8; 28672];
-    let mut state = [[0u16; 1025]; 5];
+    let mut state = [[0u16; 1025]; 8];
     let mut links = [0u16; 28672];
     match begin(listing, &mut frames, &mut state, &mut links) {
         Begun::Refused(r) => Found::Refused(r),

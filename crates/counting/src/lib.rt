@@ -40,7 +40,7 @@ fn tell_each(asked: Settings, frames: &[u8], state: &mut State, count: usize, li
 // Of a listing that is refused nothing is said: the run itself says why.
 fn count_text(asked: Settings, text: &[u8]) {
     let mut frames = [0u8; 28672];
-    let mut state = [[0u16; 1025]; 5];
+    let mut state = [[0u16; 1025]; 8];
     let mut links = [0u16; 28672];
     match begin(text, &mut frames, &mut state, &mut links) {
         Begun::Refused(_) => {}

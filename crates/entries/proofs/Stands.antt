@@ -1,13 +1,12 @@
 -- What is known of the tables from phase to phase: a listing as read is whole, and what is anchored, and what is shown of an end form, stands.
 use mathlib.Core.Path.{_≡_, refl, sym, ap, _∙_}
-use mathlib.Core.List.{List, _++_}
+use mathlib.Core.List.{List}
 use mathlib.Core.Bool.{true}
 use Prim.Native.Nat.{ℕ, _<_}
 use native.Mathlib.Omega.{arith}
 use lib.Dec.{eqb}
-use lib.ListN.{length, getD, drop}
+use lib.ListN.{length, getD}
 use borrow.Author.Tests.{eq-eqb, ne-eqb}
-use Rattle.laws.specs.Counts.{tab}
 use Rattle.laws.proofs.Tests.{cond-true, cond-false}
 use Rattle.rules.specs.declared.Settings.{Settings}
 use Rattle.rules.specs.Answers.{ok}
@@ -19,14 +18,12 @@ use Rattle.rules.specs.Output.{spoken, shown}
 use Rattle.promises.proofs.Passes.{judge-passes, assembles-image, image-assembles}
 use Rattle.promises.proofs.Acceptable.{judge-anchor}
 use Rattle.promises.proofs.Shows.{by-spoken, at-shown, judge-shown, shown-context}
-use Rattle.listing.specs.Tables.{frameAt, inputAt, Held}
+use Rattle.listing.specs.Tables.{frameAt, inputAt, formIn, Held}
 use Rattle.slots.specs.Slots.{Slots, goneForm, slotAt, programOf}
 use Rattle.slots.specs.Links.{Together}
 use Rattle.slots.proofs.Frames.{Frame, ofInstr, ofLabel, ofVariable, ofComment, ofOrg, ofBytes, ofWords, ofPad}
 use Rattle.slots.proofs.Tables.{frame-is}
-use Rattle.env.proofs.Filled.{get-filled}
 use Rattle.output.specs.Showing.{formed, Shown}
-use Rattle.asm.specs.Starting.{formIn}
 use Rattle.asm.specs.Assembling.{InPlace}
 use Rattle.patterns.specs.Targets.{formIn as formOf}
 use Rattle.patterns.proofs.Programs.{at-program}
@@ -55,10 +52,10 @@ module _ (i : Placeℕ) (s : List ℕ) (e : formIn s ≡ goneForm) where
   own-form x (ofWords f) = plain (λ k. omega (arith, f .kind))
   own-form x (ofPad f) = plain (λ k. omega (arith, f .kind))
 
-pub whole-start : (frames starts : List ℕ) (n : ℕ) (forms old : List ℕ) → Held frames starts n → forms ≡ tab (λ k. formIn (frameAt frames starts k)) n ++ drop n old
-    → (i : Placeℕ) → i < n → getD forms i 0 ≡ goneForm → ⊥
-whole-start frames starts n forms old h e i l g =
-    own-form i (frameAt frames starts i) (sym (get-filled (λ k. formIn (frameAt frames starts k)) n forms (drop n old) i 0 e l) ∙ g) (inputAt frames starts i)
+pub whole-start : (frames starts : List ℕ) (n : ℕ) (forms : List ℕ) → Held frames starts n
+    → ((k : Placeℕ) → k < n → getD forms k 0 ≡ formIn (frameAt frames starts k)) → (i : Placeℕ) → i < n → getD forms i 0 ≡ goneForm → ⊥
+whole-start frames starts n forms h own i l g =
+    own-form i (frameAt frames starts i) (sym (own i l) ∙ g) (inputAt frames starts i)
     (frame-is frames starts n h i l)
 
 -- ---- anchored

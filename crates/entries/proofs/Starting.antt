@@ -8,14 +8,13 @@ use Rattle.laws.specs.Counts.{tab}
 use Rattle.laws.proofs.Counts.{length-tab}
 use Rattle.laws.proofs.Stores.{front-length}
 use Rattle.rules.specs.Programs.{Placeℕ}
-use Rattle.listing.specs.Tables.{frameAt, inputOf, Held}
+use Rattle.listing.specs.Tables.{frameAt, inputOf, formIn, Held}
 use Rattle.slots.specs.Slots.{Slots, slots, noOwner, programOf, Sound}
-use Rattle.slots.specs.State.{startsIn, formsIn, carryIn, ownersIn, offsetsIn, tableOf, lowBytes}
-use Rattle.slots.proofs.State.{length-bytes}
+use Rattle.slots.specs.State.{startsIn, formsIn, carryIn, ownersIn, offsetsIn, tableOf}
 use Rattle.slots.specs.Links.{Together}
 use Rattle.env.proofs.Filled.{get-filled}
 use Rattle.asm.specs.Assembling.{Whole}
-use Rattle.asm.specs.Starting.{formIn, Started}
+use Rattle.asm.specs.Starting.{Started}
 use Rattle.asm.proofs.Started.{sound-start, program-as-read}
 use Rattle.anchors.specs.Anchored.{AsRead}
 use Rattle.entries.specs.Optimizing.{Full}
@@ -30,7 +29,7 @@ module _ (frames starts : List ℕ) (n : ℕ) (h : Held frames starts n) (state 
   table-is = ap (λ (l : List ℕ). slots frames l n (formsIn state) (carryIn state) (ownersIn state) (offsetsIn state)) (s .begins)
 
   own : (i : ℕ) → i < n → getD (formsIn state) i 0 ≡ formIn (frameAt frames starts i)
-  own i l = get-filled (λ k. formIn (frameAt frames starts k)) n _ _ i 0 (s .forms) l
+  own i l = s .forms i l
 
   mine : (i : ℕ) → i < n → getD (carryIn state) i 0 ≡ i
   mine i l = get-filled (λ k. k) n _ _ i 0 (s .carry) l
@@ -51,7 +50,7 @@ module _ (frames starts : List ℕ) (n : ℕ) (h : Held frames starts n) (state 
   start-together = own-together (tableOf frames state n) mine
 
   pub start-whole : Whole (tableOf frames state n)
-  start-whole = whole-start frames starts n _ _ h (s .forms)
+  start-whole = whole-start frames starts n (formsIn state) h own
 
   -- a row filled from the front stays as long as it was
   row-full : (F : ℕ → ℕ) (l old : List ℕ) → length old ≡ 1025 → l ≡ tab F n ++ drop n old → length l ≡ 1025
@@ -60,7 +59,7 @@ module _ (frames starts : List ℕ) (n : ℕ) (h : Held frames starts n) (state 
   pub start-full : Full state
   start-full =
       record {
-        forms = row-full _ _ (lowBytes (replicate 1025 0)) (length-bytes (replicate 1025 0) ∙ length-replicate {A = ℕ} 1025 0) (s .forms);
+        forms = s .full;
         carry = row-full _ _ (replicate 1025 0) (length-replicate {A = ℕ} 1025 0) (s .carry);
         owners = ap length (s .owners) ∙ length-replicate {A = ℕ} 1025 1024;
         offsets = ap length (s .offsets) ∙ length-replicate {A = ℕ} 1025 0;

@@ -6,6 +6,7 @@ use env::fill_contexts;
 use image::image_length;
 use image::write_image;
 use listing::Listed;
+use listing::Starts;
 use listing::read_listing;
 use rules::Answer;
 use rules::Refusal;
@@ -100,12 +101,12 @@ fn place_slots(frames: &[u8], state: &State, count: usize, image: &mut [u8]) -> 
 }
 
 // The slots of a listing as read: no target is an inner label.
-fn assemble_read(frames: &[u8], starts: &[u16; 1025], count: usize, image: &mut [u8]) -> Answer
+fn assemble_read(frames: &[u8], starts: &Starts, count: usize, image: &mut [u8]) -> Answer
     requires { ⌜ Held (now frames) (now starts) count ⌝ }
     ensures { λ r. let p : Program = inputOf (now (frames .entry)) (now (starts .entry)) count in
         ⌜ Leaves (imageIn (length (now (image .entry))) p) r (now (image .entry)) (now (image .exit)) ⌝ }
 {
-    let state = start_state(frames, starts, count);
+    let state = start_state(starts, count);
     place_slots(frames, &state, count, image)
 }
 
@@ -115,7 +116,7 @@ pub fn assemble(listing: &[u8], image: &mut [u8]) -> Answer
         (now (image .entry)) (now (image .exit)) ⌝ }
 {
     let mut frames = [0u8; 28672];
-    let mut starts = [0u16; 1025];
+    let mut starts = [0u16; 4100];
     let mut lines = [0u32; 1024];
     match read_listing(listing, &mut frames, &mut starts, &mut lines) {
         Listed::Refused(r) => Answer::Refused(r),

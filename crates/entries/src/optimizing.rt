@@ -7,6 +7,7 @@ use asm::judge;
 use asm::start_state;
 use env::fill_contexts;
 use listing::Listed;
+use listing::Starts;
 use listing::new_form;
 use listing::read_listing;
 use optimize::optimize;
@@ -161,7 +162,7 @@ fn optimize_read(
     marked: bool,
     lines: &[u32; 1024],
     frames: &[u8],
-    starts: &[u16; 1025],
+    starts: &Starts,
     count: usize,
     out: &mut [u8],
     image: &mut [u8],
@@ -175,7 +176,7 @@ fn optimize_read(
         ⌜ Stems x r (now (out .entry)) (now (image .entry)) (now (list .entry))
         (now (out .exit)) (now (image .exit)) (now (list .exit)) ⌝ }
 {
-    let mut state = start_state(frames, starts, count);
+    let mut state = start_state(starts, count);
     let wanted = Wanted {
         settings: asked,
         marked,
@@ -202,7 +203,7 @@ pub fn optimize_stems(
         (now (out .exit)) (now (image .exit)) (now (list .exit)) ⌝ }
 {
     let mut frames = [0u8; 28672];
-    let mut starts = [0u16; 1025];
+    let mut starts = [0u16; 4100];
     let mut lines = [0u32; 1024];
     let marked = new_form(listing);
     match read_listing(listing, &mut frames, &mut starts, &mut lines) {

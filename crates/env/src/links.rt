@@ -3,9 +3,8 @@
 use expression::defines;
 use expression::tag_of;
 use rules::Tag;
-use slots::START;
 use slots::State;
-use slots::wide;
+use slots::start_at;
 ghost use mathlib.Core.Path.{_≡_};
 ghost use mathlib.Core.Bool.{true, false};
 ghost use Prim.Native.Nat.{ℕ, suc, _+_, _*_, _<_, _≤_};
@@ -119,8 +118,8 @@ pub fn fill_links(
 {
     let mut i = 0;
     while i < count {
-        let from = wide(state[START][i]);
-        let end = wide(state[START][i + 1]);
+        let from = start_at(state, i);
+        let end = start_at(state, i + 1);
         link_frame(
             frames,
             names,

@@ -52,7 +52,7 @@ pub fn item_field(
         → r ≡ fieldAs (itemOf names (boundOf (getD (now (frame .entry)) 0 0)) (at .0) k j
         (getD (itemsIn (at .0) (now (frame .entry))) j (num (pos 0))))) ⌝ }
 {
-    let a = item_in(frame, at, j);
+    let a = item_in(frame, j);
     match linked_worth(&frame[a..], &links[a..], values, count) {
         Outcome::Is(v) => item_range(frame[0], at, j, v),
         Outcome::Unknown => Field::Refused(Refusal::NoName(at)),

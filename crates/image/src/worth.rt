@@ -8,7 +8,7 @@ use rules::Place;
 use slots::NO_OWNER;
 use slots::OFFSET;
 use slots::State;
-use slots::argument_in;
+use slots::argument_at;
 use slots::carry_at;
 use slots::form_in;
 use slots::frame_at;
@@ -23,7 +23,7 @@ ghost use lib.ListN.{length, getD};
 ghost use Rattle.rules.specs.Forms.{operandsAt};
 ghost use Rattle.rules.specs.Names.{Entry, keyOf, lookup};
 ghost use Rattle.expression.specs.Linked.{Linked};
-ghost use Rattle.listing.specs.Tables.{frameAt};
+ghost use Rattle.listing.specs.Tables.{frameAt, Noted};
 ghost use Rattle.rules.specs.Programs.{kindOf};
 ghost use Rattle.slots.specs.Slots.{slots, slotAt, targetOf, worthIn, InstrIn};
 ghost use Rattle.image.specs.Tables.{Tables, tablesOf, isTarget, operandIn, operandAt, Aims, Ready};
@@ -46,6 +46,7 @@ fn inner_worth(position: u32, offset: u16) -> Outcome
 // Argument j of an instruction's own frame, with the links beside it. `at` is the frame's place.
 pub fn own_worth(
     frame: &[u8],
+    state: &State,
     at: Place,
     j: usize,
     links: &[u16],
@@ -53,12 +54,12 @@ pub fn own_worth(
     count: usize,
 ) -> Outcome
     requires { ⌜ InstrIn (at .0) (now frame) × (j < length (operandsAt (getD (now frame) 1 0))) × (count ≤ 1024)
-        × (length (now links) ≡ length (now frame)) ⌝ }
+        × (length (now links) ≡ length (now frame)) × (at .0 < count) × Noted (startsIn (now state)) (at .0) (now frame) ⌝ }
     ensures { λ r. ⌜ ((names : List Entry) (k : ℕ)
         → Linked (λ m. lookup names (keyOf k m)) (now (frame .entry)) (now (links .entry)) (now (values .entry)) count
         → (positions : List ℕ) → r ≡ worthIn names positions k (operandIn (at .0) (now (frame .entry)) j)) ⌝ }
 {
-    let a = argument_in(frame, at, j);
+    let a = argument_at(state, at, j);
     if is_register(frame[1], j) {
         return register_worth(frame[a]);
     }
@@ -94,7 +95,7 @@ pub fn target_worth(
     let frame = frame_at(frames, state, count, c);
     let beside = links_at(links, state, c);
     let last = operand_count(frame[1]) - 1;
-    own_worth(frame, c, last, beside, values, count)
+    own_worth(frame, state, c, last, beside, values, count)
 }
 
 // The place whose target stands in a slot.
@@ -141,5 +142,5 @@ pub fn argument_worth(
     }
     let frame = frame_at(frames, state, count, at);
     let beside = links_at(links, state, at);
-    own_worth(frame, at, j, beside, values, count)
+    own_worth(frame, state, at, j, beside, values, count)
 }

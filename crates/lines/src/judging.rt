@@ -43,7 +43,7 @@ fn number_of(text: &[u8]) -> u8
     ensures { λ n. ⌜ Numbered (readListing (now (text .entry))) n ⌝ }
 {
     let mut frames = [0u8; 28672];
-    let mut starts = [0u16; 1025];
+    let mut starts = [0u16; 4100];
     let mut lines = [0u32; 1024];
     match read_listing(text, &mut frames, &mut starts, &mut lines) {
         Listed::Read(_) => 0,

@@ -17,7 +17,7 @@ pub fn check_listing() {
 
 pub fn check_text(text: &[u8]) {
     let mut frames = [0u8; 28672];
-    let mut starts = [0u16; 1025];
+    let mut starts = [0u16; 4100];
     let mut lines = [0u32; 1024];
     match read_listing(text, &mut frames, &mut starts, &mut lines) {
         Listed::Read(count) => good(count),

@@ -28,7 +28,7 @@ pub fn judge_text(text: &[u8]) {
 // How many statements a listing that assembles has.
 fn count(text: &[u8]) -> usize {
     let mut frames = [0u8; 28672];
-    let mut starts = [0u16; 1025];
+    let mut starts = [0u16; 4100];
     let mut lines = [0u32; 1024];
     match read_listing(text, &mut frames, &mut starts, &mut lines) {
         Listed::Read(n) => n,

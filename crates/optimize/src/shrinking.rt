@@ -19,6 +19,7 @@ ghost use mathlib.Core.Bool.{true};
 ghost use Prim.Native.Nat.{_<_};
 ghost use lib.ListN.{getD};
 ghost use Rattle.laws.specs.Options.{orElse};
+ghost use Rattle.rules.specs.declared.Settings.{Settings as Switches};
 ghost use Rattle.rules.specs.Forms.{jmpf, br, jmp};
 ghost use Rattle.rules.specs.Judging.{namesOf, assembles};
 ghost use Rattle.rules.specs.Rewriting.{shrinkAt, anywhere};
@@ -57,7 +58,6 @@ fn try_br_then_jmp(
 
 // "Jmpf not a change jump"
 fn shrink_jump(
-    asked: Settings,
     frames: &[u8],
     state: &mut State,
     count: usize,
@@ -74,7 +74,7 @@ fn shrink_jump(
         × (getD (formsIn (now state)) (at .0) 0 ≡ jmpf) ⌝ }
     ensures { λ r. let t : Slots = tableOf (now (frames .entry)) (now (state .entry)) count in
         let u : Slots = tableOf (now (frames .entry)) (now (state .exit)) count in
-        ⌜ Tried (shrinkAt asked (namesOf (programOf t)) (programOf t) (at .0)) t u r ⌝ }
+        ⌜ ((asked : Switches) → Tried (shrinkAt asked (namesOf (programOf t)) (programOf t) (at .0)) t u r) ⌝ }
 {
     if is_change_jump(frames, state, count, links, values, positions, at) {
         return false;
@@ -107,17 +107,7 @@ fn shrink_at(
     }
     let form = form_in(state, at);
     if form == JMPF {
-        return shrink_jump(
-            asked,
-            frames,
-            state,
-            count,
-            links,
-            values,
-            positions,
-            deepest,
-            at,
-        );
+        return shrink_jump(frames, state, count, links, values, positions, deepest, at);
     }
     if form == CALLF {
         if !asked.callf {

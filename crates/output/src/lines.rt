@@ -6,7 +6,7 @@ use rules::Place;
 use slots::CARRY;
 use slots::NO_OWNER;
 use slots::State;
-use slots::argument_in;
+use slots::argument_at;
 use slots::form_in;
 use slots::frame_at;
 use slots::kind_at;
@@ -17,19 +17,19 @@ ghost use Prim.Native.Nat.{_<_, _≤_};
 ghost use lib.ListN.{length};
 ghost use Rattle.rules.specs.Output.{markOf};
 ghost use Rattle.listing.specs.Form.{formOf};
-ghost use Rattle.listing.specs.Tables.{Held};
+ghost use Rattle.listing.specs.Tables.{Noted, Held};
 ghost use Rattle.slots.specs.Slots.{InstrIn};
 ghost use Rattle.output.specs.Lines.{ownEnd, InstrAt, Drawn, SoundWithout, TargetHas, InstrHas, LineHas, TextHas};
 ghost use Rattle.slots.specs.State.{startsIn, formsIn, carryIn, ownersIn};
 
 // Where the target of an instruction begins in its frame; the frame's end where it has none. `at` is the frame's place.
-pub fn own_end(frame: &[u8], at: Place) -> usize
-    requires { ⌜ InstrIn (at .0) (now frame) ⌝ }
+pub fn own_end(frame: &[u8], state: &State, at: Place) -> usize
+    requires { ⌜ InstrIn (at .0) (now frame) × (at .0 < 1024) × Noted (startsIn (now state)) (at .0) (now frame) ⌝ }
     ensures { λ r. ⌜ r ≡ ownEnd (now (frame .entry)) ⌝ }
 {
     let form = frame[1];
     if is_transfer(form) {
-        argument_in(frame, at, operand_count(form) - 1)
+        argument_at(state, at, operand_count(form) - 1)
     } else {
         frame.len()
     }
@@ -45,7 +45,7 @@ fn target_length(frames: &[u8], state: &State, count: usize, from: Place) -> usi
         return 5;
     }
     let frame = frame_at(frames, state, count, from);
-    frame.len() - own_end(frame, from)
+    frame.len() - own_end(frame, state, from)
 }
 
 // How many bytes an instruction has: its own, and the target that it carries.
@@ -56,7 +56,7 @@ fn instruction_length(frames: &[u8], state: &State, count: usize, at: Place) -> 
 {
     let i = at.0;
     let frame = frame_at(frames, state, count, at);
-    let own = own_end(frame, at);
+    let own = own_end(frame, state, at);
     if is_transfer(form_in(state, at)) {
         let c = wide(state[CARRY][i]);
         own + target_length(frames, state, count, Place(c))

@@ -27,7 +27,7 @@ ghost use Rattle.rules.specs.Listing.{lineBytes};
 ghost use Rattle.rules.specs.Output.{markOf};
 ghost use Rattle.rules.specs.Run.{front};
 ghost use Rattle.listing.specs.Form.{formOf};
-ghost use Rattle.listing.specs.Tables.{Held};
+ghost use Rattle.listing.specs.Tables.{Noted, Held};
 ghost use Rattle.slots.specs.Slots.{Slots, slots, InstrIn, Sound};
 ghost use Rattle.digits.specs.Digits.{hexOf, laid};
 ghost use Rattle.output.specs.Digits.{Put};
@@ -100,17 +100,18 @@ fn put_target(
         return at + 10;
     }
     let frame = frame_at(frames, state, count, from);
-    let e = own_end(frame, from);
+    let e = own_end(frame, state, from);
     put_bytes(out, at, &frame[e..]);
     at + 2 * (frame.len() - e)
 }
 
 // What is an instruction's own: the kind, its form, and the operands before the target. `place` is the frame's place.
-fn put_own(frame: &[u8], place: Place, form: u8, out: &mut [u8], at: usize) -> usize
-    requires { ⌜ InstrIn (place .0) (now frame) × (at + 2 * ownEnd (now frame) ≤ length (now out)) ⌝ }
+fn put_own(frame: &[u8], state: &State, place: Place, form: u8, out: &mut [u8], at: usize) -> usize
+    requires { ⌜ InstrIn (place .0) (now frame) × (at + 2 * ownEnd (now frame) ≤ length (now out))
+        × (place .0 < 1024) × Noted (startsIn (now state)) (place .0) (now frame) ⌝ }
     ensures { λ r. ⌜ Put (now (out .entry)) at (ownBytes form (now (frame .entry))) (now (out .exit)) r ⌝ }
 {
-    let e = own_end(frame, place);
+    let e = own_end(frame, state, place);
     put_byte(out, at, 1);
     put_byte(out, at + 2, form);
     put_bytes(out, at + 4, &frame[2..e]);
@@ -138,7 +139,7 @@ fn put_instruction(
     let i = place.0;
     let form = form_in(state, place);
     let frame = frame_at(frames, state, count, place);
-    let end = put_own(frame, place, form, out, at);
+    let end = put_own(frame, state, place, form, out, at);
     if is_transfer(form) {
         let c = wide(state[CARRY][i]);
         return put_target(frames, state, count, positions, Place(c), out, end);

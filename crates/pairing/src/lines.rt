@@ -23,7 +23,7 @@ pub fn statements_of(text: &[u8]) -> Counted
     ensures { λ r. ⌜ CountedAs r (readListing (now (text .entry))) ⌝ }
 {
     let mut frames = [0u8; 28672];
-    let mut starts = [0u16; 1025];
+    let mut starts = [0u16; 4100];
     let mut lines = [0u32; 1024];
     match read_listing(text, &mut frames, &mut starts, &mut lines) {
         Listed::Refused(r) => Counted::Refused(r),

@@ -7,7 +7,7 @@ use instruction::tables::operand_count;
 use rules::Place;
 use slots::NO_OWNER;
 use slots::State;
-use slots::argument_in;
+use slots::argument_at;
 use slots::carry_at;
 use slots::form_in;
 use slots::frame_at;
@@ -30,7 +30,7 @@ ghost use Rattle.rules.specs.Expressions.{Expr, num, mentions, readExpr, got};
 ghost use Rattle.rules.specs.Forms.{operandsAt};
 ghost use Rattle.rules.specs.Programs.{register, argsOf, inOperand, overExprs, kindOf};
 ghost use Rattle.expression.specs.Naming.{Referred};
-ghost use Rattle.listing.specs.Tables.{frameAt, Held};
+ghost use Rattle.listing.specs.Tables.{frameAt, Noted, Held};
 ghost use Rattle.slots.specs.Slots.{slots, slotAt, targetOf, InstrIn, DataIn, Sound};
 ghost use Rattle.patterns.specs.Targets.{TargetIn};
 ghost use Rattle.patterns.specs.Mentions.{readAs, itemsOf, VariableIn, Short, Refers, RefersAll};
@@ -76,8 +76,16 @@ fn in_part(frame: &[u8], links: &[u16], a: usize, place: usize) -> usize
 }
 
 // In argument j of an instruction as it was read, with the links beside it.
-fn in_argument(frame: &[u8], links: &[u16], at: Place, j: usize, place: usize) -> usize
-    requires { ⌜ InstrIn (at .0) (now frame) × (j < length (operandsAt (getD (now frame) 1 0))) × Short (now frame) (now links) ⌝ }
+fn in_argument(
+    frame: &[u8],
+    links: &[u16],
+    state: &State,
+    at: Place,
+    j: usize,
+    place: usize,
+) -> usize
+    requires { ⌜ InstrIn (at .0) (now frame) × (j < length (operandsAt (getD (now frame) 1 0))) × Short (now frame) (now links)
+        × (at .0 < 1024) × Noted (startsIn (now state)) (at .0) (now frame) ⌝ }
     ensures few { λ r. ⌜ r ≤ 120 ⌝ }
     ensures { λ r. ⌜ ((f : ℕ → Bool) → Referred f (now (frame .entry)) (now (links .entry)) place
         → r ≡ inOperand (mentions f) (getD (argsOf (readAs (at .0) (now (frame .entry)))) j (register 0))) ⌝ }
@@ -85,12 +93,20 @@ fn in_argument(frame: &[u8], links: &[u16], at: Place, j: usize, place: usize) -
     if is_register(frame[1], j) {
         return 0;
     }
-    in_part(frame, links, argument_in(frame, at, j), place)
+    in_part(frame, links, argument_at(state, at, j), place)
 }
 
 // In the first m arguments.
-fn in_arguments(frame: &[u8], links: &[u16], at: Place, m: usize, place: usize) -> usize
-    requires { ⌜ InstrIn (at .0) (now frame) × (m ≤ length (operandsAt (getD (now frame) 1 0))) × Short (now frame) (now links) ⌝ }
+fn in_arguments(
+    frame: &[u8],
+    links: &[u16],
+    state: &State,
+    at: Place,
+    m: usize,
+    place: usize,
+) -> usize
+    requires { ⌜ InstrIn (at .0) (now frame) × (m ≤ length (operandsAt (getD (now frame) 1 0))) × Short (now frame) (now links)
+        × (at .0 < 1024) × Noted (startsIn (now state)) (at .0) (now frame) ⌝ }
     ensures few { λ r. ⌜ r ≤ 120 * m ⌝ }
     ensures { λ r. ⌜ ((f : ℕ → Bool) → Referred f (now (frame .entry)) (now (links .entry)) place
         → r ≡ total (inOperand (mentions f)) (take m (argsOf (readAs (at .0) (now (frame .entry)))))) ⌝ }
@@ -98,7 +114,7 @@ fn in_arguments(frame: &[u8], links: &[u16], at: Place, m: usize, place: usize) 
     let mut found = 0;
     let mut j = 0;
     while j < m {
-        found += in_argument(frame, links, at, j, place);
+        found += in_argument(frame, links, state, at, j, place);
         j += 1;
     }
     found
@@ -131,43 +147,46 @@ fn in_instruction(
     if is_transfer(form_in(state, at)) {
         let written = Place(carry_at(state, at));
         let carried = in_target(frames, state, count, links, written, place);
-        return in_arguments(frame, beside, at, own - 1, place) + carried;
+        return in_arguments(frame, beside, state, at, own - 1, place) + carried;
     }
-    in_arguments(frame, beside, at, own, place)
+    in_arguments(frame, beside, state, at, own, place)
 }
 
 // In the value of a variable.
-fn in_variable(frame: &[u8], links: &[u16], at: Place, place: usize) -> usize
-    requires { ⌜ VariableIn (at .0) (now frame) × Short (now frame) (now links) ⌝ }
+fn in_variable(frame: &[u8], links: &[u16], place: usize) -> usize
+    requires { ⌜ ((i : ℕ) × VariableIn i (now frame)) × Short (now frame) (now links) ⌝ }
     ensures few { λ r. ⌜ r ≤ 2048 ⌝ }
-    ensures { λ r. ⌜ ((f : ℕ → Bool) → Referred f (now (frame .entry)) (now (links .entry)) place
-        → r ≡ overExprs (mentions f) (readAs (at .0) (now (frame .entry)))) ⌝ }
+    ensures { λ r. ⌜ ((i : ℕ) → VariableIn i (now (frame .entry))
+        → (f : ℕ → Bool) → Referred f (now (frame .entry)) (now (links .entry)) place
+        → r ≡ overExprs (mentions f) (readAs i (now (frame .entry)))) ⌝ }
 {
     in_part(frame, links, 3, place)
 }
 
 // In item j of data.
-fn in_item(frame: &[u8], links: &[u16], at: Place, j: usize, place: usize) -> usize
-    requires { ⌜ DataIn (at .0) (now frame) × (j < getD (now frame) 1 0) × Short (now frame) (now links) ⌝ }
+fn in_item(frame: &[u8], links: &[u16], j: usize, place: usize) -> usize
+    requires { ⌜ ((i : ℕ) × DataIn i (now frame)) × (j < getD (now frame) 1 0) × Short (now frame) (now links) ⌝ }
     ensures few { λ r. ⌜ r ≤ 120 ⌝ }
-    ensures { λ r. ⌜ ((f : ℕ → Bool) → Referred f (now (frame .entry)) (now (links .entry)) place
-        → r ≡ mentions f (getD (itemsOf (readAs (at .0) (now (frame .entry)))) j (num (pos 0)))) ⌝ }
+    ensures { λ r. ⌜ ((i : ℕ) → DataIn i (now (frame .entry))
+        → (f : ℕ → Bool) → Referred f (now (frame .entry)) (now (links .entry)) place
+        → r ≡ mentions f (getD (itemsOf (readAs i (now (frame .entry)))) j (num (pos 0)))) ⌝ }
 {
-    in_part(frame, links, item_in(frame, at, j), place)
+    in_part(frame, links, item_in(frame, j), place)
 }
 
 // In data.
-fn in_items(frame: &[u8], links: &[u16], at: Place, place: usize) -> usize
-    requires { ⌜ DataIn (at .0) (now frame) × Short (now frame) (now links) ⌝ }
+fn in_items(frame: &[u8], links: &[u16], place: usize) -> usize
+    requires { ⌜ ((i : ℕ) × DataIn i (now frame)) × Short (now frame) (now links) ⌝ }
     ensures few { λ r. ⌜ r ≤ 2048 ⌝ }
-    ensures { λ r. ⌜ ((f : ℕ → Bool) → Referred f (now (frame .entry)) (now (links .entry)) place
-        → r ≡ overExprs (mentions f) (readAs (at .0) (now (frame .entry)))) ⌝ }
+    ensures { λ r. ⌜ ((i : ℕ) → DataIn i (now (frame .entry))
+        → (f : ℕ → Bool) → Referred f (now (frame .entry)) (now (links .entry)) place
+        → r ≡ overExprs (mentions f) (readAs i (now (frame .entry)))) ⌝ }
 {
     let m = items_in(frame);
     let mut found = 0;
     let mut j = 0;
     while j < m {
-        found += in_item(frame, links, at, j, place);
+        found += in_item(frame, links, j, place);
         j += 1;
     }
     found
@@ -199,10 +218,10 @@ fn in_statement(
     let frame = frame_at(frames, state, count, at);
     let beside = links_at(links, state, at);
     if kind == 3 {
-        return in_variable(frame, beside, at, place);
+        return in_variable(frame, beside, place);
     }
     if is_data(kind) {
-        return in_items(frame, beside, at, place);
+        return in_items(frame, beside, place);
     }
     0
 }

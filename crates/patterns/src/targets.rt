@@ -7,7 +7,7 @@ use rules::Place;
 use slots::GONE;
 use slots::NO_OWNER;
 use slots::State;
-use slots::argument_in;
+use slots::argument_at;
 use slots::carry_at;
 use slots::form_in;
 use slots::frame_at;
@@ -92,7 +92,7 @@ pub fn target_in<'a>(frames: &'a [u8], state: &State, count: usize, at: Place) -
     ensures { λ r. ⌜ now r ≡ lastBytes (frameAt (now (frames .entry)) (startsIn (now (state .entry))) (at .0)) ⌝ }
 {
     let frame = frame_at(frames, state, count, at);
-    let a = argument_in(frame, at, operand_count(frame[1]) - 1);
+    let a = argument_at(state, at, operand_count(frame[1]) - 1);
     &frame[a..]
 }
 
@@ -111,7 +111,7 @@ pub fn target_links<'a>(
 {
     let frame = frame_at(frames, state, count, at);
     let beside = links_at(links, state, at);
-    let a = argument_in(frame, at, operand_count(frame[1]) - 1);
+    let a = argument_at(state, at, operand_count(frame[1]) - 1);
     &beside[a..]
 }
 

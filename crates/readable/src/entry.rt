@@ -2,6 +2,7 @@
 use crate::lines::text_length;
 use crate::lines::write_lines;
 use listing::Listed;
+use listing::Starts;
 use listing::read_listing;
 use rules::Answer;
 use rules::Refusal;
@@ -13,7 +14,7 @@ ghost use Rattle.digits.specs.Leaves.{Leaves};
 ghost use Rattle.readable.specs.Readable.{within, readable};
 
 // The text of the statements in the tables: 12, or all of it.
-fn write_read(frames: &[u8], starts: &[u16; 1025], count: usize, text: &mut [u8]) -> Answer
+fn write_read(frames: &[u8], starts: &Starts, count: usize, text: &mut [u8]) -> Answer
     requires { ⌜ Held (now frames) (now starts) count ⌝ }
     ensures { λ r. ⌜ (let x = within (inputOf (now (frames .entry)) (now (starts .entry)) count) (length (now (text .entry))) in
         Leaves x r (now (text .entry)) (now (text .exit))) ⌝ }
@@ -36,7 +37,7 @@ pub fn readable_text(listing: &[u8], text: &mut [u8]) -> Answer
         Leaves x r (now (text .entry)) (now (text .exit))) ⌝ }
 {
     let mut frames = [0u8; 28672];
-    let mut starts = [0u16; 1025];
+    let mut starts = [0u16; 4100];
     let mut lines = [0u32; 1024];
     match read_listing(listing, &mut frames, &mut starts, &mut lines) {
         Listed::Refused(r) => Answer::Refused(r),

@@ -1,4 +1,5 @@
 // The lines of the statements in the tables: how long they are, and the lines themselves in a lent room.
+use listing::Starts;
 use rules::Place;
 use slots::frame_in;
 use wording::line;
@@ -11,13 +12,7 @@ ghost use Rattle.readable.specs.Readable.{lineOf, textOf};
 ghost use Rattle.readable.specs.Writing.{Stands};
 
 // The line of statement i of `count`, at the front of a room; where it ends.
-fn line_at(
-    frames: &[u8],
-    starts: &[u16; 1025],
-    count: usize,
-    i: usize,
-    room: &mut [u8; 1024],
-) -> usize
+fn line_at(frames: &[u8], starts: &Starts, count: usize, i: usize, room: &mut [u8; 1024]) -> usize
     requires { ⌜ Held (now frames) (now starts) count × (i < count) × (length (now room) ≡ 1024) ⌝ }
     ensures { λ r. ⌜ Stands (inputAt (now (frames .entry)) (now (starts .entry)) i) (now (room .exit)) r
         × (length (now (room .exit)) ≡ 1024) ⌝ }
@@ -27,7 +22,7 @@ fn line_at(
 }
 
 // How many bytes all lines have, with their line feeds.
-pub fn text_length(frames: &[u8], starts: &[u16; 1025], count: usize) -> usize
+pub fn text_length(frames: &[u8], starts: &Starts, count: usize) -> usize
     requires { ⌜ Held (now frames) (now starts) count ⌝ }
     ensures { λ r. ⌜ r ≡ length (textOf (inputOf (now (frames .entry)) (now (starts .entry)) count)) ⌝ }
 {
@@ -57,7 +52,7 @@ fn put_bytes(s: &[u8], out: &mut [u8], at: usize)
 // The line of statement i and its line feed, from `at` on; how long it is.
 fn put_line(
     frames: &[u8],
-    starts: &[u16; 1025],
+    starts: &Starts,
     count: usize,
     i: usize,
     out: &mut [u8],
@@ -76,7 +71,7 @@ fn put_line(
 }
 
 // All lines, from the front on.
-pub fn write_lines(frames: &[u8], starts: &[u16; 1025], count: usize, out: &mut [u8])
+pub fn write_lines(frames: &[u8], starts: &Starts, count: usize, out: &mut [u8])
     requires { ⌜ Held (now frames) (now starts) count
         × (length (textOf (inputOf (now frames) (now starts) count)) ≤ length (now out)) ⌝ }
     ensures { λ _. ⌜ now (out .exit)

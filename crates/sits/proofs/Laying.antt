@@ -1,6 +1,6 @@
 -- What laying out the statements before n leaves says where n sits.
 use mathlib.Core.Path.{_≡_, refl, sym, ap, _∙_}
-use mathlib.Core.List.{List, [], _++_}
+use mathlib.Core.List.{List, []}
 use Prim.Native.Nat.{ℕ, _+_, _≤_, _<_}
 use native.Mathlib.Omega.{arith}
 use lib.ListN.{length, getD, drop, replicate, getD-replicate}
@@ -14,14 +14,13 @@ use Rattle.rules.specs.Programs.{Program}
 use Rattle.rules.specs.Layout.{position}
 use Rattle.rules.specs.Names.{placed}
 use Rattle.rules.specs.Judging.{positionsFit}
-use Rattle.listing.specs.Tables.{frameAt, inputAt, inputOf, Held}
+use Rattle.listing.specs.Tables.{frameAt, inputAt, inputOf, formIn, Held}
 use Rattle.slots.specs.Slots.{Slots, slots, noOwner, programOf}
 use Rattle.slots.specs.declared.Checked.{Checked}
 use Rattle.slots.specs.declared.Checked.the-variants.{Passes, Refused}
 use Rattle.env.specs.Answers.{checkedAs}
 use Rattle.env.specs.Tables.{Any, LaidOut}
 use Rattle.env.proofs.Filled.{get-filled}
-use Rattle.asm.specs.Starting.{formIn}
 use Rattle.asm.proofs.Started.{program-as-read}
 use Rattle.sits.specs.Sits.{sitsAmong}
 
@@ -34,8 +33,8 @@ refused : (x : Check) (q : Refusal) → Refused q ≡ checkedAs x → x ≡ no q
 refused (ok u) q e = absurd (let z : _≡_ {A = ℕ} 0 1 = cc in omega arith)
 refused (no r) q e = let z : q ≡ r = cc in sym (ap no z)
 
-module _ (frames starts forms rest old positions : List ℕ) (count : ℕ) (held : Held frames starts count)
-    (own : forms ≡ tab (λ i. formIn (frameAt frames starts i)) count ++ rest)
+module _ (frames starts forms old positions : List ℕ) (count : ℕ) (held : Held frames starts count)
+    (own : (i : ℕ) → i < count → getD forms i 0 ≡ formIn (frameAt frames starts i))
     (r : Checked) (laid : Any frames starts count forms (λ t. LaidOut t r old positions)) (n : ℕ) where
   abbrev p : Program
   p = inputOf frames starts count
@@ -50,7 +49,7 @@ module _ (frames starts forms rest old positions : List ℕ) (count : ℕ) (held
   as-read : programOf t ≡ p
   as-read =
       program-as-read frames starts count held forms (tab (λ i. i) count) (replicate count noOwner) []
-      (λ i l. get-filled (λ k. formIn (frameAt frames starts k)) count forms rest i 0 own l)
+      own
       (λ i l. getD-tab (λ k. k) count i 0 l)
       (λ i l. getD-replicate count i noOwner 0 l)
 

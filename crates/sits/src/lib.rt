@@ -3,6 +3,7 @@ use asm::address_of;
 use asm::start_state;
 use env::lay_out;
 use listing::Listed;
+use listing::Starts;
 use listing::read_listing;
 use rules::Address;
 use rules::Place;
@@ -21,12 +22,12 @@ pub enum Sits {
 }
 
 // Where statement n sits behind the `count` statements before it that were read: 5 and 6, then 14.
-fn sits_behind(frames: &[u8], starts: &[u16; 1025], count: usize, n: usize) -> Sits
+fn sits_behind(frames: &[u8], starts: &Starts, count: usize, n: usize) -> Sits
     requires { ⌜ Held (now frames) (now starts) count ⌝ }
     ensures { λ r. ⌜ r ≡ sitsAs (sitsAmong n (inputOf (now (frames .entry)) (now (starts .entry)) count)) ⌝ }
 {
     let mut positions = [0u32; 1025];
-    let state = start_state(frames, starts, count);
+    let state = start_state(starts, count);
     match lay_out(frames, &state, count, &mut positions) {
         Checked::Refused(r) => return Sits::Refused(r),
         Checked::Passes => {}
@@ -42,7 +43,7 @@ pub fn where_sits(listing: &[u8], n: usize) -> Sits
     ensures { λ r. ⌜ r ≡ sitsAs (sits (now (listing .entry)) n) ⌝ }
 {
     let mut frames = [0u8; 28672];
-    let mut starts = [0u16; 1025];
+    let mut starts = [0u16; 4100];
     let mut lines = [0u32; 1024];
     let end = before::bytes_before(listing, n);
     match read_listing(&listing[..end], &mut frames, &mut starts, &mut lines) {

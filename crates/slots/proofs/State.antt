@@ -1,11 +1,12 @@
 -- Reads and stores of one row: a store in one leaves the others. Assumes nothing.
 use mathlib.Core.Path.{_≡_, refl, sym, ap, _∙_}
 use mathlib.Core.List.{List, [], _∷_, map}
-use Prim.Native.Nat.{ℕ, zero, suc, _%_, _≤_, _<_}
+use Prim.Native.Nat.{ℕ, zero, suc, _+_, _*_, _/_, _%_, _≤_, _<_}
 use native.Mathlib.Omega.{arith}
 use native.Mathlib.Nat.{mod-lt}
 use lib.ListN.{length, getD, set, length-map, List·getD-map}
 use lib.Seq.{getD-set-same, getD-set-other}
+use Rattle.laws.proofs.Counts.{getD-tab, tab-ext, tab-is}
 use Rattle.laws.proofs.Stores.{get-in}
 use Rattle.slots.specs.Slots.{Slots, slots}
 use Rattle.slots.specs.State.{lowBytes, startsIn, formsIn, carryIn, ownersIn, offsetsIn, tableOf, Kept, FormPut, CarryPut, Labelled, LabelPut}
@@ -44,23 +45,53 @@ row-same s k r h = getD-set-same s k r [] (row-in s k h)
 pub row-other : (s : List (List ℕ)) (k j : ℕ) (r : List ℕ) → (j ≡ k → ⊥) → getD (set s k r) j [] ≡ getD s j []
 row-other s k j r n = getD-set-other s k j r [] n
 
+-- ---- what reading found, in the first four rows
+
+pub found-at : (s : List (List ℕ)) (j i : ℕ) → j < 4 → i < 1025 → getD (startsIn s) (j * 1025 + i) 0 ≡ getD (getD s j []) i 0
+unfolding startsIn
+found-at s j i h l =
+    let row : (j * 1025 + i) / 1025 ≡ j = omega arith in
+    let place : (j * 1025 + i) % 1025 ≡ i = omega arith in
+    getD-tab (λ k. getD (getD s (k / 1025) []) (k % 1025) 0) 4100 (j * 1025 + i) 0 (omega arith) ∙ rw (row, place)
+
+pub start-at : (s : List (List ℕ)) (i : ℕ) → i < 1025 → getD (startsIn s) i 0 ≡ getD (getD s 0 []) i 0
+start-at s i l = let z : 0 * 1025 + i ≡ i = omega arith in ap (λ (k : ℕ). getD (startsIn s) k 0) (sym z) ∙ found-at s 0 i (omega arith) l
+
+-- a store in another row leaves it
+found-same : (s : List (List ℕ)) (k : ℕ) (r : List ℕ) → 4 ≤ k → startsIn (set s k r) ≡ startsIn s
+unfolding startsIn
+found-same s k r h =
+    tab-ext (λ n. getD (getD (set s k r) (n / 1025) []) (n % 1025) 0) (λ n. getD (getD s (n / 1025) []) (n % 1025) 0) 4100
+    (λ n l. ap (λ (z : List ℕ). getD z (n % 1025) 0) (row-other s k (n / 1025) r (λ e. omega arith)))
+
+-- the state has what was read
+pub found-is : (s : List (List ℕ)) (starts : List ℕ) → length starts ≡ 4100 → ((j i : ℕ) → j < 4 → i < 1025 → getD (getD s j []) i 0 ≡ getD starts (j * 1025 + i) 0)
+    → startsIn s ≡ starts
+unfolding startsIn
+found-is s starts size each =
+    sym
+    (tab-is (λ k. getD (getD s (k / 1025) []) (k % 1025) 0) 4100 starts 0 size
+    (λ k l.
+    (let e : k / 1025 * 1025 + k % 1025 ≡ k = omega arith in
+    ap (λ (n : ℕ). getD starts n 0) (sym e) ∙ sym (each (k / 1025) (k % 1025) (omega arith) (omega arith)))))
+
 -- what a store of a form leaves
-pub form-put : (s : List (List ℕ)) (i f : ℕ) → f < 256 → length (formsIn s) ≡ 1025 → FormPut s (set s 1 (set (getD s 1 []) i f)) i f
+pub form-put : (s : List (List ℕ)) (i f : ℕ) → f < 256 → length (formsIn s) ≡ 1025 → FormPut s (set s 4 (set (getD s 4 []) i f)) i f
 form-put s i f b h =
-    let r : List ℕ = set (getD s 1 []) i f in
+    let r : List ℕ = set (getD s 4 []) i f in
     record {
-      forms = ap lowBytes (row-same s 1 r (sym (length-bytes (getD s 1 [])) ∙ h)) ∙ bytes-set (getD s 1 []) i f b;
-      carry = row-other s 1 2 r (λ e. omega arith);
-      kept = record { starts = row-other s 1 0 r (λ e. omega arith); owners = row-other s 1 3 r (λ e. omega arith); offsets = row-other s 1 4 r (λ e. omega arith) };
+      forms = ap lowBytes (row-same s 4 r (sym (length-bytes (getD s 4 [])) ∙ h)) ∙ bytes-set (getD s 4 []) i f b;
+      carry = row-other s 4 5 r (λ e. omega arith);
+      kept = record { starts = found-same s 4 r (omega arith); owners = row-other s 4 6 r (λ e. omega arith); offsets = row-other s 4 7 r (λ e. omega arith) };
     }
 
-pub carry-put : (s : List (List ℕ)) (i c : ℕ) → length (carryIn s) ≡ 1025 → CarryPut s (set s 2 (set (getD s 2 []) i c)) i c
+pub carry-put : (s : List (List ℕ)) (i c : ℕ) → length (carryIn s) ≡ 1025 → CarryPut s (set s 5 (set (getD s 5 []) i c)) i c
 carry-put s i c h =
-    let r : List ℕ = set (getD s 2 []) i c in
+    let r : List ℕ = set (getD s 5 []) i c in
     record {
-      carry = row-same s 2 r h;
-      forms = ap lowBytes (row-other s 2 1 r (λ e. omega arith));
-      kept = record { starts = row-other s 2 0 r (λ e. omega arith); owners = row-other s 2 3 r (λ e. omega arith); offsets = row-other s 2 4 r (λ e. omega arith) };
+      carry = row-same s 5 r h;
+      forms = ap lowBytes (row-other s 5 4 r (λ e. omega arith));
+      kept = record { starts = found-same s 5 r (omega arith); owners = row-other s 5 6 r (λ e. omega arith); offsets = row-other s 5 7 r (λ e. omega arith) };
     }
 
 -- the slots of a state whose other rows are kept
@@ -79,19 +110,19 @@ kept-more a b c p q = record { starts = q .starts ∙ p .starts; owners = q .own
 
 -- ---- what a store of an inner label leaves
 pub label-put : (s : List (List ℕ)) (i owner offset : ℕ) → length (ownersIn s) ≡ 1025 → length (offsetsIn s) ≡ 1025
-    → LabelPut s (set (set s 3 (set (getD s 3 []) i owner)) 4 (set (getD (set s 3 (set (getD s 3 []) i owner)) 4 []) i offset)) i owner offset
+    → LabelPut s (set (set s 6 (set (getD s 6 []) i owner)) 7 (set (getD (set s 6 (set (getD s 6 []) i owner)) 7 []) i offset)) i owner offset
 label-put s i owner offset h k =
-    let a : List ℕ = set (getD s 3 []) i owner in
-    let s′ : List (List ℕ) = set s 3 a in
-    let b : List ℕ = set (getD s′ 4 []) i offset in
-    let there : getD s′ 4 [] ≡ getD s 4 [] = row-other s 3 4 a (λ e. omega arith) in
+    let a : List ℕ = set (getD s 6 []) i owner in
+    let s′ : List (List ℕ) = set s 6 a in
+    let b : List ℕ = set (getD s′ 7 []) i offset in
+    let there : getD s′ 7 [] ≡ getD s 7 [] = row-other s 6 7 a (λ e. omega arith) in
     record {
-      owners = row-other s′ 4 3 b (λ e. omega arith) ∙ row-same s 3 a h;
-      offsets = row-same s′ 4 b (ap length there ∙ k) ∙ ap (λ (l : List ℕ). set l i offset) there;
+      owners = row-other s′ 7 6 b (λ e. omega arith) ∙ row-same s 6 a h;
+      offsets = row-same s′ 7 b (ap length there ∙ k) ∙ ap (λ (l : List ℕ). set l i offset) there;
       labelled = record {
-        starts = row-other s′ 4 0 b (λ e. omega arith) ∙ row-other s 3 0 a (λ e. omega arith);
-        forms = ap lowBytes (row-other s′ 4 1 b (λ e. omega arith) ∙ row-other s 3 1 a (λ e. omega arith));
-        carry = row-other s′ 4 2 b (λ e. omega arith) ∙ row-other s 3 2 a (λ e. omega arith);
+        starts = found-same s′ 7 b (omega arith) ∙ found-same s 6 a (omega arith);
+        forms = ap lowBytes (row-other s′ 7 4 b (λ e. omega arith) ∙ row-other s 6 4 a (λ e. omega arith));
+        carry = row-other s′ 7 5 b (λ e. omega arith) ∙ row-other s 6 5 a (λ e. omega arith);
       };
     }
 

@@ -5,6 +5,7 @@ use asm::judge;
 use asm::start_state;
 use env::fill_contexts;
 use listing::Listed;
+use listing::Starts;
 use listing::read_listing;
 use rules::Refusal;
 use slots::State;
@@ -87,7 +88,7 @@ fn place_slots(frames: &[u8], state: &mut State, count: usize, links: &mut [u16;
 // The slots of a listing as read: each instruction with its own form and target, and no target an inner label.
 fn start_slots(
     frames: &[u8],
-    starts: &[u16; 1025],
+    starts: &Starts,
     count: usize,
     state: &mut State,
     links: &mut [u16; 28672],
@@ -97,7 +98,7 @@ fn start_slots(
         ⌜ AnchoredAs (inputOf (now (frames .entry)) (now (starts .entry)) count) r t (now (links .exit))
         × (startsIn (now (state .exit)) ≡ now (starts .entry)) ⌝ }
 {
-    *state = start_state(frames, starts, count);
+    *state = start_state(starts, count);
     place_slots(frames, state, count, links)
 }
 
@@ -112,7 +113,7 @@ pub fn begin(
     ensures { λ r. let over : (n : ℕ) → Slots = λ n. tableOf (now (frames .exit)) (now (state .exit)) n in
         ⌜ BegunAs (accepted (now (listing .entry))) r over (now (links .exit)) ⌝ }
 {
-    let mut starts = [0u16; 1025];
+    let mut starts = [0u16; 4100];
     let mut lines = [0u32; 1024];
     match read_listing(listing, frames, &mut starts, &mut lines) {
         Listed::Refused(r) => Begun::Refused(r),

@@ -25,7 +25,7 @@ fn count_steps(asked: Settings, listing: &[u8]) -> Counted
     ensures { λ r. ⌜ r ≡ countedAs asked (accepted (now (listing .entry))) ⌝ }
 {
     let mut frames = [0u8; 28672];
-    let mut state = [[0u16; 1025]; 5];
+    let mut state = [[0u16; 1025]; 8];
     let mut links = [0u16; 28672];
     match begin(listing, &mut frames, &mut state, &mut links) {
         Begun::Refused(r) => Counted::Refused(r),
@@ -42,7 +42,7 @@ fn write_all(asked: Settings, listing: &[u8], out: &mut [u8])
     ensures { λ _. ⌜ now (out .exit) ≡ laid (now (out .entry)) 0 (linesFor asked (accepted (now (listing .entry)))) ⌝ }
 {
     let mut frames = [0u8; 28672];
-    let mut state = [[0u16; 1025]; 5];
+    let mut state = [[0u16; 1025]; 8];
     let mut links = [0u16; 28672];
     match begin(listing, &mut frames, &mut state, &mut links) {
         Begun::Refused(_) => {}

@@ -9,7 +9,6 @@ use crate::writing::write_lines;
 use optimize::optimize;
 use rules::Refusal;
 use rules::Settings;
-use slots::START;
 use slots::State;
 use starting::Begun;
 use starting::begin;
@@ -96,7 +95,7 @@ fn rewrite_and_tell(
         ⌜ Fits p (optimized asked p .program) r (now (out .entry)) (now (out .exit)) ⌝ }
 {
     let mut before = [[0u8; 8]; 1024];
-    find_aims_read(frames, &state[START], count, links, &mut before);
+    find_aims_read(frames, state, count, links, &mut before);
     optimize(asked, frames, state, count, links);
     tell_end(frames, state, count, links, &before, out)
 }
@@ -106,7 +105,7 @@ pub fn targets(asked: Settings, listing: &[u8], out: &mut [u8]) -> Told
     ensures { λ r. ⌜ Leaves (told asked (now (listing .entry)) (length (now (out .entry)))) r (now (out .entry)) (now (out .exit)) ⌝ }
 {
     let mut frames = [0u8; 28672];
-    let mut state = [[0u16; 1025]; 5];
+    let mut state = [[0u16; 1025]; 8];
     let mut links = [0u16; 28672];
     match begin(listing, &mut frames, &mut state, &mut links) {
         Begun::Refused(r) => Told::Refused(r),

@@ -5,12 +5,14 @@ use asm::Verdict;
 use asm::judge_linked;
 use asm::start_state;
 use instruction::tables::is_transfer;
+use listing::Starts;
 use patterns::targets::form_at;
 use rules::Place;
 use slots::State;
 ghost use mathlib.Core.Path.{_≡_};
 ghost use mathlib.Core.Bool.{true};
-ghost use Prim.Native.Nat.{_<_};
+ghost use mathlib.Core.List.{List};
+ghost use Prim.Native.Nat.{ℕ, _<_};
 ghost use lib.ListN.{length};
 ghost use Rattle.rules.specs.Forms.{isTransfer};
 ghost use Rattle.rules.specs.Judging.{assembles};
@@ -83,18 +85,35 @@ pub fn find_aims(frames: &[u8], state: &State, count: usize, links: &[u16; 28672
     }
 }
 
+// What reading found, from the rows of a state: no rewrite changes them.
+fn stripes(state: &State) -> Starts
+    ensures { λ r. ⌜ r ≡ startsIn (now (state .entry)) ⌝ }
+{
+    let mut starts = [0u16; 4100];
+    let mut k = 0;
+    while k < 4100 {
+        let row = k / 1025;
+        let i = k % 1025;
+        starts[k] = state[row][i];
+        k += 1;
+    }
+    starts
+}
+
 // Of the listing as it was read, which assembles.
 pub fn find_aims_read(
     frames: &[u8],
-    starts: &[u16; 1025],
+    state: &State,
     count: usize,
     links: &[u16; 28672],
     aims: &mut Aims,
 )
-    requires { ⌜ Held (now frames) (now starts) count × (assembles (inputOf (now frames) (now starts) count) ≡ true)
-        × Beside (now frames) (now starts) count (now links) × (length (now aims) ≡ 1024) ⌝ }
-    ensures { λ _. ⌜ AimsIn (inputOf (now (frames .entry)) (now (starts .entry)) count) count (now (aims .exit)) ⌝ }
+    requires { let starts : List ℕ = startsIn (now state) in
+        ⌜ Held (now frames) starts count × (assembles (inputOf (now frames) starts count) ≡ true)
+        × Beside (now frames) starts count (now links) × (length (now aims) ≡ 1024) ⌝ }
+    ensures { λ _. ⌜ AimsIn (inputOf (now (frames .entry)) (startsIn (now (state .entry))) count) count (now (aims .exit)) ⌝ }
 {
-    let first = start_state(frames, starts, count);
+    let starts = stripes(state);
+    let first = start_state(&starts, count);
     find_aims(frames, &first, count, links, aims);
 }

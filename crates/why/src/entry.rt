@@ -111,7 +111,7 @@ pub fn why(asked: Settings, listing: &[u8], out: &mut [u8]) -> Answer
     ensures { λ r. ⌜ Leaves (told asked (now (listing .entry)) (length (now (out .entry)))) r (now (out .entry)) (now (out .exit)) ⌝ }
 {
     let mut frames = [0u8; 28672];
-    let mut state = [[0u16; 1025]; 5];
+    let mut state = [[0u16; 1025]; 8];
     let mut links = [0u16; 28672];
     match begin(listing, &mut frames, &mut state, &mut links) {
         Begun::Refused(r) => Answer::Refused(r),

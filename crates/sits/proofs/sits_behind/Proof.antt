@@ -16,13 +16,13 @@ use Rattle.sits.proofs.sits_behind.Statement.{statement}
 use Rattle.sits.proofs.sits_behind.Tie as tie
 
 start-state-requires : tie.Need-start-state-requires
-start-state-requires c κs = search needs
+start-state-requires c κs = let s = c .before in (s .args .frames .now, s .pre)
 
 lay-out-requires : tie.Need-lay-out-requires
 lay-out-requires c κs =
     let y = c .before .before in
     let s = y .before .before in
-    (subst (λ (z : List ℕ). Held (s .args .frames .now) z (s .args .count)) (sym (y .start-state .ensures .begins)) (s .pre), search needs)
+    (subst (λ (z : List ℕ). Held (s .args .frames .now) z (s .args .count)) (sym (y .start-state .ensures (s .args .frames .now) (s .pre) .begins)) (s .pre), search needs)
 
 -- the frames begin where they were read
 as-read : (frames starts : List ℕ) (count : ℕ) (state : List (List ℕ)) (r : Checked) (old positions : List ℕ) → Started frames starts count state
@@ -51,8 +51,8 @@ returns : tie.Need-returns
 returns c =
     let call = c .before .before .before in
     let n = begin call .args .n in
-    let filled = call .before .before .before .start-state .ensures in
-    sym (ap sitsAs (laid-refused (frames call) (starts call) _ _ _ _ (begin call .args .count) (begin call .pre) (filled .forms)
+    let filled = call .before .before .before .start-state .ensures (frames call) (begin call .pre) in
+    sym (ap sitsAs (laid-refused (frames call) (starts call) _ _ _ (begin call .args .count) (begin call .pre) (filled .forms)
     (call .lay-out .result) (as-read (frames call) (starts call) (begin call .args .count) _ (call .lay-out .result) _ _ filled (call .lay-out .ensures .1)) n _ (c .before .r .given .1)))
 
 enum-told : tie.Need-enum-told
@@ -62,8 +62,8 @@ returns-2 : tie.Need-returns-2
 returns-2 c =
     let call = c .before .before .before in
     let n = begin call .args .n in
-    let filled = call .before .before .before .start-state .ensures in
-    sym (ap sitsAs (laid-absent (frames call) (starts call) _ _ _ _ (begin call .args .count) (begin call .pre) (filled .forms)
+    let filled = call .before .before .before .start-state .ensures (frames call) (begin call .pre) in
+    sym (ap sitsAs (laid-absent (frames call) (starts call) _ _ _ (begin call .args .count) (begin call .pre) (filled .forms)
     (call .lay-out .result) (as-read (frames call) (starts call) (begin call .args .count) _ (call .lay-out .result) _ _ filled (call .lay-out .ensures .1)) n (c .before .enum-told .given .1) (omega arith)))
 
 address-of-requires : tie.Need-address-of-requires
@@ -73,8 +73,8 @@ returns-3 : tie.Need-returns-3
 returns-3 c =
     let call = c .before .before .before .before .before in
     let n = begin call .args .n in
-    let filled = call .before .before .before .start-state .ensures in
-    let at = laid-at (frames call) (starts call) _ _ _ _ (begin call .args .count) (begin call .pre) (filled .forms)
+    let filled = call .before .before .before .start-state .ensures (frames call) (begin call .pre) in
+    let at = laid-at (frames call) (starts call) _ _ _ (begin call .args .count) (begin call .pre) (filled .forms)
     (call .lay-out .result) (as-read (frames call) (starts call) (begin call .args .count) _ (call .lay-out .result) _ _ filled (call .lay-out .ensures .1)) n (c .before .before .before .enum-told .given .1) (omega arith) in
     ap (λ (a : ℕ). At (record { 0 = a })) (c .address-of .ensures ∙ add-zero _) ∙ sym (ap sitsAs at)
 

@@ -20,7 +20,7 @@ low-requires : tie.Need-low-requires
 low-requires c κs = search needs
 
 returns : tie.Need-returns
-returns c = let s = c .before .before in c .low .ensures ∙ sym (byte-at (getD (s .args .state .now) 1 []) (s .args .at .0))
+returns c = let s = c .before .before in c .low .ensures ∙ sym (byte-at (getD (s .args .state .now) 4 []) (s .args .at .0))
 
 pub form-in-spec : {M : Type 1} → statement M
 form-in-spec = tie.close (tie.spec mul-low index-1-low index-2-low low-requires returns)

@@ -8,7 +8,7 @@ use Rattle.starting.proofs.start_slots.Statement.{statement}
 use Rattle.starting.proofs.start_slots.Tie as tie
 
 start-state-requires : tie.Need-start-state-requires
-start-state-requires c κs = search needs
+start-state-requires c κs = let s = c .before in (s .args .frames .now, s .pre .0)
 
 place-slots-requires : tie.Need-place-slots-requires
 place-slots-requires c κs =
@@ -16,7 +16,7 @@ place-slots-requires c κs =
     let s = y .before .before in
     let n = s .args .count in
     let h = s .pre .0 in
-    let e = y .start-state .ensures in (
+    let e = y .start-state .ensures (s .args .frames .now) (s .pre .0) in (
       start-sound (s .args .frames .now) (s .args .starts .now) n h _ e,
       start-read (s .args .frames .now) (s .args .starts .now) n h _ e,
       start-full (s .args .frames .now) (s .args .starts .now) n h _ e,
@@ -29,7 +29,7 @@ returns c =
     let y = c .before .before .before in
     let s = y .before .before in
     let n = s .args .count in
-    let e = y .start-state .ensures in (
+    let e = y .start-state .ensures (s .args .frames .now) (s .pre .0) in (
       anchored-as _ (inputOf (s .args .frames .now) (s .args .starts .now) n) (start-program (s .args .frames .now) (s .args .starts .now) n (s .pre .0) _ e) (c .place-slots .ensures .0),
       c .place-slots .ensures .1 ∙ e .begins,
     )

@@ -10,7 +10,8 @@ use Rattle.rules.specs.Programs.{Program}
 use Rattle.slots.specs.Slots.{Slots}
 use Rattle.slots.specs.State.{formsIn, carryIn, tableOf, Kept}
 use Rattle.slots.proofs.State.{kept-more}
-use Rattle.attempts.specs.Folds.{bounced}
+use Rattle.attempts.specs.Folds.{bounced, Bounces}
+use Rattle.attempts.specs.Standing.{Standing}
 use Rattle.attempts.proofs.Attempts.{Holding, bounced-holds, held-kept, beside-kept, table-same, tried-kept, tried-none, tried-back, undone-three}
 use Rattle.attempts.proofs.folds.attempt_trampoline.Statement.{statement}
 use Rattle.attempts.proofs.folds.attempt_trampoline.Tie as tie
@@ -18,16 +19,16 @@ use Rattle.attempts.proofs.folds.attempt_trampoline.Tie as tie
 -- the four places are within the state
 module _ (s : tie.Start) where
   at-in : s .args .at .0 < 1024
-  at-in = omega (arith, s .pre .0 .sound .held .few, s .pre .1 .branches .inside)
+  at-in = omega (arith, s .pre .0 .sound .held .few, s .pre .1 .1 .branches .inside)
 
   skip-in : s .args .skip .0 < 1024
-  skip-in = omega (arith, s .pre .0 .sound .held .few, s .pre .1 .skips .inside)
+  skip-in = omega (arith, s .pre .0 .sound .held .few, s .pre .1 .1 .skips .inside)
 
   last-in : s .args .last .0 < 1024
-  last-in = omega (arith, s .pre .0 .sound .held .few, s .pre .1 .jumps .inside)
+  last-in = omega (arith, s .pre .0 .sound .held .few, s .pre .1 .1 .jumps .inside)
 
   target-in : s .args .target .0 < 1024
-  target-in = omega (arith, last-in, s .pre .1 .last-rises)
+  target-in = omega (arith, last-in, s .pre .1 .1 .last-rises)
 
 put-three-requires : tie.Need-put-three-requires
 put-three-requires c κs =
@@ -72,8 +73,8 @@ module _ (c : tie.After-put-carry) where
   abbrev new : Slots
   new = tableOf (start .args .frames .now) edited (start .args .count)
 
-  abbrev folded : Program
-  folded = bounced old (start .args .form) i skip target last
+  abbrev folded : ℕ → Program
+  folded f = bounced old f i skip target last
 
   kept : Kept state edited
   kept = kept-more state (three .put-three .last .0) edited (three .put-three .ensures .2) (c .put-carry .ensures .kept)
@@ -84,43 +85,46 @@ module _ (c : tie.After-put-carry) where
   carry-is : carryIn edited ≡ set (carryIn state) i (getD (carryIn state) last 0)
   carry-is = c .put-carry .ensures .carry ∙ ap (λ (l : List ℕ). set l i (getD (carryIn state) last 0)) (three .put-three .ensures .1)
 
-  held : Holding new folded
-  held =
-      held-kept (start .args .frames .now) state edited (start .args .count) kept folded
-      (bounced-holds _ _ _ _ _ _ _ (start .pre .0) (start .args .form) i skip target last (formsIn edited) (carryIn edited) (start .pre .1) forms-are carry-is)
+  held : (f : ℕ) → Bounces old f i skip target last → Holding new (folded f)
+  held f b =
+      held-kept (start .args .frames .now) state edited (start .args .count) kept (folded f)
+      (bounced-holds _ _ _ _ _ _ _ (start .pre .0) f i skip target last (formsIn edited) (carryIn edited) b forms-are carry-is)
+
+  stands : Standing new
+  stands = held (start .pre .1 .0) (start .pre .1 .1) .stands
 
 acceptable-requires : tie.Need-acceptable-requires
 acceptable-requires c κs =
     let p = c .before in
     let s = start p in
-    (held p .stands, s .pre .1 .branches .inside, beside-kept (s .args .frames .now) (state p) (edited p) (s .args .count) (kept p) _ (s .pre .2))
+    (stands p, s .pre .1 .1 .branches .inside, beside-kept (s .args .frames .now) (state p) (edited p) (s .args .count) (kept p) _ (s .pre .2))
 
 returns : tie.Need-returns
-returns c =
+returns c f b =
     let a = c .before in
     let p = a .before .before in
-    tried-kept (folded p) (old p) (new p) (held p) (a .acceptable .result) (a .acceptable .ensures) (c .if1 .taken) (kept p .starts)
+    tried-kept (folded p f) (old p) (new p) (held p f b) (a .acceptable .result) (a .acceptable .ensures) (c .if1 .taken) (kept p .starts)
 
 put-three-requires-2 : tie.Need-put-three-requires-2
 put-three-requires-2 c κs =
     let p = c .before .before .before .before in
     let s = start p in
-    (held p .stands .forms-full, skip-in s, target-in s, last-in s)
+    (stands p .forms-full, skip-in s, target-in s, last-in s)
 
 put-carry-requires-2 : tie.Need-put-carry-requires-2
 put-carry-requires-2 c κs =
     let t = c .before in
     let p = t .before .before .before .before .before in
-    (omega (arith, at-in (start p)), ap length (t .put-three2 .ensures .1) ∙ held p .stands .carry-full)
+    (omega (arith, at-in (start p)), ap length (t .put-three2 .ensures .1) ∙ stands p .carry-full)
 
 returns-2 : tie.Need-returns-2
-returns-2 c =
+returns-2 c n o =
     let t = c .before .before in
     let f = t .before .before in
     let a = f .before in
     let p = a .before .before in
     let s = start p in
-    let b = s .pre .1 in
+    let b = s .pre .1 .1 in
     let r = c .put-carry2 .last .0 in
     let one = three p .before .before .before .before .before .before .before .before in
     let two = three p .before .before .before .before .before .before in
@@ -131,7 +135,7 @@ returns-2 c =
     ∙ ap (λ (x : ℕ). set (set (set (formsIn (edited p)) (skip p) x) (target p) (two .form-in2 .result)) (last p) (six .form-in3 .result)) (one .form-in .ensures)
     ∙ ap₂ (λ (x y : ℕ). set (set (set (formsIn (edited p)) (skip p) (getD (formsIn (state p)) (skip p) 0)) (target p) x) (last p) y) (two .form-in2 .ensures) (six .form-in3 .ensures)) in
     tried-back _ (old p) _ (s .pre .0)
-    (tried-none (folded p) (old p) (new p) (held p) (a .acceptable .result) (a .acceptable .ensures) (f .if1 .left))
+    (tried-none (folded p n) (old p) (new p) (held p n o) (a .acceptable .result) (a .acceptable .ensures) (f .if1 .left))
     (table-same (s .args .frames .now) (state p) r (s .args .count)
     (kept-more (state p) (edited p) r (kept p) (kept-more (edited p) (t .put-three2 .last .0) r (t .put-three2 .ensures .2) (c .put-carry2 .ensures .kept))) back
     (undone (carryIn (state p)) (carryIn (edited p)) (carryIn r) (i p) _ _ 0 (carry-is p) refl

@@ -58,7 +58,7 @@ attempt-trampoline-requires : tie.Need-attempt-trampoline-requires
 attempt-trampoline-requires c κs =
     let j = c .before .before in
     let s = start j in
-    (s .pre .0, bounces (old s) (s .args .form) (i s) (skip j) (target j) (last j) (label j) (found j), s .pre .3)
+    (s .pre .0, (s .args .form, bounces (old s) (s .args .form) (i s) (skip j) (target j) (last j) (label j) (found j)), s .pre .3)
 
 returns-2 : tie.Need-returns-2
 returns-2 c =
@@ -66,7 +66,8 @@ returns-2 c =
     let s = start j in
     tried-as (trampolineAt (s .args .form) (programOf (old s)) (i s)) (candidate (bounced (old s) (s .args .form) (i s) (skip j) (target j) (last j))) (old s)
     _ (c .attempt-trampoline .result)
-    (bounced-is (old s) (s .args .form) (i s) (skip j) (target j) (last j) (label j) (found j)) (c .attempt-trampoline .ensures)
+    (bounced-is (old s) (s .args .form) (i s) (skip j) (target j) (last j) (label j) (found j))
+    (c .attempt-trampoline .ensures (s .args .form) (bounces (old s) (s .args .form) (i s) (skip j) (target j) (last j) (label j) (found j)))
 
 pub try-trampoline-spec : {M : Type 1} → statement M
 try-trampoline-spec =

@@ -75,7 +75,7 @@ own-worth-requires c κs =
     let b = c .before .before .before in
     let f = b .before .before in
     let s = f .before .before .before .before .before in
-    rw (f .frame-at .ensures, b .links-at .ensures) (instruction s, omega (arith, h .0, h .1), s .pre .0 .few, beside s)
+    rw (f .frame-at .ensures, b .links-at .ensures) (instruction s, omega (arith, h .0, h .1), s .pre .0 .few, beside s, s .pre .1 .inside, s .pre .0 .noted (s .args .c .0) (s .pre .1 .inside))
 
 returns-2 : tie.Need-returns-2
 returns-2 c z e forms carry offsets names p k =

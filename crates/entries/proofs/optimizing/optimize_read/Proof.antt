@@ -16,14 +16,14 @@ use Rattle.entries.proofs.optimizing.optimize_read.Statement.{statement
 use Rattle.entries.proofs.optimizing.optimize_read.Tie as tie
 
 start-state-requires : tie.Need-start-state-requires
-start-state-requires c κs = search needs
+start-state-requires c κs = let s = c .before .before .before .before in (s .args .frames .now, s .pre)
 
 place-read-requires : tie.Need-place-read-requires
 place-read-requires c κs =
     let y = c .before .before .before in
     let s = y .before .before .before .before .before in
     let n = s .args .count in
-    let e = y .start-state .ensures in (
+    let e = y .start-state .ensures (s .args .frames .now) (s .pre) in (
       start-sound (s .args .frames .now) (s .args .starts .now) n (s .pre) _ e,
       start-read (s .args .frames .now) (s .args .starts .now) n (s .pre) _ e,
       start-full (s .args .frames .now) (s .args .starts .now) n (s .pre) _ e,
@@ -54,7 +54,7 @@ module _ (p : tie.After-place-read) where
   delivered =
       let n = start .args .count in
       delivers-program (start .args .asked) (besideIn (start .args .marked) (start .args .lines .now) n) _ (inputOf (start .args .frames .now) (start .args .starts .now) n)
-      (length (start .args .list .now)) _ n (start-program (start .args .frames .now) (start .args .starts .now) n (start .pre) _ (started .start-state .ensures)) (p .place-read .ensures)
+      (length (start .args .list .now)) _ n (start-program (start .args .frames .now) (start .args .starts .now) n (start .pre) _ (started .start-state .ensures (start .args .frames .now) (start .pre))) (p .place-read .ensures)
 
 write-stems-requires : tie.Need-write-stems-requires
 write-stems-requires c κs =

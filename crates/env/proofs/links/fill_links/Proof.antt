@@ -28,22 +28,22 @@ loop-holds c = let s = c .before in (omega arith, s .pre .1, λ h j l. absurd (o
 
 link-frame-requires : tie.Need-link-frame-requires Inv-loop μ-loop
 link-frame-requires c κs =
-    let l = c .before .before .before .before .before .before .before in
+    let l = c .before .before .before .before .before in
     let s = l .before .before in
-    let ends = edges (s .args .frames .now) (startsIn (s .args .state .now)) (s .args .count) (s .pre .0) (l .loop .i) (c .before .before .before .before .wide .result) (c .before .before .wide2 .result)
-    (c .before .before .before .before .before .before .loop-test .taken) (c .before .before .before .before .wide .ensures) (c .before .before .wide2 .ensures) in
+    let ends = edges (s .args .frames .now) (startsIn (s .args .state .now)) (s .args .count) (s .pre .0) (l .loop .i) (c .before .before .before .start-at .result) (c .before .before .start-at2 .result)
+    (c .before .before .before .before .loop-test .taken) (c .before .before .before .start-at .ensures) (c .before .before .start-at2 .ensures) in
     ((s .pre .0 .full, l .loop .inv .1, omega (arith, ends .0), omega (arith, ends .1, s .pre .0 .full)), (s .pre .0 .few, s .pre .2))
 
 loop-again : tie.Need-loop-again Inv-loop μ-loop
 loop-again c =
-    let w = c .before .before .before .before .before in
+    let w = c .before .before .before .before in
     let e = c .before .before .before in
-    let l = c .before .before .before .before .before .before .before .before in
+    let l = c .before .before .before .before .before .before in
     let s = l .before .before in (
-      omega (arith, c .before .before .before .before .before .before .before .loop-test .taken),
+      omega (arith, c .before .before .before .before .before .loop-test .taken),
       c .link-frame .ensures .0,
       λ h. all-next (s .args .frames .now) (startsIn (s .args .state .now)) (s .args .count) h (s .args .names .now) (s .args .contexts .now) (l .loop .i) (l .loop .links) _
-          (c .before .before .before .before .before .before .before .loop-test .taken) (l .loop .inv .2 h) (rw (w .wide .ensures, e .wide2 .ensures) at (c .link-frame .ensures .1)),
+          (c .before .before .before .before .before .loop-test .taken) (l .loop .inv .2 h) (rw (w .start-at .ensures, e .start-at2 .ensures) at (c .link-frame .ensures .1)),
     )
 
 returns : tie.Need-returns Inv-loop μ-loop
@@ -63,19 +63,13 @@ fill-links-spec =
     Inv-loop
     μ-loop
     loop-holds
-    (λ c. omega (arith, inside c))
-    (λ c. search needs)
-    (λ c. omega (arith, inside c))
-    (λ c κs. search needs)
+    (λ c κs. omega (arith, inside c))
+    (λ c. omega (arith, inside (c .before)))
+    (λ c κs. omega (arith, inside (c .before)))
     (λ c. omega (arith, inside (c .before .before)))
     (λ c. omega (arith, inside (c .before .before)))
-    (λ c. search needs)
-    (λ c. omega (arith, inside (c .before .before)))
-    (λ c κs. search needs)
-    (λ c. omega (arith, inside (c .before .before .before .before)))
-    (λ c. omega (arith, inside (c .before .before .before .before)))
     link-frame-requires
-    (λ c. omega (arith, inside (c .before .before .before .before .before .before .before)))
+    (λ c. omega (arith, inside (c .before .before .before .before .before)))
     (λ c. omega arith)
     loop-again
     returns)

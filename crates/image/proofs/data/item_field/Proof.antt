@@ -113,7 +113,7 @@ pub item-field-spec : {M : Type 1} → statement M
 item-field-spec =
     tie.close
     (tie.spec
-    (λ c κs. search needs)
+    (λ c κs. let s = c .before .before in ((s .args .at .0, s .pre .0), s .pre .1))
     sub-linked-worth
     part-linked-worth-start
     (λ c. search needs)

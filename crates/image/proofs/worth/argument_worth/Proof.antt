@@ -129,6 +129,8 @@ own-worth-requires c κs =
       omega (arith, s .pre .3, count-kinds (here s) held (s .args .at .0) (s .pre .1) (s .pre .2) (agrees s)),
       held .few,
       beside s,
+      s .pre .1,
+      held .noted (s .args .at .0) (s .pre .1),
     )
 
 returns-2 : tie.Need-returns-2

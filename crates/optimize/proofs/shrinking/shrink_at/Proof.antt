@@ -62,7 +62,7 @@ shrink-jump-requires c κs =
     (s .pre .0, s .pre .1, s .pre .2, s .pre .3, s .pre .4, instruction o, form g _ (i .if2 .taken))
 
 returns-2 : tie.Need-returns-2
-returns-2 c = c .shrink-jump .ensures
+returns-2 c = c .shrink-jump .ensures _
 
 returns-3 : tie.Need-returns-3
 returns-3 c =

@@ -26,22 +26,22 @@ is-change-jump-requires : tie.Need-is-change-jump-requires
 is-change-jump-requires c κs = let s = c .before .before in (s .pre .2, s .pre .4)
 
 returns : tie.Need-returns
-returns c =
+returns c asked =
     let j = c .before in
     let s = j .before .before .before in
-    tried-none (shrinkAt (s .args .asked) (its s) (programOf (here s)) (s .args .at .0))
-    (shrink-change (s .args .asked) (its s) (here s) (s .args .at .0) (s .pre .4) (s .pre .5) (s .pre .6) (judged j ∙ c .if1 .taken)) (s .pre .0)
+    tried-none (shrinkAt asked (its s) (programOf (here s)) (s .args .at .0))
+    (shrink-change asked (its s) (here s) (s .args .at .0) (s .pre .4) (s .pre .5) (s .pre .6) (judged j ∙ c .if1 .taken)) (s .pre .0)
 
 try-br-then-jmp-requires : tie.Need-try-br-then-jmp-requires
 try-br-then-jmp-requires c κs = let s = c .before .before .before .before .before in (s .pre .0, s .pre .1, s .pre .4, s .pre .5, s .pre .6, s .pre .3, s .pre .2 .position)
 
 returns-2 : tie.Need-returns-2
-returns-2 c =
+returns-2 c asked =
     let i = c .before .before in
     let j = i .before in
     let s = j .before .before .before in
-    tried-as _ (shrinkAt (s .args .asked) (its s) (programOf (here s)) (s .args .at .0))
-    (shrink-plain (s .args .asked) (its s) (here s) (s .args .at .0) (s .pre .4) (s .pre .5) (s .pre .6) (judged j ∙ i .if1 .left)) (c .try-br-then-jmp .ensures)
+    tried-as _ (shrinkAt asked (its s) (programOf (here s)) (s .args .at .0))
+    (shrink-plain asked (its s) (here s) (s .args .at .0) (s .pre .4) (s .pre .5) (s .pre .6) (judged j ∙ i .if1 .left)) (c .try-br-then-jmp .ensures)
 
 pub shrink-jump-spec : {M : Type 1} → statement M
 shrink-jump-spec = tie.close (tie.spec is-change-jump-requires returns try-br-then-jmp-requires returns-2)

@@ -44,7 +44,10 @@ frame-at-requires : tie.Need-frame-at-requires
 frame-at-requires c κs = (c .before .pre .held, c .before .pre .own .inside)
 
 own-end-requires : tie.Need-own-end-requires
-own-end-requires c κs = rw (c .frame-at .ensures) (c .before .before .pre .own .reads)
+own-end-requires c κs =
+    let s = c .before .before in
+    let w = s .pre .own in
+    rw (c .frame-at .ensures) (w .reads, omega (arith, w .inside, s .pre .held .few), s .pre .held .noted (s .args .at .0) (w .inside))
 
 own-is : (c : tie.After-own-end) → c .own-end .result ≡ ownEnd (frame (c .before .before .before))
 own-is c = c .own-end .ensures ∙ ap ownEnd (c .before .frame-at .ensures)

@@ -27,7 +27,10 @@ frame-at-requires : tie.Need-frame-at-requires
 frame-at-requires c κs = (c .before .before .before .pre .0, c .before .before .before .pre .1 .inside)
 
 own-end-requires : tie.Need-own-end-requires
-own-end-requires c κs = rw (c .frame-at .ensures) (c .before .before .before .before .pre .1 .reads)
+own-end-requires c κs =
+    let s = c .before .before .before .before in
+    let w = s .pre .1 in
+    rw (c .frame-at .ensures) (w .reads, omega (arith, w .inside, s .pre .0 .few), s .pre .0 .noted (s .args .from .0) (w .inside))
 
 -- the frame of the place
 module _ (c : tie.After-own-end) where

@@ -61,11 +61,15 @@ frame-at-requires c κs = let s = c .before .before .before in (s .pre .0 .held,
 put-own-requires : tie.Need-put-own-requires
 put-own-requires c κs =
     let s = c .before .before .before .before .before in
-    let e = c .before .frame-at .ensures in
-    (rw e (s .pre .0 .own .reads), omega (arith, ap ownEnd e, own-length s, room s))
+    let e = c .before .frame-at .ensures in (
+      rw e (s .pre .0 .own .reads),
+      omega (arith, ap ownEnd e, own-length s, room s),
+      omega (arith, s .pre .0 .own .inside, s .pre .0 .held .few),
+      rw e (s .pre .0 .held .noted (s .args .place .0) (s .pre .0 .own .inside)),
+    )
 
 -- the own bytes stand there
-put : (c : tie.After-put-own) → let s = c .before .before .before .before .before .before in Put (s .args .out .now) (s .args .at) (own s) (c .put-own .last .1 .1 .1 .0) (c .put-own .result)
+put : (c : tie.After-put-own) → let s = c .before .before .before .before .before .before in Put (s .args .out .now) (s .args .at) (own s) (c .put-own .last .1 .1 .1 .1 .0) (c .put-own .result)
 put c =
     let s = c .before .before .before .before .before .before in
     rw (← c .before .before .frame-at .ensures, ← c .before .before .before .form-in .ensures) (c .put-own .ensures)
@@ -101,7 +105,7 @@ put-target-requires c κs =
       s .pre .0 .held,
       rw (w .wide .ensures) (s .pre .0 .target (transfers w)),
       subst (λ k. NumberLow (ownersIn (s .args .state .now)) (s .args .positions .now) k) (sym (w .wide .ensures)) (s .pre .1 (transfers w)),
-      omega (arith, room s, put o .ends, ap length (target-is w), o .put-own .kept .1 .1 .1 .0),
+      omega (arith, room s, put o .ends, ap length (target-is w), o .put-own .kept .1 .1 .1 .1 .0),
     )
 
 same-length : tie.Need-same-length
@@ -113,8 +117,8 @@ returns c =
     let s = c .before .before .before .before .before .before .before .before .before .before .before .before .before .before .before .before in
     let o = c .before .before .before .before .before .before .before .before .before .before in
     let p = c .before .before in
-    let behind : Put (o .put-own .last .1 .1 .1 .0) (o .put-own .result) (carried s) (p .put-target .last .1 .1 .1 .1 .1 .0) (p .put-target .result) = rw (← target-is w) (p .put-target .ensures) in
-    put-more (s .args .out .now) (s .args .at) (own s) (o .put-own .last .1 .1 .1 .0) (o .put-own .result) (carried s) (p .put-target .last .1 .1 .1 .1 .1 .0) (p .put-target .result)
+    let behind : Put (o .put-own .last .1 .1 .1 .1 .0) (o .put-own .result) (carried s) (p .put-target .last .1 .1 .1 .1 .1 .0) (p .put-target .result) = rw (← target-is w) (p .put-target .ensures) in
+    put-more (s .args .out .now) (s .args .at) (own s) (o .put-own .last .1 .1 .1 .1 .0) (o .put-own .result) (carried s) (p .put-target .last .1 .1 .1 .1 .1 .0) (p .put-target .result)
     (put o) behind (room s)
 
 same-length-2 : tie.Need-same-length-2

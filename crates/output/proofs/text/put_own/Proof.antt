@@ -23,7 +23,7 @@ bounds : (s : tie.Start) → (2 ≤ ownEnd (s .args .frame .now)) × (ownEnd (s 
 bounds s = end-within (s .args .place .0) (s .args .frame .now) (s .pre .0)
 
 own-end-requires : tie.Need-own-end-requires
-own-end-requires c κs = search needs
+own-end-requires c κs = let s = c .before .before in (s .pre .0, s .pre .2, s .pre .3)
 
 -- the part behind the two bytes
 abbrev part : tie.After-own-end → List ℕ

@@ -107,7 +107,10 @@ size : (c : tie.After-frame-at) → length (c .frame-at .result .now) ≡ length
 size c = ap length (c .frame-at .ensures)
 
 own-end-requires : tie.Need-own-end-requires
-own-end-requires c κs = rw (c .frame-at .ensures) (c .before .before .before .before .before .pre .1 .reads)
+own-end-requires c κs =
+    let s = c .before .before .before .before .before in
+    let w = s .pre .1 in
+    rw (c .frame-at .ensures) (w .reads, omega (arith, w .inside, s .pre .0 .few), s .pre .0 .noted (s .args .from .0) (w .inside))
 
 ends-at : (c : tie.After-own-end) → c .own-end .result ≡ ownEnd (frame (c .before .before .before .before .before .before))
 ends-at c = c .own-end .ensures ∙ ap ownEnd (c .before .frame-at .ensures)

@@ -8,6 +8,7 @@ use Rattle.rules.specs.declared.Kind.the-variants.{Reg}
 use Rattle.rules.specs.Expressions.{readExpr, mentions}
 use Rattle.rules.specs.Forms.{operandsAt}
 use Rattle.rules.specs.Statements.{argAt, argumentAt, exprAt}
+use Rattle.instruction.proofs.Numbers.{few-operands}
 use Rattle.slots.specs.Slots.{isReg}
 use Rattle.slots.proofs.Operands.{instr-in, register-at}
 use Rattle.patterns.proofs.Mentions.{in-register, in-value, argument-inside}
@@ -30,13 +31,20 @@ returns c =
       λ f l. sym (in-register (s .args .at .0) (s .args .frame .now) (s .pre .0) (s .args .j) (s .pre .1) (mentions f) (sym (tested k) ∙ c .if1 .taken)),
     )
 
-argument-in-requires : tie.Need-argument-in-requires
-argument-in-requires c κs = search needs
+argument-at-requires : tie.Need-argument-at-requires
+argument-at-requires c κs =
+    let s = c .before .before .before .before .before in
+    (omega (arith, s .pre .3), omega (arith, s .pre .1, few-operands (getD (s .args .frame .now) 1 0)))
+
+-- where reading found it
+found : (c : tie.After-argument-at) → let s : tie.Start = c .before .before .before .before .before .before in
+    c .argument-at .result ≡ argumentAt (s .args .frame .now) (operandsAt (getD (s .args .frame .now) 1 0)) 2 (s .args .j)
+found c = let s = c .before .before .before .before .before .before in c .argument-at .ensures (s .args .frame .now) (s .pre .4) (s .pre .0 .kind) (s .pre .1)
 
 in-part-requires : tie.Need-in-part-requires
 in-part-requires c κs =
     let s = c .before .before .before .before .before .before in
-    (omega (arith, c .argument-in .ensures, argument-inside (s .args .at .0) (s .args .frame .now) (s .pre .0) (s .args .j) (s .pre .1)), s .pre .2)
+    (omega (arith, found c, argument-inside (s .args .at .0) (s .args .frame .now) (s .pre .0) (s .args .j) (s .pre .1)), s .pre .2)
 
 returns-2 : tie.Need-returns-2
 returns-2 c =
@@ -48,7 +56,7 @@ returns-2 c =
       λ f l.
           let v = in-value (s .args .at .0) b (s .pre .0) (s .args .j) (s .pre .1) (mentions f) (sym (tested k) ∙ a .before .if1 .left) in
           c .in-part .ensures .1 f l (exprAt b (argAt (argumentAt b (operandsAt (getD b 1 0)) 2 (s .args .j)))) (v .0 .width)
-          (ap (λ (n : ℕ). readExpr (drop n b)) (a .argument-in .ensures) ∙ v .0 .reads)
+          (ap (λ (n : ℕ). readExpr (drop n b)) (found a) ∙ v .0 .reads)
           ∙ sym (v .1),
     )
 
@@ -59,6 +67,6 @@ in-argument-spec =
     shared-slice-read-is-register
     (λ c κs. search needs)
     returns
-    argument-in-requires
+    argument-at-requires
     in-part-requires
     returns-2)

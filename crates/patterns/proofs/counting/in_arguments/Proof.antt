@@ -16,19 +16,19 @@ use Rattle.patterns.proofs.counting.in_arguments.Statement.{statement}
 use Rattle.patterns.proofs.counting.in_arguments.Tie as tie
 
 abbrev Inv-loop : tie.InvT-loop
-Inv-loop frame links at m place found₀ j₀ found j =
+Inv-loop frame links state at m place found₀ j₀ found j =
     (j ≤ m) × (found ≤ 120 * j)
     × ((f : ℕ → Bool) → Referred f frame links place → found ≡ total (inOperand (mentions f)) (take j (argsOf (readAs (at .0) frame))))
 
 abbrev μ-loop : tie.MeasureT-loop
-μ-loop frame links at m place found₀ j₀ found j = m - j
+μ-loop frame links state at m place found₀ j₀ found j = m - j
 
 loop-holds : tie.Need-loop-holds Inv-loop μ-loop
 unfolding total
 loop-holds c = (omega arith, omega arith, λ f l. refl)
 
 in-argument-requires : tie.Need-in-argument-requires Inv-loop μ-loop
-in-argument-requires c κs = let s = c .before .before .before .before in (s .pre .0, omega (arith, s .pre .1), s .pre .2)
+in-argument-requires c κs = let s = c .before .before .before .before in (s .pre .0, omega (arith, s .pre .1), s .pre .2, s .pre .3, s .pre .4)
 
 few : (c : tie.After-in-argument Inv-loop μ-loop) → c .before .before .loop .j ≤ 3
 few c = let s = c .before .before .before .before .before in omega (arith, s .pre .1, few-operands (getD (s .args .frame .now) 1 0))

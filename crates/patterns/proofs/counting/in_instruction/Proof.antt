@@ -2,7 +2,7 @@
 use mathlib.Core.Path.{_≡_, sym, subst₂, ap, ap₂, _∙_}
 use mathlib.Core.Bool.{Bool, true}
 use mathlib.Core.List.{List, []}
-use Prim.Native.Nat.{ℕ, _+_, _-_, _≤_}
+use Prim.Native.Nat.{ℕ, _+_, _-_, _≤_, _<_}
 use lib.ListN.{length, getD, take}
 use native.Mathlib.Omega.{arith}
 use borrow.Author.Needs.{needs}
@@ -11,7 +11,7 @@ use Rattle.rules.specs.Expressions.{mentions}
 use Rattle.rules.specs.Forms.{isTransfer, operandsAt}
 use Rattle.rules.specs.Programs.{argsOf, inOperand}
 use Rattle.expression.specs.Naming.{Referred}
-use Rattle.listing.specs.Tables.{frameAt}
+use Rattle.listing.specs.Tables.{frameAt, Noted}
 use Rattle.slots.specs.Slots.{Slots, slots, targetOf, InstrIn}
 use Rattle.slots.proofs.Linking.{spans}
 use Rattle.slots.proofs.Operands.{instr-in}
@@ -79,9 +79,16 @@ module _ (c : tie.After-operand-count) where
 
   asked : (k : ℕ) → k ≤ c .operand-count .result → InstrIn (start .args .at .0) (framed .frame-at .result .now)
       × (k ≤ length (operandsAt (getD (framed .frame-at .result .now) 1 0))) × Short (framed .frame-at .result .now) (linked .links-at .result .now)
+      × (start .args .at .0 < 1024) × Noted (startsIn (start .args .state .now)) (start .args .at .0) (framed .frame-at .result .now)
   asked k l =
-      subst₂ (λ (s b : List ℕ). InstrIn (start .args .at .0) s × (k ≤ length (operandsAt (getD s 1 0))) × Short s b)
-      (sym (framed .frame-at .ensures)) (sym (linked .links-at .ensures)) (here start, omega (arith, counted), short start)
+      subst₂ (λ (s b : List ℕ). InstrIn (start .args .at .0) s × (k ≤ length (operandsAt (getD s 1 0))) × Short s b × (start .args .at .0 < 1024) × Noted (startsIn (start .args .state .now)) (start .args .at .0) s)
+      (sym (framed .frame-at .ensures)) (sym (linked .links-at .ensures)) (
+        here start,
+        omega (arith, counted),
+        short start,
+        omega (arith, start .pre .0, start .pre .2 [] .0 .held .few),
+        start .pre .2 [] .0 .held .noted (start .args .at .0) (start .pre .0),
+      )
 
   told : (f : ℕ → Bool) → Referred f (frame start) (beside start) (start .args .place) → Referred f (framed .frame-at .result .now) (linked .links-at .result .now) (start .args .place)
   told f r = subst₂ (λ (s b : List ℕ). Referred f s b (start .args .place)) (sym (framed .frame-at .ensures)) (sym (linked .links-at .ensures)) r

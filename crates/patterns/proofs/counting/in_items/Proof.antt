@@ -10,27 +10,28 @@ use Rattle.laws.specs.Lists.{total}
 use Rattle.laws.proofs.Lists.{total-more}
 use Rattle.rules.specs.Expressions.{num, mentions}
 use Rattle.expression.specs.Naming.{Referred}
+use Rattle.slots.specs.Slots.{DataIn}
 use Rattle.patterns.specs.Mentions.{readAs, itemsOf}
 use Rattle.patterns.proofs.Mentions.{ItemsIn, data-in}
 use Rattle.patterns.proofs.counting.in_items.Statement.{statement}
 use Rattle.patterns.proofs.counting.in_items.Tie as tie
 
 abbrev Inv-loop : tie.InvT-loop
-Inv-loop frame links at place m found₀ j₀ found j =
-    (j ≤ m) × (found ≤ 120 * j) × ((f : ℕ → Bool) → Referred f frame links place → found ≡ total (mentions f) (take j (itemsOf (readAs (at .0) frame))))
+Inv-loop frame links place m found₀ j₀ found j =
+    (j ≤ m) × (found ≤ 120 * j) × ((i : ℕ) → DataIn i frame → (f : ℕ → Bool) → Referred f frame links place → found ≡ total (mentions f) (take j (itemsOf (readAs i frame))))
 
 abbrev μ-loop : tie.MeasureT-loop
-μ-loop frame links at place m found₀ j₀ found j = m - j
+μ-loop frame links place m found₀ j₀ found j = m - j
 
-holds : (c : tie.Start Inv-loop μ-loop) → ItemsIn (c .args .at .0) (c .args .frame .now)
-holds c = data-in (c .args .at .0) (c .args .frame .now) (c .pre .0)
+holds : (c : tie.Start Inv-loop μ-loop) → ItemsIn (c .pre .0 .0) (c .args .frame .now)
+holds c = data-in (c .pre .0 .0) (c .args .frame .now) (c .pre .0 .1)
 
 items-in-requires : tie.Need-items-in-requires Inv-loop μ-loop
 items-in-requires c κs = holds (c .before .before) .long
 
 loop-holds : tie.Need-loop-holds Inv-loop μ-loop
 unfolding total
-loop-holds c = (omega arith, omega arith, λ f l. refl)
+loop-holds c = (omega arith, omega arith, λ i d f l. refl)
 
 in-item-requires : tie.Need-in-item-requires Inv-loop μ-loop
 in-item-requires c κs = let s = c .before .before .before .before .before in (s .pre .0, omega (arith, c .before .before .items-in .ensures), s .pre .1)
@@ -52,23 +53,26 @@ loop-again : tie.Need-loop-again Inv-loop μ-loop
 loop-again c =
     let s = c .before .before .before .before .before .before in
     let l = c .before .before .loop in
-    let h = holds s in
-    let es = itemsOf (readAs (s .args .at .0) (s .args .frame .now)) in
-    let inside : l .j < length es = omega (arith, h .items .count, c .before .before .before .items-in .ensures) in (
+    let n = c .before .before .before .items-in .ensures in (
       omega arith,
       omega (arith, l .inv .1, c .in-item .ensures .0),
-      λ f r. omega (arith, l .inv .2 f r, c .in-item .ensures .1 f r, total-more (mentions f) es (l .j) (num (pos 0)) inside),
+      λ i d f r.
+          let es = itemsOf (readAs i (s .args .frame .now)) in
+          let inside : l .j < length es = omega (arith, data-in i (s .args .frame .now) d .items .count, n) in
+          omega (arith, l .inv .2 i d f r, c .in-item .ensures .1 i d f r, total-more (mentions f) es (l .j) (num (pos 0)) inside),
     )
 
 returns : tie.Need-returns Inv-loop μ-loop
 returns c =
     let s = c .before .before .before .before .before in
     let l = c .before .loop in
-    let h = holds s in
-    let es = itemsOf (readAs (s .args .at .0) (s .args .frame .now)) in
-    let e : l .j ≡ length es = omega (arith, h .items .count, c .before .before .items-in .ensures) in (
-      omega (arith, l .inv .1, h .few, c .before .before .items-in .ensures),
-      λ f r. l .inv .2 f r ∙ ap (λ (k : ℕ). total (mentions f) (take k es)) e ∙ ap (total (mentions f)) (take-length es) ∙ sym (h .over (mentions f)),
+    let n = c .before .before .items-in .ensures in (
+      omega (arith, l .inv .1, holds s .few, n),
+      λ i d f r.
+          let h = data-in i (s .args .frame .now) d in
+          let es = itemsOf (readAs i (s .args .frame .now)) in
+          let e : l .j ≡ length es = omega (arith, h .items .count, n) in
+          l .inv .2 i d f r ∙ ap (λ (k : ℕ). total (mentions f) (take k es)) e ∙ ap (total (mentions f)) (take-length es) ∙ sym (h .over (mentions f)),
     )
 
 pub in-items-spec : {M : Type 1} → statement M

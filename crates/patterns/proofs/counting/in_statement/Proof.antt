@@ -82,12 +82,19 @@ module _ (c : tie.After-links-at) where
       → Referred f (framed .frame-at .result .now) (c .links-at .result .now) (start kinded .args .place)
   told f r = asked (λ s b. Referred f s b (start kinded .args .place)) r
 
+-- a variable's frame, and data's
+module _ (b : tie.After-links-at) where
+  abbrev begun : tie.Start
+  begun = start (kinded b)
+
+  holds-value : kinded b .kind-at .result ≡ 3 → VariableIn (begun .args .at .0) (frame begun)
+  holds-value e = record { reads = begun .pre .2 [] .held .reads (begun .args .at .0) (begun .pre .0); kind = first-byte (kinded b) 2 e }
+
 in-variable-requires : tie.Need-in-variable-requires
 in-variable-requires c κs =
     let b = c .before in
     let s = start (kinded b) in
-    asked b (λ x y. VariableIn (s .args .at .0) x × Short x y)
-    (record { reads = s .pre .2 [] .held .reads (s .args .at .0) (s .pre .0); kind = first-byte (kinded b) 2 (c .if2 .taken) }, short s)
+    asked b (λ x y. ((i : ℕ) × VariableIn i x) × Short x y) ((s .args .at .0, holds-value b (c .if2 .taken)), short s)
 
 returns-2 : tie.Need-returns-2
 returns-2 c =
@@ -95,7 +102,7 @@ returns-2 c =
     let s = start (kinded b) in (
       c .in-variable .ensures .0,
       λ f offsets r.
-          c .in-variable .ensures .1 f (told b f (r .own))
+          c .in-variable .ensures .1 (s .args .at .0) (asked b (λ x y. VariableIn (s .args .at .0) x) (holds-value b (c .before .if2 .taken))) f (told b f (r .own))
           ∙ ap (λ x. overExprs (mentions f) (readAs (s .args .at .0) x)) (framed b .frame-at .ensures)
           ∙ sym (ap (overExprs (mentions f)) (as-read (kinded b) 1 (c .before .if2 .taken) offsets)),
     )
@@ -114,6 +121,16 @@ module _ (c : tie.After-kind-at) (e : isData (c .kind-at .result) ≡ true) wher
   above : (k : ℕ) × (c .kind-at .result ≡ suc (suc k))
   above = (c .kind-at .result - 2, omega (arith, kinds .0))
 
+  holds-data : DataIn (start c .args .at .0) (frame (start c))
+  holds-data =
+      let a = above in
+      let first = first-byte c (suc (a .0)) (a .1) in
+      record {
+        reads = start c .pre .2 [] .held .reads (start c .args .at .0) (start c .pre .0);
+        kind = omega (arith, first, a .1, kinds .0);
+        no-pad = omega (arith, first, a .1, kinds .1);
+      }
+
 in-items-requires : tie.Need-in-items-requires
 in-items-requires c κs =
     let d = c .before in
@@ -121,16 +138,7 @@ in-items-requires c κs =
     let k = kinded b in
     let s = start k in
     let e = sym (d .is-data .ensures) ∙ c .if3 .taken in
-    let a = above k e in
-    let first = first-byte k (suc (a .0)) (a .1) in
-    asked b (λ x y. DataIn (s .args .at .0) x × Short x y) (
-      record {
-        reads = s .pre .2 [] .held .reads (s .args .at .0) (s .pre .0);
-        kind = omega (arith, first, a .1, kinds k e .0);
-        no-pad = omega (arith, first, a .1, kinds k e .1);
-      },
-      short s,
-    )
+    asked b (λ x y. ((i : ℕ) × DataIn i x) × Short x y) ((s .args .at .0, holds-data k e), short s)
 
 returns-3 : tie.Need-returns-3
 returns-3 c =
@@ -138,10 +146,11 @@ returns-3 c =
     let b = d .before .before in
     let k = kinded b in
     let s = start k in
-    let a = above k (sym (d .is-data .ensures) ∙ c .before .if3 .taken) in (
+    let e = sym (d .is-data .ensures) ∙ c .before .if3 .taken in
+    let a = above k e in (
       c .in-items .ensures .0,
       λ f offsets r.
-          c .in-items .ensures .1 f (told b f (r .own))
+          c .in-items .ensures .1 (s .args .at .0) (asked b (λ x y. DataIn (s .args .at .0) x) (holds-data k e)) f (told b f (r .own))
           ∙ ap (λ x. overExprs (mentions f) (readAs (s .args .at .0) x)) (framed b .frame-at .ensures)
           ∙ sym (ap (overExprs (mentions f)) (as-read k (a .0) (a .1) offsets)),
     )

@@ -8,6 +8,7 @@ use borrow.Author.Needs.{needs}
 use Rattle.laws.proofs.Stores.{rest-is}
 use Rattle.rules.specs.Forms.{operandsAt}
 use Rattle.rules.specs.Statements.{argumentAt}
+use Rattle.instruction.proofs.Numbers.{few-operands}
 use Rattle.listing.specs.Tables.{frameAt}
 use Rattle.patterns.specs.Targets.{lastBytes}
 use Rattle.patterns.proofs.Instructions.{target-frame, target-count, target-inside}
@@ -39,26 +40,25 @@ counted c = c .operand-count .ensures ∙ ap (λ s. length (operandsAt (getD s 1
 some : (c : tie.After-operand-count) → 1 ≤ c .operand-count .result
 some c = let s = c .before .before .before .before in omega (arith, counted c, target-count _ _ _ (s .pre .0) (s .args .at .0) (s .pre .1))
 
-sub-argument-in : tie.Need-sub-argument-in
-sub-argument-in c = omega (arith, some c)
+sub-argument-at : tie.Need-sub-argument-at
+sub-argument-at c = omega (arith, some c)
 
-argument-in-requires : tie.Need-argument-in-requires
-argument-in-requires c κs =
+argument-at-requires : tie.Need-argument-at-requires
+argument-at-requires c κs =
     let s = c .before .before .before .before in
-    let w = s .pre .1 in
-    let e = c .before .before .frame-at .ensures in
-    rw e (record { reads = s .pre .0 .reads (s .args .at .0) (w .inside); kind = w .instruction }, omega (arith, counted c, some c))
+    (omega (arith, s .pre .1 .inside, s .pre .0 .few), omega (arith, counted c, some c, few-operands (getD (frame s) 1 0)))
 
 -- where the target begins
-begins : (c : tie.After-argument-in) →
+begins : (c : tie.After-argument-at) →
     let s : List ℕ = frame (c .before .before .before .before .before) in
-    c .argument-in .result ≡ argumentAt s (operandsAt (getD s 1 0)) 2 (last s)
+    c .argument-at .result ≡ argumentAt s (operandsAt (getD s 1 0)) 2 (last s)
 begins c =
-    let s = frame (c .before .before .before .before .before) in
-    c .argument-in .ensures ∙ ap (λ s. argumentAt s (operandsAt (getD s 1 0)) 2 (c .before .operand-count .result - 1)) (c .before .before .before .frame-at .ensures)
+    let z = c .before .before .before .before .before in
+    let s = frame z in
+    c .argument-at .ensures s (z .pre .0 .noted (z .args .at .0) (z .pre .1 .inside)) (z .pre .1 .instruction) (omega (arith, counted (c .before), some (c .before)))
     ∙ ap (λ (n : ℕ). argumentAt s (operandsAt (getD s 1 0)) 2 (n - 1)) (counted (c .before))
 
-inside : (c : tie.After-argument-in) → c .argument-in .result < length (c .before .before .before .frame-at .result .now)
+inside : (c : tie.After-argument-at) → c .argument-at .result < length (c .before .before .before .frame-at .result .now)
 inside c =
     let s = c .before .before .before .before .before in
     omega (arith, begins c, target-inside _ _ _ (s .pre .0) (s .args .at .0) (s .pre .1), ap length (c .before .before .before .frame-at .ensures))
@@ -76,7 +76,7 @@ returns : tie.Need-returns
 unfolding lastBytes
 returns c =
     let f = c .before .before .before .before .frame-at .ensures in
-    rest-is (c .before .argument-in .result) _ ∙ ap (λ s. drop (c .before .argument-in .result) s) f ∙ ap (λ (a : ℕ). drop a (frame (c .before .before .before .before .before .before))) (begins (c .before))
+    rest-is (c .before .argument-at .result) _ ∙ ap (λ s. drop (c .before .argument-at .result) s) f ∙ ap (λ (a : ℕ). drop a (frame (c .before .before .before .before .before .before))) (begins (c .before))
 
 pub target-in-spec : {M : Type 1} → statement M
 target-in-spec =
@@ -85,8 +85,8 @@ target-in-spec =
     frame-at-requires
     shared-slice-read-operand-count
     operand-count-requires
-    sub-argument-in
-    argument-in-requires
+    sub-argument-at
+    argument-at-requires
     sub-result
     part-result-start
     part-result-end

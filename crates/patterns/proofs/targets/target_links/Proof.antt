@@ -8,6 +8,7 @@ use borrow.Author.Needs.{needs}
 use Rattle.laws.proofs.Stores.{rest-is}
 use Rattle.rules.specs.Forms.{operandsAt}
 use Rattle.rules.specs.Statements.{argumentAt}
+use Rattle.instruction.proofs.Numbers.{few-operands}
 use Rattle.listing.specs.Tables.{frameAt}
 use Rattle.slots.proofs.Tables.{bounds, length-frame}
 use Rattle.slots.proofs.Linking.{spans, length-beside}
@@ -41,26 +42,25 @@ counted c = c .operand-count .ensures ∙ ap (λ s. length (operandsAt (getD s 1
 some : (c : tie.After-operand-count) → 1 ≤ c .operand-count .result
 some c = let s = c .before .before .before .before .before .before in omega (arith, counted c, target-count _ _ _ (s .pre .0) (s .args .at .0) (s .pre .1))
 
-sub-argument-in : tie.Need-sub-argument-in
-sub-argument-in c = omega (arith, some c)
+sub-argument-at : tie.Need-sub-argument-at
+sub-argument-at c = omega (arith, some c)
 
-argument-in-requires : tie.Need-argument-in-requires
-argument-in-requires c κs =
+argument-at-requires : tie.Need-argument-at-requires
+argument-at-requires c κs =
     let s = c .before .before .before .before .before .before in
-    let w = s .pre .1 in
-    let e = c .before .before .before .frame-at .ensures in
-    rw e (record { reads = s .pre .0 .reads (s .args .at .0) (w .inside); kind = w .instruction }, omega (arith, counted c, some c))
+    (omega (arith, s .pre .1 .inside, s .pre .0 .few), omega (arith, counted c, some c, few-operands (getD (frame s) 1 0)))
 
 -- where the target begins
-begins : (c : tie.After-argument-in) →
+begins : (c : tie.After-argument-at) →
     let s : List ℕ = frame (c .before .before .before .before .before .before .before) in
-    c .argument-in .result ≡ argumentAt s (operandsAt (getD s 1 0)) 2 (last s)
+    c .argument-at .result ≡ argumentAt s (operandsAt (getD s 1 0)) 2 (last s)
 begins c =
-    let s = frame (c .before .before .before .before .before .before .before) in
-    c .argument-in .ensures ∙ ap (λ s. argumentAt s (operandsAt (getD s 1 0)) 2 (c .before .operand-count .result - 1)) (c .before .before .before .before .frame-at .ensures)
+    let z = c .before .before .before .before .before .before .before in
+    let s = frame z in
+    c .argument-at .ensures s (z .pre .0 .noted (z .args .at .0) (z .pre .1 .inside)) (z .pre .1 .instruction) (omega (arith, counted (c .before), some (c .before)))
     ∙ ap (λ (n : ℕ). argumentAt s (operandsAt (getD s 1 0)) 2 (n - 1)) (counted (c .before))
 
-inside : (c : tie.After-argument-in) → c .argument-in .result < length (c .before .before .before .links-at .result .now)
+inside : (c : tie.After-argument-at) → c .argument-at .result < length (c .before .before .before .links-at .result .now)
 inside c =
     let s = c .before .before .before .before .before .before .before in
     omega (
@@ -79,7 +79,7 @@ links-at-requires c κs =
 mul-result : tie.Need-mul-result
 mul-result c = record { fits = omega (arith, inside c, ap length (c .before .before .before .links-at .ensures), beside-short c) }
   where
-    beside-short : (c : tie.After-argument-in) → length (frameAt (c .before .before .before .before .before .before .before .args .links .now) (startsIn (c .before .before .before .before .before .before .before .args .state .now)) (c .before .before .before .before .before .before .before .args .at .0)) ≤ 28672
+    beside-short : (c : tie.After-argument-at) → length (frameAt (c .before .before .before .before .before .before .before .args .links .now) (startsIn (c .before .before .before .before .before .before .before .args .state .now)) (c .before .before .before .before .before .before .before .args .at .0)) ≤ 28672
     beside-short c =
         let s = c .before .before .before .before .before .before .before in
         omega (
@@ -100,7 +100,7 @@ unfolding lastLinks
 returns c =
     let a = c .before in
     let s = a .before .before .before .before .before .before .before in
-    rest-is (a .argument-in .result) _ ∙ ap (λ x. drop (a .argument-in .result) x) (a .before .before .before .links-at .ensures)
+    rest-is (a .argument-at .result) _ ∙ ap (λ x. drop (a .argument-at .result) x) (a .before .before .before .links-at .ensures)
     ∙ ap (λ (k : ℕ). drop k (frameAt (s .args .links .now) (startsIn (s .args .state .now)) (s .args .at .0))) (begins a)
 
 pub target-links-spec : {M : Type 1} → statement M
@@ -111,8 +111,8 @@ target-links-spec =
     links-at-requires
     shared-slice-read-operand-count
     operand-count-requires
-    sub-argument-in
-    argument-in-requires
+    sub-argument-at
+    argument-at-requires
     mul-result
     sub-result
     part-result-start

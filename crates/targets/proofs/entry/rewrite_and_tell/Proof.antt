@@ -54,7 +54,6 @@ pub rewrite-and-tell-spec : {M : Type 1} → statement M
 rewrite-and-tell-spec =
     tie.close
     (tie.spec
-    (λ c. search needs)
     find-aims-read-requires
     optimize-requires
     tell-end-requires
