@@ -4,8 +4,10 @@ use expression::is_bare;
 use instruction::tables::is_unconditional;
 use instruction::tables::operand_count;
 use rules::Place;
+use rules::Statement;
 use slots::GONE;
 use slots::NO_OWNER;
+use slots::Slot;
 use slots::State;
 use slots::argument_at;
 use slots::carry_at;
@@ -14,7 +16,7 @@ use slots::frame_at;
 use slots::kind_at;
 use slots::links_at;
 use slots::owner_at;
-use slots::pair_in;
+use slots::slot_at;
 ghost use mathlib.Core.Path.{_≡_};
 ghost use mathlib.Core.Bool.{true};
 ghost use mathlib.Core.List.{List};
@@ -76,10 +78,12 @@ pub fn local_label_at(frames: &[u8], state: &State, count: usize, at: Place) -> 
     if count <= i {
         return LocalLabel::Nothing;
     }
-    if kind_at(frames, state, count, at) != 2 {
+    let Slot::Holds(statement) = slot_at(frames, state, count, at) else {
         return LocalLabel::Nothing;
-    }
-    let name = pair_in(frame_at(frames, state, count, at));
+    };
+    let Statement::Label(name) = statement else {
+        return LocalLabel::Nothing;
+    };
     if name < 0x8000 {
         return LocalLabel::Nothing;
     }

@@ -1,20 +1,26 @@
 -- `patterns::targets::local_label_at` meets its contract: "Names 8000 and up are local".
 use mathlib.Core.Path.{_≡_, sym, ap, _∙_}
-use mathlib.Core.List.{List, []}
+use mathlib.Core.Logic.{⊎-elim}
+use mathlib.Core.List.{List, [], _∷_}
 use Prim.Native.Nat.{ℕ}
 use native.Mathlib.Omega.{arith}
+use denote.Enum.Declared.{tagOf}
+use types.Run.{OneOf}
 use borrow.Author.Needs.{needs}
+use Rattle.rules.proofs.Statement.{the-type}
+use Rattle.rules.specs.declared.Statement.{Statement}
 use Rattle.rules.specs.Programs.{label, kindOf}
 use Rattle.rules.specs.Rewriting.{localLabel}
-use Rattle.rules.specs.Statements.{pairAt}
-use Rattle.listing.specs.Tables.{frameAt}
-use Rattle.slots.specs.Slots.{Slots, slots, slotAt, written}
-use Rattle.slots.proofs.Frames.{FrameOf}
-use Rattle.slots.proofs.Slots.{slot-data, written-frame}
+use Rattle.rules.specs.Statements.{stmtOf}
+use Rattle.slots.specs.Slots.{Slots, slots, slotAt}
+use Rattle.slots.specs.State.{startsIn, formsIn}
+use Rattle.slots.specs.declared.Slot.the-variants.{Holds}
+use Rattle.slots.specs.Meaning.{meantBy, kindFor, kindIn}
+use Rattle.slots.proofs.Stands.{means-above, not-kind, tag-kind}
+use Rattle.patterns.specs.declared.LocalLabel.the-variants.{Nothing}
 use Rattle.patterns.specs.Targets.{labelAs, standsAt}
 use Rattle.patterns.proofs.Programs.{at-program, past-program}
 use Rattle.patterns.proofs.Instructions.{no-label, low-label, high-label}
-use Rattle.slots.specs.State.{startsIn, formsIn}
 use Rattle.patterns.proofs.targets.local_label_at.Statement.{statement}
 use Rattle.patterns.proofs.targets.local_label_at.Tie as tie
 
@@ -24,50 +30,62 @@ over c carry owners offsets = slots (c .args .frames .now) (startsIn (c .args .s
 returns : tie.Need-returns
 returns c carry owners offsets = let s = c .before .before in sym (ap (λ x. labelAs (localLabel x)) (past-program (over s carry owners offsets) (s .args .at .0) (c .if1 .taken)) ∙ no-label _ (λ e. omega arith))
 
-kind-at-requires : tie.Need-kind-at-requires
-kind-at-requires c κs = search needs
-
-returns-2 : tie.Need-returns-2
-returns-2 c carry owners offsets =
-    let k = c .before in
-    let s = k .before .before .before in
-    let t = over s carry owners offsets in
-    sym (ap (λ x. labelAs (localLabel x)) (at-program t (s .args .at .0) (k .before .if1 .left))
-    ∙ no-label (slotAt t (s .args .at .0)) (λ e. c .if2 .taken (k .kind-at .ensures carry owners offsets ∙ e)))
-
-frame-at-requires : tie.Need-frame-at-requires
-frame-at-requires c κs = search needs
-
--- a label stands there
-module _ (c : tie.After-frame-at) (carry owners offsets : List ℕ) where
+-- behind the slot
+module _ (c : tie.After-slot-at) (carry owners offsets : List ℕ) where
   abbrev start : tie.Start
-  start = c .before .before .before .before .before
+  start = c .before .before .before
 
   abbrev here : Slots
   here = over start carry owners offsets
 
-  kind-is : kindOf (slotAt here (start .args .at .0)) ≡ 2
-  kind-is = sym (c .before .before .kind-at .ensures carry owners offsets) ∙ c .before .if2 .left
+  abbrev place : ℕ
+  place = start .args .at .0
 
-  holds : FrameOf 2 (start .args .at .0) (frameAt (start .args .frames .now) (startsIn (start .args .state .now)) (start .args .at .0)) (written here (start .args .at .0))
-  holds = written-frame here (start .pre) (start .args .at .0) (c .before .before .before .if1 .left) 1 kind-is
+  stands : standsAt here place ≡ slotAt here place
+  stands = at-program here place (c .before .if1 .left)
 
-  stands : standsAt here (start .args .at .0) ≡ label (pairAt (frameAt (start .args .frames .now) (startsIn (start .args .state .now)) (start .args .at .0)) 1)
-  stands = at-program here (start .args .at .0) (c .before .before .before .if1 .left) ∙ slot-data here (start .args .at .0) 0 kind-is ∙ holds .is
+  -- what is no label by its variant is none
+  none : (kindIn (c .slot-at .result) ≡ 2 → ⊥) → labelAs (localLabel (standsAt here place)) ≡ Nothing
+  none n =
+      ap (λ x. labelAs (localLabel x)) stands
+      ∙ no-label (slotAt here place) (not-kind here place (c .slot-at .result) (c .slot-at .ensures carry owners offsets) 2 (omega arith) n)
 
-pair-in-requires : tie.Need-pair-in-requires
-pair-in-requires c κs = rw (c .frame-at .ensures) (holds c [] [] [] .long)
+returns-2 : tie.Need-returns-2
+returns-2 c carry owners offsets =
+    sym (none (c .before .before) carry owners offsets (λ e. let z : _≡_ {A = ℕ} 0 2 = sym (ap kindIn (c .enum-told .given .1)) ∙ e in omega arith))
 
--- the name, as the frame has it
-named : (c : tie.After-pair-in) (carry owners offsets : List ℕ) → standsAt (here (c .before) carry owners offsets) (start (c .before) carry owners offsets .args .at .0) ≡ label (c .pair-in .result)
-named c carry owners offsets = stands (c .before) carry owners offsets ∙ ap label (sym (c .pair-in .ensures ∙ ap (λ s. pairAt s 1) (c .before .frame-at .ensures)))
+-- a variant that is not the label's
+other : (x : Statement) → OneOf (0 ∷ 2 ∷ 3 ∷ 4 ∷ 5 ∷ 6 ∷ 7 ∷ []) (tagOf the-type x) → kindFor x ≡ 2 → ⊥
+other x k e =
+    let t = tag-kind x in
+    ⊎-elim (λ q. omega arith)
+    (⊎-elim (λ q. omega arith) (⊎-elim (λ q. omega arith) (⊎-elim (λ q. omega arith) (⊎-elim (λ q. omega arith) (⊎-elim (λ q. omega arith) (λ q. omega arith)))))) k
 
 returns-3 : tie.Need-returns-3
-returns-3 c carry owners offsets = sym (ap (λ x. labelAs (localLabel x)) (named (c .before) carry owners offsets) ∙ low-label _ (c .if3 .taken))
+returns-3 c carry owners offsets =
+    let x = c .before .before .statement .given in
+    sym (none (c .before .before .before .before) carry owners offsets (λ e. other (x .0 .0) (c .match2 .keys2) (sym (ap kindIn (x .1)) ∙ e)))
+
+-- the name, as the slot has it
+named : (c : tie.After-known-told2) (carry owners offsets : List ℕ) →
+    let s = c .before .before .before .before .before .before in
+    standsAt (here s carry owners offsets) (place s carry owners offsets) ≡ label (c .before .statement2 .given .0 .0)
+unfolding stmtOf
+named c carry owners offsets =
+    let s = c .before .before .before .before .before .before in
+    let t = here s carry owners offsets in
+    let i = place s carry owners offsets in
+    let is = c .before .before .before .before .statement .given .1 ∙ ap Holds (c .before .statement2 .given .1) in
+    let two : kindIn (s .slot-at .result) ≡ 2 = ap kindIn is in
+    stands s carry owners offsets ∙ means-above t i (s .slot-at .result) (s .slot-at .ensures carry owners offsets) (omega arith) ∙ ap (meantBy t i) is
 
 returns-4 : tie.Need-returns-4
-returns-4 c carry owners offsets = sym (ap (λ x. labelAs (localLabel x)) (named (c .before) carry owners offsets) ∙ high-label _ (c .if3 .left))
+returns-4 c carry owners offsets = sym (ap (λ x. labelAs (localLabel x)) (named (c .before) carry owners offsets) ∙ low-label _ (c .if2 .taken))
+
+returns-5 : tie.Need-returns-5
+returns-5 c carry owners offsets = sym (ap (λ x. labelAs (localLabel x)) (named (c .before) carry owners offsets) ∙ high-label _ (c .if2 .left))
 
 pub local-label-at-spec : {M : Type 1} → statement M
 local-label-at-spec =
-    tie.close (tie.spec returns kind-at-requires returns-2 frame-at-requires pair-in-requires returns-3 returns-4)
+    tie.close
+    (tie.spec returns (λ c κs. search needs) (λ c. search needs) (λ c. search needs) returns-2 (λ c. search needs) returns-3 returns-4 returns-5)
