@@ -260,10 +260,10 @@ while [ "$family" -lt 32 ]; do
     "$mortarbee" settings add "$family" --store full >/dev/null
     family=$((family + 1))
 done
-try 1 'refused 18' settings add 32 --store full
+try 1 'all 32 places of the store are taken' settings add 32 --store full
 grep -q '^  family 32 has no edition$' err || wrong "that it is the store that is full"
 (printf '\0\7\377\377\6' && head -c 155 /dev/zero) >last
-try 1 'refused 18' settings add 7 --store last
+try 1 '65,535 is the last edition that a family can have' settings add 7 --store last
 grep -q '^  family 7 is at edition 65535$' err || wrong "that it is the last edition"
 
 # many listings

@@ -137,8 +137,25 @@ pub fn refuse_family(r: Refusal, room: &[u8], family: u16) {
     refuse(r, room);
     match r {
         Refusal::Unknown => tell_known(room, family),
-        Refusal::Full => tell_known(room, family),
+        Refusal::Full => tell_full(room, family),
         _ => {}
+    }
+}
+
+// Which of the two 18 is given for.
+fn tell_full(room: &[u8], family: u16) {
+    tell_known(room, family);
+    if is_last(room, family) {
+        tell(b"  65,535 is the last edition that a family can have\n");
+    } else {
+        tell(b"  all 32 places of the store are taken: settings drop gives back those of a family's old editions\n");
+    }
+}
+
+fn is_last(room: &[u8], family: u16) -> bool {
+    match get_newest(room, family) {
+        Found::Is(edition) => edition.number == 65535,
+        Found::Refused(_) => false,
     }
 }
 
