@@ -184,7 +184,7 @@ struct mortarbee_aimed mortarbee_targets(uint8_t comments, uint8_t callf, uint8_
 /* A room that is never too short: 1,024 lines. */
 #define MORTARBEE_TARGETS_ROOM 46080
 
-/* ---- Why forms stay: for each form or pattern that is tried on the end form, by place, a line of 27 characters: 75, what is tried (a form; 0x80 and up a
+/* ---- Why something stays: for each form or pattern that is tried on the end form, by place, a line of 27 characters: 75, what is tried (a form; 0x80 and up a
    pattern by its place in rule 3's order), the place in two bytes, the reason (1 a change jump, 2 an inner label inside, 3 one between the pattern's
    statements, 4 an offset beyond a pad, 5 the candidate is refused), and for 5 the refusal's number, place (two bytes), argument and amount (four bytes).
    `lines` are 27 bytes a reason; `rewrites` are as many as the run makes. Refusals: the listing's, then 12 with the count. */

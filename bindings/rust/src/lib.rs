@@ -486,7 +486,7 @@ pub fn targets(asked: Settings, listing: &[u8], out: &mut [u8]) -> Result<Target
 /// A room that is never too short for `why`.
 pub const WHY_ROOM: usize = 55_296;
 
-/// Writes why forms stay, a line of 27 characters for each form or pattern that is tried on the end form, and gives their number.
+/// Writes why something stays, a line of 27 characters for each form or pattern that is tried on the end form, and gives their number.
 pub fn why(asked: Settings, listing: &[u8], out: &mut [u8]) -> Result<usize, Refusal> {
     let r = unsafe {
         mortarbee_why(
