@@ -1,6 +1,7 @@
 -- ---- what is promised
 pub mod SaidSame
 pub mod ToldSame
+pub mod NeverShort
 -- ---- what the proofs share
 pub mod Coming
 pub mod Same
