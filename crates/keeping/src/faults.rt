@@ -148,7 +148,9 @@ fn tell_full(room: &[u8], family: u16) {
     if is_last(room, family) {
         tell(b"  65,535 is the last edition that a family can have\n");
     } else {
-        tell(b"  all 32 places of the store are taken: settings drop gives back those of a family's old editions\n");
+        tell(
+            b"  all 32 places of the store are taken: settings drop gives back those of a family's old editions\n",
+        );
     }
 }
 

@@ -120,6 +120,9 @@ fn put_missed(line: &[u8]) {
 }
 
 fn put_number(number: u8) {
+    put(b"refusal ");
+    print_decimal(STDOUT_FILENO, number as u64);
+    put(b" (mortarbee explain ");
     print_decimal(STDOUT_FILENO, number as u64);
     put(b")");
 }
@@ -132,7 +135,7 @@ fn put_own(number: u8, line: &[u8]) {
     } else if number == 11 {
         put(b" crosses the 4,096-byte edge");
     } else {
-        put(b" is refused (");
+        put(b" is refused: ");
         put_number(number);
     }
 }
@@ -147,7 +150,7 @@ fn put_other(number: u8, line: &[u8], marked: bool) {
     } else if number == 11 {
         put(b" cross the 4,096-byte edge");
     } else {
-        put(b" be refused (");
+        put(b" wrong: ");
         put_number(number);
     }
 }

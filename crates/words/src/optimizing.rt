@@ -47,5 +47,7 @@ fn put_marked(marked: usize, transfers: usize) {
     tell_count(marked);
     tell(b" of ");
     tell_count(transfers);
-    tell(b" targets name another byte than before, or none: mortarbee targets says which\n");
+    tell(
+        b" targets name another byte than before, or none: mortarbee targets, with the same options, says which\n",
+    );
 }
