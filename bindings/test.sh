@@ -1,6 +1,6 @@
 #!/bin/sh
 # usage: test.sh [SECONDS]
-# Tries the words of the script at the top, links the C programs, runs the tests of the Rust crate, and the fuzz program for so many seconds (10), these
+# Tries the words of the script at the top and opens pages, links the C programs, runs the tests of the Rust crate, and the fuzz program for so many seconds (10), these
 # over target/staticlib/libborder.a. Where x86-64 programs cannot be had, it says so, and the program is compared instead.
 set -eu
 here=$(cd "$(dirname "$0")" && pwd)
@@ -10,6 +10,9 @@ through_program() {
     exec python3 "$here/../tools/differential/run.py" --program --count 300
 }
 "$here/../tools/words/test.sh"
+status=0
+"$here/../tools/page/test.sh" || status=$?
+case $status in 0) ;; 2) echo "test.sh: no page was opened" ;; *) exit "$status" ;; esac
 status=0
 "$here/build.sh" || status=$?
 case $status in 0) ;; 3) through_program "x86-64 programs cannot be linked here" ;; *) exit "$status" ;; esac

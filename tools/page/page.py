@@ -21,14 +21,23 @@ RULES = {1: "inverted fold", 2: "trampoline fold", 3: "shrink"}
 
 
 class Refused(Exception):
-    """The program refused the listing: its words are on standard error already."""
+    """The program refused the listing, and said why on standard error."""
 
 
 def ask(program, *words):
-    """What a word of the program prints."""
-    run = subprocess.run([program] + list(words), stdout=subprocess.PIPE, text=True)
+    """What a word of the program prints. What it says beside a good answer is on the page."""
+    run = subprocess.run([program] + list(words), stdout=subprocess.PIPE, stderr=subprocess.PIPE, text=True)
     if run.returncode != 0:
+        sys.stderr.write(run.stderr)
         raise Refused(run.returncode)
+    return run.stdout
+
+
+def text_of_output(program, short):
+    """The text of the new listing. One whose constants made it pass the total limit is no listing that the words take (D-59)."""
+    run = subprocess.run([program, "text", "--addresses", short], stdout=subprocess.PIPE, stderr=subprocess.PIPE, text=True)
+    if run.returncode != 0:
+        sys.exit("mortarbee: the new listing passes the total limit, so that its text cannot be shown")
     return run.stdout
 
 
@@ -81,12 +90,16 @@ class Run:
             self.rewrites, self.after = fields(answer[-1], 2, 3)
             self.before = int(ask(program, "judge", listing).split()[2])
             self.long = rows_of(ask(program, "text", "--addresses", listing))
-            self.short = rows_of(ask(program, "text", "--addresses", short))
+            self.short = rows_of(text_of_output(program, short))
         self.stems = [int(stem, 16) for stem in ask(program, "stems", "--comments", *options, listing).split()]
         self.became = {stem: i for i, stem in enumerate(self.stems)}
         self.steps = [fields(line, 1, 2, 1, 2, 1, 2) for line in ask(program, "steps", *options, listing).split()]
         self.stays = ask(program, "why", "--words", *options, listing).splitlines()
+        whys = [fields(line, 1, 2, 1) for line in ask(program, "why", *options, listing).split()]
+        self.change_jumps = {place for _, place, reason in whys if reason == 1}
         self.targets = {target.place: target for target in map(Target, ask(program, "targets", *options, listing).split())}
+        # without folds every transfer of the listing has its line
+        self.written = [Target(line) for line in ask(program, "targets", "--no-folds", *options, listing).split()]
 
     def rules(self):
         """What was done at each place, first to last: (number of the rewrite, rule)."""
@@ -130,12 +143,14 @@ def comment_of(text):
 
 def table(run):
     done = run.rules()
-    lines = ["<table><tr><th></th><th>at</th><th>bytes</th><th>long</th><th>what was done</th><th>at</th><th>bytes</th><th>short</th></tr>"]
+    lines = ["<table><tr><th>statement</th><th>at</th><th>bytes</th><th>long</th><th>what was done</th><th>at</th><th>bytes</th><th>short</th></tr>"]
     for i, row in enumerate(run.long):
         new = run.short[run.became[i]] if i in run.became else None
         kind, words = told(done.get(i), new is None)
         marked = i in run.targets and run.targets[i].marked
-        if marked:
+        if i in run.change_jumps:
+            words = "change jump: its number is in another memory"
+        elif marked:
             kind, words = kind + " bad", (words + "; " if words else "") + "look here"
         aim = " aim" if marked else ""
         lines.append('<tr class="%s">%s%s%s%s</tr>' % (kind, cell("no", str(i)), side(row, "", "long"), cell("rule", words), side(new, aim, "short")))
@@ -143,7 +158,8 @@ def table(run):
 
 
 def arrows_before(run):
-    return [(t.carried, t.old, t.marked) for t in run.targets.values() if t.old < len(run.long)]
+    marked = {t.carried for t in run.targets.values() if t.marked}
+    return [(t.place, t.old, t.place in marked) for t in run.written if t.old < len(run.long)]
 
 
 def arrows_after(run):
@@ -156,20 +172,21 @@ def named(place, offset, value):
 
 def eyes(run):
     """What still needs eyes: each marked target in words."""
-    marked = [t for t in run.targets.values() if t.marked]
+    beside = "Numbers in data and in other operands stay as written and are not looked at."
+    marked = [t for t in run.targets.values() if t.marked and t.place not in run.change_jumps]
     if not marked:
-        return "<p>Every transfer names the byte of the statement that it named before: nothing needs eyes.</p>"
+        return "<p>Every transfer names the byte of the statement that it named before: no transfer needs eyes. %s</p>" % beside
     items = ['<li class="bad">The transfer at statement %d named %s, and names %s now.</li>'
              % (t.place, named(t.old, t.old_offset, t.value), named(t.new, t.new_offset, t.now)) for t in marked]
-    return "<p>These name another byte than before, or none; whether that is meant only their writer knows.</p><ul>%s</ul>" % "".join(items)
+    return "<p>These name another byte than before, or none; whether that is meant only their writer knows. %s</p><ul>%s</ul>" % (beside, "".join(items))
 
 
 def staying(run):
     """What is left as it was though it could be shorter, and why."""
     if not run.stays:
         return ""
-    items = ["<li><code>%s</code></li>" % html.escape("line " + line.split(":", 1)[1]) for line in run.stays]
-    return "<h2>What stays, and why</h2><ul>%s</ul>" % "".join(items)
+    items = ["<li><code>%s</code></li>" % html.escape(line.split(":", 1)[1]) for line in run.stays]
+    return "<h2>What stays, and why</h2><p>By the lines of the listing, from 1.</p><ul>%s</ul>" % "".join(items)
 
 
 def walked(run):
@@ -186,18 +203,18 @@ def walked(run):
 def page(run, name):
     count = len(run.long)
     figures = [("statements", "%d, %d now" % (count, len(run.short))), ("bytes of image", "%d, %d now" % (run.before, run.after)),
-               ("rewrites", str(run.rewrites)), ("targets to look at", str(sum(t.marked for t in run.targets.values())))]
+               ("rewrites", str(run.rewrites)), ("targets to look at", str(sum(t.marked and t.place not in run.change_jumps for t in run.targets.values())))]
     total = "".join("<div><b>%s</b>%s</div>" % (value, what) for what, value in figures)
     body = drawing(arrows_before(run), count, True) + table(run) + drawing(arrows_after(run), count, False)
     return ("<!DOCTYPE html>\n<html lang=\"en\"><head><meta charset=\"utf-8\"><title>%s</title><style>%s</style></head><body>\n<h1>%s, long and short</h1>\n"
             "<div class=\"sum\">%s</div>\n<div class=\"run\">%s</div>\n<h2>What needs eyes</h2>%s\n%s\n%s\n"
-            "<footer>Made by mortarbee page from what its words print. An arrow goes from a transfer to the byte that it names; a red one names another "
-            "byte than before.</footer>\n</body></html>\n") % (html.escape(name), STYLE, html.escape(name), total, body, eyes(run), staying(run), walked(run))
+            "<footer>Made by mortarbee page from what its words print. An arrow goes from a transfer to the byte that it names. Red: a target that "
+            "names another byte than before, or none; on the left what it named, on the right what it names.</footer>\n</body></html>\n") % (html.escape(name), STYLE, html.escape(name), total, body, eyes(run), staying(run), walked(run))
 
 
 def main():
     program, listing = sys.argv[1:3]
-    name = sys.argv[3] if len(sys.argv) > 3 else os.path.basename(listing)
+    name = os.path.basename(sys.argv[3] if len(sys.argv) > 3 else listing)
     try:
         sys.stdout.write(page(Run(program, listing, sys.argv[4:]), name))
     except Refused as status:

@@ -15,9 +15,9 @@ wrong() {
     echo "test.sh: $listing: $1"
 }
 
-# has COUNT PATTERN WHAT: so many lines of what Chromium made of the page have the pattern.
+# has COUNT PATTERN WHAT: what Chromium made of the page has the pattern so many times.
 has() {
-    found=$(grep -c -- "$2" "$work/dom.html")
+    found=$(grep -o -- "$2" "$work/dom.html" | wc -l)
     [ "$found" = "$1" ] || wrong "$found $3, not $1"
 }
 
@@ -25,21 +25,27 @@ look() {
     "$chromium" --headless --no-sandbox --disable-gpu --hide-scrollbars "$@" "file://$work/page.html" 2>/dev/null
 }
 
-# try LISTING TRANSFERS MARKED: its page has a row a statement, an arrow a transfer on either side, and so many that need eyes.
+# try LISTING ARROWS MARKED STAY: its page has a row a statement, so many arrows on both sides, targets that need eyes and statements that stay.
 try() {
     listing=$1
     tried=$((tried + 1))
-    "$top/mortarbee" page -o "$work/page.html" "$listing" || { wrong "no page" && return; }
+    "$top/mortarbee" page -o "$work/page.html" "$listing" 2>"$work/said" || { wrong "no page" && return; }
     look --dump-dom >"$work/dom.html"
     has "$(grep -c . "$listing")" '<td class="no">' 'statements'
     has "$2" '<path' 'arrows'
     has "$3" '<li class="bad">' 'targets that need eyes'
+    has "$4" '<li><code>' 'statements that stay'
     if grep -qi 'src=\|href=\|http:\|https:\|<script\|@import\|url(' "$work/page.html"; then wrong "something is loaded from elsewhere"; fi
 }
 
-try "$top/examples/whole-run.lst" 5 0
-try "$top/examples/tray/tray.lst" 32 0
-[ $# = 0 ] || look --window-size=1500,1700 --screenshot="$1" >/dev/null
-printf '012B1001000100000000030\n' >"$work/marked.lst"
+printf '012B100100010000000003\n020001\n012B010001\n0143\n' >"$work/marked.lst"
+printf '050F80\n012B010001\n051002\n020001\n0143\n' >"$work/far.lst"
+try "$top/examples/whole-run.lst" 5 0 0
+grep -q '<h2>The walk</h2>' "$work/dom.html" || wrong "no walk"
+try "$work/marked.lst" 3 1 0
+try "$work/far.lst" 2 0 1
+try "$top/examples/tray/tray.lst" 26 0 0
+if grep -q '<h2>The walk</h2>' "$work/dom.html"; then wrong "a walk of a listing that C-23 does not speak of"; fi
+[ $# = 0 ] || look --window-size=1500,1400 --screenshot="$1" >/dev/null
 echo "test.sh: $tried pages opened, $failed not as they should be"
 [ "$failed" = 0 ]

@@ -90,6 +90,7 @@ def walks(long, short, stems):
     for tests in ("", "00000000", "11111111", "01010101", "10101010", "00110011"):
         (before, _, how), (met, _, ends) = (machine.walk(tests) for machine in machines)
         after = [stems[i] for i in met]
-        same = how == ends and alike(before, after, how == "goes on")
+        on = "goes on" in (how, ends)
+        same = (how == ends or on) and alike(before, after, on)
         result.append((tests or "none", shown(before) or "none", "the same" if same else shown(after) + ", " + ends, how))
     return result

@@ -92,10 +92,11 @@ put_said() {
         !/^  $/ { print; line = "" }' "$work/said" >&2
 }
 
-# The answer, and the status. A refused result never reaches a file.
+# The answer, and the status. A refused result never reaches a file. What is said of an accepted one comes last, where it is not scrolled away.
 answer() {
-    put_said
+    [ "$status" = 0 ] || put_said
     if [ "${refused:-$status}" = 0 ] && [ -n "$output" ] && [ "$output" != - ]; then put_file "$output"; else put_out; fi
+    [ "$status" != 0 ] || put_said
     exit "$status"
 }
 

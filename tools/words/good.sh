@@ -278,7 +278,7 @@ wrote '05000B\n0143\n7F000000000C\nIMAGE C \n==\n'
 # texts
 try 0 '' help
 try 0 '' --help
-for word in optimize judge check image text read where read-back salvage stems differences steps targets why audit settings batch explain help version; do
+for word in optimize judge check image text read where read-back salvage stems differences steps targets why audit page settings batch explain help version; do
     try 0 '' help "$word"
     grep -q "^mortarbee $word" out || wrong "its help begins otherwise"
 done
@@ -306,6 +306,19 @@ tried=$((tried + 1))
 { "$mortarbee" text --addresses wide.lst 2>err; echo $? >ended; } | head -n 1 >out
 [ ! -s err ] || wrong "something was said"
 [ "$(cat ended)" = 0 ] || wrong "status $(cat ended) instead of 0"
+try 0 '' why --words "$top/examples/order-first-place.lst"
+grep -q 'makes line 4 wrong: refusal 8 (mortarbee explain 8)' out || wrong "another statement's refusal is told otherwise"
+
+# The page of a run: one file that loads nothing.
+try 0 '' page good.lst
+grep -q '^<!DOCTYPE html>' out && grep -q 'inverted fold' out || wrong "no page of the run"
+if grep -qi 'src=\|href=\|<script' out; then wrong "the page loads something"; fi
+try 0 'offset.lst: 1 of 2 targets name another byte than before, or none' page -o page.html offset.lst
+grep -q '<li class="bad">' page.html || wrong "the target that needs eyes is not on the page"
+refused_page=$(printf '012C0000000082\n' | "$mortarbee" page - 2>/dev/null)
+[ "$refused_page" = 7E0A00000000000080 ] || wrong "a refused listing gives $refused_page"
+try 0 'offset.lst: 1 of 2 targets name another byte than before, or none: mortarbee targets, with the same options, says which' offset.lst
+
 # A run of some seconds: each of 600 jumps is tried again after each of 420 rewrites, and refused late, by the branch behind them. On a terminal it says how many are done.
 { echo 020001; yes 012B010001 | head -n 600; printf '012C010002\n050789\n020002\n'; yes 012B010002 | head -n 420; } >long.lst
 what='mortarbee long.lst on a terminal'

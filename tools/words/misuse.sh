@@ -20,6 +20,8 @@ try 2 'audit takes a listing and an image' audit good.lst
 try 2 'steps has no option --hex' steps --hex good.lst
 try 2 'targets takes no more words: good.lst is one too many' targets good.lst good.lst
 try 2 'why has no option --word' why --word good.lst
+try 2 'page takes no more words: good.lst is one too many' page good.lst good.lst
+try 2 'page has no option --words' page --words good.lst
 try 2 'where needs a number' where
 try 2 'good.lst is no number' where good.lst
 try 2 '0x is no number' where 0x good.lst

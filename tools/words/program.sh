@@ -70,8 +70,9 @@ show_life() {
     seconds=2 lines=$(wc -l <"$work/input")
     sleep 2
     while :; do
-        rewrites=$(tail -n 1 "$work/count")
-        printf '\rmortarbee: at work on %d lines, %s%d s ' "$lines" "${rewrites:+$rewrites rewrites done, }" "$seconds" >&2
+        rewrites=''
+        if [ -n "$counter" ]; then rewrites="$(tail -n 1 "$work/count" | grep . || echo 0) rewrites done, "; fi
+        printf '\rmortarbee: at work on %d lines, %s%d s ' "$lines" "$rewrites" "$seconds" >&2
         sleep 1
         seconds=$((seconds + 1))
     done
