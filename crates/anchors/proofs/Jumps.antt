@@ -5,7 +5,7 @@ use mathlib.Core.Option.{Option, none, some}
 use mathlib.Core.Bool.{Bool, true, false, _&&_, cond}
 use Prim.Native.Nat.{ℕ, zero, suc, _-_, _^_, _≤_, _<_}
 use native.Mathlib.Omega.{arith}
-use lib.Dec.{eqb, ltb}
+use lib.Dec.{eqb}
 use lib.IntN.{ℤ, pos, negsuc}
 use lib.ListN.{length, getD}
 use mir.Syntax.{w32}
@@ -33,18 +33,6 @@ use Rattle.anchors.specs.declared.Nearest.the-variants.{At, Nothing}
 use Rattle.anchors.specs.Changes.{nearestAs}
 
 -- ---- what is skipped
-
--- by the kind
-pub skipped-kind : (s : Stmt) → skipped s ≡ cond (eqb (kindOf s) 1) false (ltb (kindOf s) 5)
-skipped-kind gone = refl
-skipped-kind (instr f xs c) = refl
-skipped-kind (label n) = refl
-skipped-kind (variable n e) = refl
-skipped-kind (comment x) = refl
-skipped-kind (org l) = refl
-skipped-kind (bytes es) = refl
-skipped-kind (words es) = refl
-skipped-kind (pad add m) = refl
 
 module _ (p : Program) where
   nearest-from : (j : ℕ) (b : Bool) → skipped (at p j) ≡ b → nearest p (suc j) ≡ cond b (nearest p j) (some j)

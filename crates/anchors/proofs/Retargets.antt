@@ -4,11 +4,11 @@ use mathlib.Core.Logic.{_⊎_, inl, inr}
 use mathlib.Core.List.{List, [], _∷_, map}
 use mathlib.Core.Option.{Option, none, some}
 use mathlib.Core.Bool.{Bool, true, false, not, cond}
-use Prim.Native.Nat.{ℕ, _<_}
+use Prim.Native.Nat.{ℕ, _≤_, _<_}
 use native.Mathlib.Omega.{arith}
 use lib.IntN.{pos, negsuc}
 use lib.ListN.{length, getD, length-map}
-use Rattle.laws.proofs.Tests.{none-some, eq-or-not, cond-true, cond-false}
+use Rattle.laws.proofs.Tests.{none-some, eq-or-not, lt-or-le, cond-true, cond-false}
 use Rattle.laws.proofs.Lists.{getD-map-in}
 use Rattle.laws.proofs.Counts.{tab-is}
 use Rattle.rules.specs.declared.Outcome.{Outcome}
@@ -183,13 +183,13 @@ module _ (t : Slots) (s : Sound t) (r : AsRead t) (owners offsets : List ℕ) (m
           on false n = plain n
 
     pub slot-anchored : slotAt u i ≡ anchored i (slotAt t i)
-    slot-anchored = on (eq-or-not form goneForm) (eq-or-not (kindOf (written t i)) 1)
+    slot-anchored = on (lt-or-le form goneForm) (eq-or-not (kindOf (written t i)) 1)
       where
-        on : (form ≡ goneForm) ⊎ (form ≡ goneForm → ⊥) → (kindOf (written t i) ≡ 1) ⊎ (kindOf (written t i) ≡ 1 → ⊥) → slotAt u i ≡ anchored i (slotAt t i)
-        on (inl g) k = slot-gone u i g ∙ sym (ap (anchored i) (slot-gone t i g) ∙ other-left gone (λ z. omega arith))
-        on (inr g) (inl k) = instruction (kind-kept t i g ∙ k) (kind-kept u i g ∙ k)
-        on (inr g) (inr k) =
+        on : (form < goneForm) ⊎ (goneForm ≤ form) → (kindOf (written t i) ≡ 1) ⊎ (kindOf (written t i) ≡ 1 → ⊥) → slotAt u i ≡ anchored i (slotAt t i)
+        on (inl g) (inl k) = instruction (kind-kept t i g ∙ k) (kind-kept u i g ∙ k)
+        on (inl g) (inr k) =
             slot-other u i g k ∙ sym (ap (anchored i) (slot-other t i g k) ∙ other-left (written t i) k)
+        on (inr g) k = slot-gone u i g ∙ sym (ap (anchored i) (slot-gone t i g) ∙ other-left gone (λ z. omega arith))
 
   -- ---- the whole program
 

@@ -78,7 +78,7 @@ fn address(v: i32) -> Address
 }
 
 // The origin of a value. `positions` are those of the slots.
-fn value_origin(
+pub fn value_origin(
     frames: &[u8],
     state: &State,
     count: usize,

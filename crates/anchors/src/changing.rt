@@ -6,8 +6,10 @@ use instruction::tables::NOT1;
 use patterns::targets::form_at;
 use rules::Outcome;
 use rules::Place;
+use rules::Statement;
+use slots::Slot;
 use slots::State;
-use slots::kind_at;
+use slots::slot_at;
 ghost use mathlib.Core.Path.{_≡_};
 ghost use mathlib.Core.Option.{some};
 ghost use Prim.Native.Nat.{suc, _<_, _≤_};
@@ -34,11 +36,18 @@ fn skipped_at(frames: &[u8], state: &State, count: usize, at: Place) -> bool
     ensures { λ r. ⌜ Any (now (frames .entry)) (startsIn (now (state .entry))) count (formsIn (now (state .entry))) (λ t. r ≡ skipped
         (slotAt t (at .0))) ⌝ }
 {
-    let kind = kind_at(frames, state, count, at);
-    if kind == 1 {
-        return false;
+    match slot_at(frames, state, count, at) {
+        Slot::Gone => true,
+        Slot::Form(_) => false,
+        Slot::Holds(statement) => match statement {
+            Statement::Label(_) | Statement::Variable(_, _) | Statement::Comment(_) => true,
+            Statement::Instr(_)
+            | Statement::Org(_)
+            | Statement::Bytes(_, _)
+            | Statement::Words(_, _)
+            | Statement::Pad(_, _) => false,
+        },
     }
-    kind < 5
 }
 
 // The last place below whose statement is not skipped.

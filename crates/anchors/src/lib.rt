@@ -5,6 +5,7 @@ mod anchoring; // which targets become inner labels
 mod changing; // which jumps are change jumps
 
 pub use anchoring::anchor;
+pub use anchoring::value_origin;
 pub use changing::is_change_jump;
 
 // The nearest earlier statement that a change jump is judged by.

@@ -4,7 +4,7 @@ use mathlib.Core.List.{List, [], _∷_}
 use mathlib.Core.Bool.{Bool, true, false, cond}
 use Prim.Native.Nat.{ℕ, zero, suc, _<_}
 use native.Mathlib.Omega.{arith}
-use lib.Dec.{eqb}
+use lib.Dec.{leb}
 use lib.ListN.{getD, length}
 use Rattle.rules.specs.Programs.{Placeℕ, Addressℕ, Operand, Stmt, gone, instr, label, variable, comment, org, bytes, words, pad, Instruction, onInstr, Program, at}
 use Rattle.rules.specs.Layout.{after, positionFrom, position}
@@ -69,7 +69,7 @@ module _ (frames starts : List ℕ) (count : ℕ) (forms carry owners offsets : 
     same-slots F e j l =
         let k : j < count = omega (arith, length-program one) in
         ap F (at-program one j k)
-        ∙ either F (reformed one j) (reformed other j) (λ x. e _ _ _ _ _) (eqb (getD forms j 0) goneForm) (written one j)
+        ∙ either F (reformed one j) (reformed other j) (λ x. e _ _ _ _ _) (leb goneForm (getD forms j 0)) (written one j)
         ∙ sym (ap F (at-program other j k))
 
     same-context : (i : Placeℕ) → contextAt (programOf one) i ≡ contextAt (programOf other) i

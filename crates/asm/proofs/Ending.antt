@@ -67,15 +67,6 @@ judge-encodes : (p : Program) (names : List Entry) → namesJudged p ≡ ok name
 unfolding _>>=_
 judge-encodes p names e = judge-names p ∙ rw e
 
--- the names that stand are those of the program
-pub names-stand : (p : Program) (names : List Entry) → namesJudged p ≡ ok names → namesOf p ≡ names
-unfolding namesJudged namesOf orD
-names-stand p names e =
-    let fits : Judged (List Entry) = positionsFit (placed p) >> defineAll [] (placed p) in
-    let a = next-ok (noNameTwice [] (placed p)) fits names e in
-    let b = next-ok (positionsFit (placed p)) (defineAll [] (placed p)) names (a .2) in
-    rw (b .2)
-
 -- ---- the tables
 
 module _ (t : Slots) (links : List ℕ) (values : List ℤ) (positions : List ℕ) where

@@ -134,9 +134,3 @@ module _ (t : Slots) (h : Held (t .frames) (t .starts) (t .count)) (v : AreBytes
 
     pub found-later : originFrom 0 0 p a ≡ fromPlace p a i → has q n a ≡ false → originFrom 0 0 p a ≡ fromPlace p a (i + 1)
     found-later e b = e ∙ from-next p a i (omega (arith, length-program t)) (tested false b)
-
--- ---- positions rise in tables that were judged
-pub ready-rises : (d : Tables) → Ready d → Rises (program d)
-ready-rises d h j l =
-    let m : j < d .slots .count = omega (arith, l, length-program (d .slots)) in
-    omega (arith, h .position j (omega arith), h .position (suc j) m, h .rises j m)

@@ -83,7 +83,7 @@ module _ (frames starts : List ℕ) (n : ℕ) (h : Held frames starts n) (forms 
   slot-instruction : (i : ℕ) → i < n → InstrFrame i (s i) (written t i) → slotAt t i ≡ written t i
   slot-instruction i l f =
       let e = own-form i l (f .kind) in
-      let stays : getD forms i 0 ≡ goneForm → ⊥ = λ g. omega (arith, f .known) in
+      let stays : getD forms i 0 < goneForm = omega (arith, f .known) in
       slot-instr t i (getD (s i) 1 0) (f .args) i stays (f .is)
       ∙ rw (mine i l, e)
       (ap (λ xs. instr (getD (s i) 1 0) xs i) (aimed (isTransfer (getD (s i) 1 0))) ∙ sym (f .is))
@@ -95,7 +95,7 @@ module _ (frames starts : List ℕ) (n : ℕ) (h : Held frames starts n) (forms 
   slot-plain : (i : ℕ) → i < n → (getD (s i) 0 0 ≡ 1 → ⊥) → slotAt t i ≡ written t i
   slot-plain i l k =
       let e = no-form i l k in
-      slot-other t i (λ g. omega arith) (λ o. k (sym (kind-read i (s i) (written t i) (frame-is frames starts n h i l)) ∙ o))
+      slot-other t i (omega arith) (λ o. k (sym (kind-read i (s i) (written t i) (frame-is frames starts n h i l)) ∙ o))
 
   pub slot-as-read : (i : ℕ) → i < n → slotAt t i ≡ inputAt frames starts i
   slot-as-read i l = on (frame-is frames starts n h i l)

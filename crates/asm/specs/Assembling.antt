@@ -32,7 +32,7 @@ Once t = noNameTwice [] (placed (programOf t)) ≡ ok tt
 
 -- no slot is gone: the listing as it was read
 abbrev pub Whole : Slots → Type 0
-Whole t = (i : Placeℕ) → i < t .count → getD (t .forms) i 0 ≡ goneForm → ⊥
+Whole t = (i : Placeℕ) → i < t .count → getD (t .forms) i 0 < goneForm
 
 -- the contexts of the slots are those of the listing as it was read
 abbrev pub InPlace : Slots → Type 0

@@ -6,7 +6,7 @@ use mathlib.Core.Bool.{Bool, true, false, cond}
 use mathlib.Core.Logic.{_⊎_, inl, inr}
 use Prim.Native.Nat.{ℕ, suc, _<_}
 use native.Mathlib.Omega.{arith}
-use lib.Dec.{eqb}
+use lib.Dec.{eqb, leb}
 use lib.ListN.{length, getD, set, length-set}
 use lib.Seq.{getD-set-same, getD-set-other, set-getD}
 use borrow.Author.Tests.{eq-eqb, ne-eqb}
@@ -77,13 +77,13 @@ module _ (frames starts : List ℕ) (count : ℕ) (owners offsets : List ℕ) wh
   unfolding slotAt targetOf
   slot-same forms carry forms′ carry′ i e d =
       let w = inputAt frames starts i in
-      ap₂ (λ (a b : ℕ). cond (eqb a goneForm) gone (onInstr w (λ x. instr a (aimedAt (tables forms carry) a b (x .args)) b) w)) e d
+      ap₂ (λ (a b : ℕ). cond (leb goneForm a) gone (onInstr w (λ x. instr a (aimedAt (tables forms carry) a b (x .args)) b) w)) e d
 
   -- an instruction with form f that carries the target of place c
   slot-new : (forms carry forms′ carry′ : List ℕ) (i f c g : ℕ) (xs : List Operand) (k : ℕ) → getD forms′ i 0 ≡ f → getD carry′ i 0 ≡ c → f < goneForm
       → written (tables forms carry) i ≡ instr g xs k → slotAt (tables forms′ carry′) i ≡ instr f (aimedAt (tables forms carry) f c xs) c
   unfolding targetOf
-  slot-new forms carry forms′ carry′ i f c g xs k e d l w = slot-instr (tables forms′ carry′) i g xs k (λ q. omega arith) w ∙ rw (e, d)
+  slot-new forms carry forms′ carry′ i f c g xs k e d l w = slot-instr (tables forms′ carry′) i g xs k (omega arith) w ∙ rw (e, d)
 
   module _ (forms carry : List ℕ) (i f c : ℕ) (inf : i < length forms) (inc : i < length carry) where
     abbrev before : Slots
@@ -212,7 +212,7 @@ module _ (frames starts : List ℕ) (count : ℕ) (forms carry owners offsets : 
   pub edit-gone : (i : ℕ) → i < count → Quiet (slotAt here i) → Edited here (there (set forms i goneForm) carry) i gone
   unfolding asName
   edit-gone i l old =
-      let is = slot-gone (there (set forms i goneForm) (set carry i (getD carry i 0))) i (getD-set-same forms i goneForm 0 (in-forms i l)) in
+      let is = slot-gone (there (set forms i goneForm) (set carry i (getD carry i 0))) i (omega (arith, getD-set-same forms i goneForm 0 (in-forms i l))) in
       subst (λ (c : List ℕ). Edited here (there (set forms i goneForm) c) i gone) (set-getD carry i 0)
       (edited i goneForm (getD carry i 0) gone l old is (λ k. refl) refl
       (λ e. let z : _≡_ {A = ℕ} 0 1 = sym (ap kindOf is) ∙ e in absurd (omega arith)) (λ e m. let z : _≡_ {A = ℕ} 0 1 = sym (ap kindOf is) ∙ e in absurd (omega arith)))

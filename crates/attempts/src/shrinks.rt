@@ -18,8 +18,8 @@ ghost use Rattle.attempts.specs.Deepest.{Deepest};
 ghost use Rattle.attempts.specs.Shrinks.{shrunk};
 ghost use Rattle.slots.specs.State.{startsIn, formsIn, tableOf};
 
-// A form whose only operand is its target in the place of the instruction there, if the candidate counts. "A replaced instruction may have no inner label with offset 1 or more in the
-// run right before it": `deepest` has one more than the largest offset.
+// A form whose only operand is its target in the place of the instruction there, if the candidate counts. "A replaced instruction may have
+// no inner label with offset 1 or more in the run right before it": `deepest` has one more than the largest offset.
 pub fn try_form(
     frames: &[u8],
     state: &mut State,

@@ -1,17 +1,11 @@
 // The bytes of an instruction. Each arm of encode names the shape of its bit pattern and the pattern's fixed bits as src/instruction.rs
 // writes them; the letters a, b, c are the arguments' values.
-use instruction::forms;
-use instruction::forms::Made;
-use rules::Arg;
 use rules::Code;
 use rules::Instr;
 ghost use mathlib.Core.Path.{_≡_};
 ghost use mathlib.Core.List.{[], _∷_, _++_};
 ghost use Rattle.laws.specs.Bits.{bits, byteOf};
-ghost use Rattle.rules.specs.Forms.{sizeAt};
-ghost use Rattle.rules.specs.Patterns.{bytesAt};
 ghost use Rattle.rules.specs.Instructions.{codeOf, encOf};
-ghost use Rattle.encoding.specs.Encode.{codeAt, bytesOfCode};
 
 pub fn encode(i: Instr, a: u16, b: u16, c: u16) -> Code
     ensures { λ r. ⌜ r ≡ encOf i a b c ⌝ }
@@ -87,22 +81,6 @@ pub fn encode(i: Instr, a: u16, b: u16, c: u16) -> Code
         Instr::Nop => one(0b00000000),
         Instr::Ldf => one(0b01010000),
         Instr::Stf => one(0b01010001),
-    }
-}
-
-// The same by form number. From 70 on there are no bytes.
-pub fn encode_form(form: u8, a: u16, b: u16, c: u16) -> Code
-    ensures code { λ r. ⌜ r ≡ codeAt form a b c ⌝ }
-    ensures bytes { λ r. ⌜ (bytesOfCode r ≡ bytesAt form (a ∷ b ∷ c ∷ [])) × (r .len ≡ sizeAt form) ⌝ }
-{
-    match forms::make(form, Arg(0), Arg(0), Arg(0)) {
-        Made::Is(i) => encode(i, a, b, c),
-        Made::Nothing => Code {
-            len: 0,
-            b0: 0,
-            b1: 0,
-            b2: 0,
-        },
     }
 }
 

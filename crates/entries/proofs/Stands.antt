@@ -37,12 +37,12 @@ use Rattle.attempts.specs.Standing.{Standing}
 pub own-together : (t : Slots) → ((i : Placeℕ) → i < t .count → getD (t .carry) i 0 ≡ i) → Together t
 own-together t own i l k m = ap (contextAt (programOf t)) (own i l)
 
--- each place has its own form, and no frame that reads has the form of a slot that is gone
-module _ (i : Placeℕ) (s : List ℕ) (e : formIn s ≡ goneForm) where
-  plain : (getD s 0 0 ≡ 1 → ⊥) → ⊥
+-- each place has its own form, which is one of the seventy
+module _ (i : Placeℕ) (s : List ℕ) where
+  plain : (getD s 0 0 ≡ 1 → ⊥) → formIn s < goneForm
   plain n = omega (arith, cond-false (eqb (getD s 0 0) 1) (getD s 1 0) 0 (ne-eqb (getD s 0 0) 1 n))
 
-  own-form : (x : Stmt) → Frame i s x → ⊥
+  own-form : (x : Stmt) → Frame i s x → formIn s < goneForm
   own-form x (ofInstr f) = omega (arith, f .known, cond-true (eqb (getD s 0 0) 1) (getD s 1 0) 0 (eq-eqb (getD s 0 0) 1 (f .kind)))
   own-form x (ofLabel f) = plain (λ k. omega (arith, f .kind))
   own-form x (ofVariable f) = plain (λ k. omega (arith, f .kind))
@@ -53,10 +53,9 @@ module _ (i : Placeℕ) (s : List ℕ) (e : formIn s ≡ goneForm) where
   own-form x (ofPad f) = plain (λ k. omega (arith, f .kind))
 
 pub whole-start : (frames starts : List ℕ) (n : ℕ) (forms : List ℕ) → Held frames starts n
-    → ((k : Placeℕ) → k < n → getD forms k 0 ≡ formIn (frameAt frames starts k)) → (i : Placeℕ) → i < n → getD forms i 0 ≡ goneForm → ⊥
-whole-start frames starts n forms h own i l g =
-    own-form i (frameAt frames starts i) (sym (own i l) ∙ g) (inputAt frames starts i)
-    (frame-is frames starts n h i l)
+    → ((k : Placeℕ) → k < n → getD forms k 0 ≡ formIn (frameAt frames starts k)) → (i : Placeℕ) → i < n → getD forms i 0 < goneForm
+whole-start frames starts n forms h own i l =
+    omega (arith, own i l, own-form i (frameAt frames starts i) (inputAt frames starts i) (frame-is frames starts n h i l))
 
 -- ---- anchored
 

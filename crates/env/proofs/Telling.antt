@@ -1,38 +1,38 @@
 -- Names as read and as they stand: a slot defines the name that it was read with, or it is gone.
 use mathlib.Core.Path.{_≡_, refl, sym, ap, _∙_}
+use mathlib.Core.Option.{some}
 use mathlib.Core.Bool.{cond}
 use mathlib.Core.Logic.{_⊎_, inl, inr, ⊎-elim}
 use mathlib.Core.List.{List}
-use Prim.Native.Nat.{ℕ, suc, _+_, _*_, _^_, _≤_, _<_}
+use Prim.Native.Nat.{ℕ, suc, _+_, _^_, _≤_, _<_}
 use native.Mathlib.Omega.{arith}
 use lib.Dec.{eqb}
 use lib.IntN.{ℤ, pos}
 use lib.ListN.{length, getD, set}
 use lib.Seq.{getD-set-same, getD-set-other}
 use borrow.Author.Count.{below-more}
-use borrow.Author.Tests.{eq-eqb, ne-eqb, lt-ltb}
+use borrow.Author.Tests.{ne-eqb, lt-ltb}
 use Rattle.laws.proofs.Tests.{eq-or-not, lt-or-le}
 use Rattle.rules.specs.declared.Outcome.the-variants.{Is, Nothing}
-use Rattle.rules.specs.Values.{inRange}
-use Rattle.rules.specs.Programs.{Placeℕ, Stmt, gone, instr, label, variable, comment, org, bytes, words, pad, Instruction, onInstr, Program, asName, kindOf}
+use Rattle.rules.specs.Programs.{Placeℕ, Stmt, gone, instr, label, variable, comment, org, bytes, words, pad, Instruction, onInstr, asName, kindOf}
 use Rattle.rules.specs.Statements.{pairAt}
 use Rattle.expression.specs.Sound.{AreBytes}
 use Rattle.rules.specs.Names.{keyOf, lookup}
 use Rattle.expression.specs.Environment.{entriesOf}
 use Rattle.expression.specs.Linked.{Linked, Shown, stands, dropped}
 use Rattle.expression.proofs.Links.{links-say}
-use Rattle.listing.specs.Tables.{frameAt, inputAt, Held}
+use Rattle.listing.specs.Tables.{frameAt, Held}
 use Rattle.slots.specs.Slots.{Slots, goneForm, written, reformed, slotAt, programOf}
 use Rattle.slots.specs.Links.{nameIn, namesRead, contextsRead, namesNow, Beside}
 use Rattle.slots.proofs.Frames.{Frame, ofInstr, ofLabel, ofVariable, ofComment, ofOrg, ofBytes, ofWords, ofPad}
 use Rattle.slots.proofs.Tables.{frame-is, bytes-frame}
-use Rattle.slots.proofs.Slots.{slot-gone, slot-kept, kind-kept, kind-read, kind-most}
+use Rattle.slots.proofs.Slots.{slot-gone, slot-kept, kind-kept, kind-read, slot-data, written-frame}
 use Rattle.slots.proofs.Linking.{name-read, name-now}
 use Rattle.env.specs.declared.Valued.{Valued}
 use Rattle.env.specs.declared.Valued.the-variants.{Is as Valued·Is, Refused}
 use Rattle.env.specs.Answers.{InRange}
 use Rattle.env.specs.Tables.{Tells, TellsIn, ShownTo, InContext, Named, nameSaid}
-use Rattle.env.proofs.Programs.{length-program, at-program, naming-slot}
+use Rattle.env.proofs.Programs.{length-program, at-program}
 use Rattle.env.proofs.Naming.{no-name, names-none, names-some}
 
 -- an instruction defines no name, whatever becomes of it
@@ -70,7 +70,7 @@ module _ (t : Slots) (h : Held (t .frames) (t .starts) (t .count)) (i : Placeℕ
   unfolding asName
   gone-name e = name-now t i l ∙ ap nameIn e
 
-  stands-name : (getD (t .forms) i 0 ≡ goneForm → ⊥) → getD (namesNow t) i 0 ≡ getD (namesRead (t .frames) (t .starts) (t .count)) i 0
+  stands-name : getD (t .forms) i 0 < goneForm → getD (namesNow t) i 0 ≡ getD (namesRead (t .frames) (t .starts) (t .count)) i 0
   unfolding asName
   stands-name g =
       name-now t i l ∙ ap nameIn (slot-kept t i g) ∙ kept-name (reformed t i) (λ x. refl) (written t i)
@@ -78,14 +78,15 @@ module _ (t : Slots) (h : Held (t .frames) (t .starts) (t .count)) (i : Placeℕ
 
   -- a number that tells of the slot shows the place
   pub shown-at : (values : List ℤ) → Tells (slotAt t i) (getD values i (pos 0)) → Shown (namesRead (t .frames) (t .starts) (t .count)) (namesNow t) values i
-  shown-at values e = on (eq-or-not (getD (t .forms) i 0) goneForm)
+  shown-at values e = on (lt-or-le (getD (t .forms) i 0) goneForm)
     where
-      on : (getD (t .forms) i 0 ≡ goneForm) ⊎ (getD (t .forms) i 0 ≡ goneForm → ⊥) → Shown (namesRead (t .frames) (t .starts) (t .count)) (namesNow t) values i
-      on (inl g) = let z = slot-gone t i g in dropped (gone-name z) (e ∙ rw z)
-      on (inr g) = stands (stands-name g) (e ∙ rw (ne-eqb (kindOf (slotAt t i)) 0 (λ z. read-kind (sym (kind-kept t i g) ∙ z))))
+      on : (getD (t .forms) i 0 < goneForm) ⊎ (goneForm ≤ getD (t .forms) i 0) → Shown (namesRead (t .frames) (t .starts) (t .count)) (namesNow t) values i
+      on (inl g) = stands (stands-name g) (e ∙ rw (ne-eqb (kindOf (slotAt t i)) 0 (λ z. read-kind (sym (kind-kept t i g) ∙ z))))
+      on (inr g) = let z = slot-gone t i g in dropped (gone-name z) (e ∙ rw z)
 
   -- the name of a slot is "two-byte"
   pub name-said : AreBytes (t .frames) → asName (slotAt t i) ≡ nameSaid (nameIn (slotAt t i))
+  unfolding asName
   name-said v = ⊎-elim above below (lt-or-le 1 (kindOf (slotAt t i)))
     where
       f : List ℕ
@@ -97,12 +98,21 @@ module _ (t : Slots) (h : Held (t .frames) (t .starts) (t .count)) (i : Placeℕ
       below : kindOf (slotAt t i) ≤ 1 → asName (slotAt t i) ≡ nameSaid (nameIn (slotAt t i))
       below k = none-said (λ e. omega arith) (λ e. omega arith)
 
+      some-said : asName (slotAt t i) ≡ some (pairAt f 1) → asName (slotAt t i) ≡ nameSaid (nameIn (slotAt t i))
+      some-said e =
+          let small : pairAt f 1 < 65536 = omega (arith, bytes-frame (t .frames) (t .starts) v i 1, bytes-frame (t .frames) (t .starts) v i 2) in
+          let n = names-some (slotAt t i) (pairAt f 1) e small in n .1 ∙ ap nameSaid (n .0)
+
+      labelled : kindOf (slotAt t i) ≡ 2 → asName (slotAt t i) ≡ some (pairAt f 1)
+      labelled e = ap asName (slot-data t i 0 e ∙ written-frame t h i l 1 e .is)
+
+      bound : kindOf (slotAt t i) ≡ 3 → asName (slotAt t i) ≡ some (pairAt f 1)
+      bound e = ap asName (slot-data t i 1 e ∙ written-frame t h i l 2 e .is)
+
       above : 1 < kindOf (slotAt t i) → asName (slotAt t i) ≡ nameSaid (nameIn (slotAt t i))
       above k =
           ⊎-elim (λ q. none-said (λ e. omega arith) (λ e. omega arith))
-          (λ q. let s = naming-slot t h i l (omega arith) (omega arith) in
-          let small : pairAt (frameAt (t .frames) (t .starts) i) 1 < 65536 = omega (arith, bytes-frame (t .frames) (t .starts) v i 1, bytes-frame (t .frames) (t .starts) v i 2) in
-          let n = names-some (slotAt t i) (pairAt (frameAt (t .frames) (t .starts) i) 1) (s .name) small in n .1 ∙ ap nameSaid (n .0))
+          (λ q. some-said (⊎-elim labelled (λ n. bound (omega arith)) (eq-or-not (kindOf (slotAt t i)) 2)))
           (lt-or-le 3 (kindOf (slotAt t i)))
 
 -- ---- numbers of the table

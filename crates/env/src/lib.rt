@@ -19,13 +19,6 @@ use rules::Refusal;
 pub use settling::settle_all;
 pub use variables::define_all;
 
-// The kinds of statement that are looked into here, by the first byte of their frames.
-const LABEL: u8 = 2;
-
-const VARIABLE: u8 = 3;
-
-const ORG: u8 = 5;
-
 // Names from here on are local.
 const LOCAL: u16 = 0x8000;
 

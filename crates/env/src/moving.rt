@@ -1,13 +1,13 @@
 // C-15: the names that move with the code: labels, and variables that hold a label "directly or through variables", which stand above. A
 // variable is looked into once a run.
 use crate::NO_NAME;
-use crate::VARIABLE;
-use crate::names::name_at;
 use expression::holds_label;
 use rules::Place;
+use rules::Statement;
+use slots::Slot;
 use slots::State;
 use slots::frame_at;
-use slots::kind_at;
+use slots::slot_at;
 ghost use mathlib.Core.Path.{_≡_};
 ghost use Prim.Native.Nat.{_<_};
 ghost use lib.ListN.{length, getD};
@@ -32,17 +32,29 @@ fn moving_at(
         (λ t. MovesAs (keysOf (now (moving .entry)) (now (contexts .entry)) (at .0)) (getD (now (contexts .entry)) (at .0) 0)
         (slotAt t (at .0)) r) ⌝ }
 {
-    let name = name_at(frames, state, count, at);
-    if kind_at(frames, state, count, at) != VARIABLE {
-        return name;
-    }
-    let frame = frame_at(frames, state, count, at);
     let i = at.0;
-    // "above it": the places below i
-    if holds_label(&frame[3..], moving, contexts, i, contexts[i]) {
-        return name;
+    let Slot::Holds(statement) = slot_at(frames, state, count, at) else {
+        return NO_NAME;
+    };
+    match statement {
+        Statement::Label(n) => n as u32,
+        Statement::Variable(n, value) => {
+            let frame = frame_at(frames, state, count, at);
+            let a = value.0;
+            // "above it": the places below i
+            if holds_label(&frame[a..], moving, contexts, i, contexts[i]) {
+                n as u32
+            } else {
+                NO_NAME
+            }
+        }
+        Statement::Instr(_)
+        | Statement::Comment(_)
+        | Statement::Org(_)
+        | Statement::Bytes(_, _)
+        | Statement::Words(_, _)
+        | Statement::Pad(_, _) => NO_NAME,
     }
-    NO_NAME
 }
 
 // Fills the name that each place defines, if it moves.

@@ -1,110 +1,124 @@
 -- Data in a slot: the frame was read as data, and the slot's encoding is that of its items.
 use mathlib.Core.Path.{_≡_, refl, sym, ap, _∙_}
 use mathlib.Core.List.{List}
-use mathlib.Core.Logic.{⊎-elim}
-use Prim.Native.Nat.{ℕ, suc, _*_, _-_, _≤_, _<_}
+use Prim.Native.Nat.{ℕ, suc, _*_, _≤_, _<_}
 use native.Mathlib.Omega.{arith}
-use lib.Dec.{eqb}
-use lib.IntN.{ℤ}
 use lib.ListN.{length, getD}
-use Rattle.rules.specs.declared.Outcome.{Outcome}
-use Rattle.laws.proofs.Tests.{eq-or-not, cond-both}
-use Rattle.rules.specs.Answers.{Judged}
+use Rattle.rules.specs.declared.Arg.{Arg}
+use Rattle.rules.specs.declared.Statement.{Statement}
+use Rattle.rules.specs.declared.Statement.the-variants.{Bytes as OfBytes, Words as OfWords}
 use Rattle.rules.specs.Expressions.{Expr}
-use Rattle.rules.specs.Programs.{Placeℕ, Addressℕ, Stmt, gone, instr, label, variable, comment, org, bytes, words, pad, byteCount, kindOf}
+use Rattle.rules.specs.Programs.{Addressℕ, Stmt, bytes, words, Program, byteCount, kindOf}
 use Rattle.rules.specs.Layout.{position}
-use Rattle.rules.specs.Names.{keyOf, lookup, contextAt}
+use Rattle.rules.specs.Names.{Entry, keyOf, lookup, contextAt}
+use Rattle.rules.specs.Judging.{items, encode}
+use Rattle.rules.specs.Statements.{stmtOf}
 use Rattle.expression.specs.Linked.{Linked}
-use Rattle.rules.specs.Judging.{items}
 use Rattle.listing.specs.Tables.{frameAt, inputAt}
-use Rattle.slots.specs.Slots.{Slots, slotAt, written, DataIn}
-use Rattle.slots.proofs.Tables.{frame-is}
-use Rattle.slots.proofs.Slots.{kind-read, kind-kept, not-gone, slot-data}
+use Rattle.slots.specs.declared.Slot.{Slot}
+use Rattle.slots.specs.declared.Slot.the-variants.{Holds}
+use Rattle.slots.specs.Slots.{Slots, slotAt, DataIn}
+use Rattle.slots.specs.Meaning.{Stands}
+use Rattle.slots.proofs.Linking.{length-beside}
+use Rattle.slots.proofs.Slots.{slot-data}
+use Rattle.slots.proofs.Stands.{first-is, kind-stands, bytes-says, words-says}
+use Rattle.image.specs.declared.data.Data.{Data}
+use Rattle.image.specs.declared.data.Data.the-variants.{Bytes, Words}
 use Rattle.image.specs.Tables.{Tables, program, Ready}
 use Rattle.image.specs.Encoding.{encodeAt, itemsOf, itemsIn, boundOf, writeOf}
 use Rattle.image.specs.Image.{widthOf, sizeOf}
 use Rattle.image.proofs.Items.{data-in}
-use Rattle.image.proofs.Passes.{encode-bytes, encode-words}
 
-pub record DataSlot (d : Tables) (i : ℕ) (s : List ℕ) : Type 0 where
-  pub first : getD s 0 0 ≡ kindOf (slotAt (d .slots) i)
+-- the code's statement of n items, and the definition's of the items es
+abbrev pub ofCode : Data → (n : ℕ) (a : Arg) → Statement
+ofCode Bytes n a = OfBytes n a
+ofCode Words n a = OfWords n a
+
+abbrev ofItems : Data → List Expr → Stmt
+ofItems Bytes es = bytes es
+ofItems Words es = words es
+
+encode-data : (names : List Entry) (p : Program) (i k q : ℕ) (what : Data) (es : List Expr)
+    → encode names p i k q (ofItems what es) ≡ items names (boundOf what) (writeOf what) i k 0 es
+unfolding encode
+encode-data names p i k q Bytes es = refl
+encode-data names p i k q Words es = refl
+
+size-data : (q : Addressℕ) (what : Data) (es : List Expr) → byteCount q (ofItems what es) ≡ widthOf what * length es
+size-data q Bytes es = let z : length es ≡ 1 * length es = omega arith in z
+size-data q Words es = refl
+
+some-data : (what : Data) (n : ℕ) → 1 ≤ n → 0 < widthOf what * n
+some-data Bytes n l = omega arith
+some-data Words n l = omega arith
+
+-- s is the frame of the n items in slot i, b the links beside it
+pub record DataSlot (d : Tables) (i : ℕ) (what : Data) (n : ℕ) (s b : List ℕ) : Type 0 where
   pub read : DataIn i s
-  pub same : itemsOf (slotAt (d .slots) i) ≡ itemsIn i s
-  pub encodes : encodeAt d i ≡ items (d .entries) (boundOf (getD s 0 0)) (writeOf (getD s 0 0)) i (getD (d .contexts) i 0) 0 (itemsIn i s)
+  pub count : n ≡ getD s 1 0
+  pub beside : length b ≡ length s
+  pub linked : Linked (λ m. lookup (d .entries) (keyOf (getD (d .contexts) i 0) m)) s b (d .values) (d .slots .count)
+  pub encodes : encodeAt d i ≡ items (d .entries) (boundOf what) (writeOf what) i (getD (d .contexts) i 0) 0 (itemsIn i s)
+  pub size : sizeOf d i ≡ widthOf what * n
+  pub some : 0 < widthOf what * n
 
-module _ (d : Tables) (h : Ready d) (i : ℕ) (l : i < d .slots .count) (k : ℕ) (e : kindOf (slotAt (d .slots) i) ≡ suc (suc k)) (m : 4 ≤ k) (n : k ≤ 5) where
+module _ (d : Tables) (h : Ready d) (i : ℕ) (l : i < d .slots .count) (r : Slot) (st : Stands (d .slots) i r) (n : ℕ) (a : Arg) where
   abbrev t : Slots
   t = d .slots
 
   abbrev frame : List ℕ
   frame = frameAt (t .frames) (t .starts) i
 
-  first-is : getD frame 0 0 ≡ kindOf (slotAt t i)
-  first-is =
-      sym (kind-read i frame (written t i) (frame-is (t .frames) (t .starts) (t .count) (h .sound .held) i l)) ∙ sym (kind-kept t i (not-gone t i (suc k) e))
+  abbrev all : List Expr
+  all = itemsIn i frame
 
-  is-data : DataIn i frame
-  is-data = record { reads = h .sound .held .reads i l; kind = omega (arith, first-is); no-pad = omega (arith, first-is) }
+  kind-is : (what : Data) → r ≡ Holds (ofCode what n a) → (m : ℕ) × (kindOf (slotAt t i) ≡ suc (suc m)) × (4 ≤ m) × (m ≤ 5)
+  kind-is Bytes e = (4, kind-stands t i r st (OfBytes n a) e, omega arith, omega arith)
+  kind-is Words e = (5, kind-stands t i r st (OfWords n a) e, omega arith, omega arith)
 
-  same-items : itemsOf (slotAt t i) ≡ itemsIn i frame
-  unfolding inputAt
-  same-items = ap itemsOf (slot-data t i k e)
+  says : (what : Data) → r ≡ Holds (ofCode what n a) → n ≡ getD frame 1 0
+  says Bytes e = bytes-says t (h .sound .held) i l r st n a e .0
+  says Words e = words-says t (h .sound .held) i l r st n a e .0
 
-  -- the items of a kind in the table's context
-  abbrev inTable : (kind : ℕ) → Judged (List ℕ)
-  inTable kind = items (d .entries) (boundOf kind) (writeOf kind) i (getD (d .contexts) i 0) 0 (itemsIn i frame)
+  -- the items that it has
+  own : (what : Data) → r ≡ Holds (ofCode what n a) → slotAt t i ≡ ofItems what (itemsOf (slotAt t i))
+  unfolding stmtOf
+  own Bytes e = let m = st .holds (OfBytes n a) e .means in m ∙ sym (ap (λ x. bytes (itemsOf x)) m)
+  own Words e = let m = st .holds (OfWords n a) e .means in m ∙ sym (ap (λ x. words (itemsOf x)) m)
 
-  abbrev inProgram : (kind : ℕ) (es : List Expr) → Judged (List ℕ)
-  inProgram kind es = items (d .entries) (boundOf kind) (writeOf kind) i (contextAt (program d) i) 0 es
+  module _ (what : Data) (e : r ≡ Holds (ofCode what n a)) where
+    is : slotAt t i ≡ ofItems what all
+    unfolding inputAt
+    is = let k = kind-is what e in own what e ∙ ap (λ x. ofItems what (itemsOf x)) (slot-data t i (k .0) (k .1))
 
-  -- the definition's items are those of the kind
-  by-kind : (kind : ℕ) → kindOf (slotAt t i) ≡ kind → encodeAt d i ≡ inProgram kind (itemsOf (slotAt t i)) → encodeAt d i ≡ inTable (getD frame 0 0)
-  by-kind kind q w =
-      w ∙ ap (inProgram kind) same-items
-      ∙ ap (λ c. items (d .entries) (boundOf kind) (writeOf kind) i c 0 (itemsIn i frame)) (sym (h .context i l))
-      ∙ ap inTable (sym (first-is ∙ q))
+    read : DataIn i frame
+    read =
+        let k = kind-is what e in
+        let f = first-is t (h .sound .held) i l (suc (k .0)) (k .1) in
+        record { reads = h .sound .held .reads i l; kind = omega (arith, f, k .2); no-pad = omega (arith, f, k .3) }
 
-  encodes-as : encodeAt d i ≡ inTable (getD frame 0 0)
-  unfolding encodeAt
-  encodes-as =
-      ⊎-elim (λ q. by-kind 6 q (encode-bytes (d .entries) (program d) i (contextAt (program d) i) (position (program d) i) (slotAt t i) q))
-      (λ o.
-      let q : kindOf (slotAt t i) ≡ 7 = omega arith in
-      by-kind 7 q (encode-words (d .entries) (program d) i (contextAt (program d) i) (position (program d) i) (slotAt t i) q))
-      (eq-or-not (kindOf (slotAt t i)) 6)
+    count : length all ≡ n
+    count = data-in i frame read .items .count ∙ sym (says what e)
 
-  pub data-slot : DataSlot d i frame
-  data-slot = record { first = first-is; read = is-data; same = same-items; encodes = encodes-as }
+    encodes : encodeAt d i ≡ items (d .entries) (boundOf what) (writeOf what) i (getD (d .contexts) i 0) 0 all
+    unfolding encodeAt
+    encodes =
+        let p = program d in
+        ap (encode (d .entries) p i (contextAt p i) (position p i)) is
+        ∙ encode-data (d .entries) p i (contextAt p i) (position p i) what all
+        ∙ ap (λ k. items (d .entries) (boundOf what) (writeOf what) i k 0 all) (sym (h .context i l))
 
--- as many bytes as its items have, and one at least
-module _ (d : Tables) (i : ℕ) (s : List ℕ) (h : DataSlot d i s) where
-  size-of : (q : Addressℕ) (x : Stmt) → 6 ≤ kindOf x → kindOf x ≤ 7 → byteCount q x ≡ widthOf (kindOf x) * length (itemsOf x)
-  size-of q gone m l = absurd (omega arith)
-  size-of q (instr f xs c) m l = absurd (omega arith)
-  size-of q (label n) m l = absurd (omega arith)
-  size-of q (variable n x) m l = absurd (omega arith)
-  size-of q (comment x) m l = absurd (omega arith)
-  size-of q (org n) m l = absurd (omega arith)
-  size-of q (bytes es) m l = let z : length es ≡ 1 * length es = omega arith in z
-  size-of q (words es) m l = refl
-  size-of q (pad add x) m l = absurd (omega arith)
-
-  pub data-size : sizeOf d i ≡ widthOf (getD s 0 0) * getD s 1 0
-  data-size =
-      let x = slotAt (d .slots) i in
-      size-of (getD (d .positions) i 0) x (omega (arith, h .first, h .read .kind)) (omega (arith, h .first, h .read .no-pad))
-      ∙ ap (λ k. widthOf k * length (itemsOf x)) (sym (h .first))
-      ∙ ap (λ n. widthOf (getD s 0 0) * n) (ap length (h .same) ∙ data-in i s (h .read) .items .count)
-
-  pub data-some : 0 < widthOf (getD s 0 0) * getD s 1 0
-  data-some = let n = data-in i s (h .read) .some in cond-both (λ w. 0 < w * getD s 1 0) (eqb (getD s 0 0) 6) 1 2 (omega arith) (omega arith)
-
--- the links beside a slot's own frame say what its names mean
-pub own-linked : (d : Tables) → Ready d → (i : Placeℕ) → i < d .slots .count
-    → Linked (λ m. lookup (d .entries) (keyOf (getD (d .contexts) i 0) m)) (frameAt (d .slots .frames) (d .slots .starts) i) (frameAt (d .links) (d .slots .starts) i)
-    (d .values) (d .slots .count)
-own-linked d h i l = rw (h .context i l) (h .says .linked i l)
-
--- the same of bytes and links that are known by equations
-pub linked-as : (env : ℕ → Outcome) (s b s′ b′ : List ℕ) (values : List ℤ) (n : ℕ) → s ≡ s′ → b ≡ b′ → Linked env s′ b′ values n → Linked env s b values n
-linked-as env s b s′ b′ values n p q h = rw (p, q) h
+    -- of the slices that the code has
+    pub data-slot : (s b : List ℕ) → s ≡ frame → b ≡ frameAt (d .links) (t .starts) i → DataSlot d i what n s b
+    data-slot s b p q =
+        let few = data-in i frame read .some in
+        let z = says what e in
+        rw (p, q) (record {
+          read = read;
+          count = z;
+          beside = length-beside (t .frames) (t .starts) (t .count) (h .sound .held) (d .links) (h .says .full) i l;
+          linked = rw (h .context i l) (h .says .linked i l);
+          encodes = encodes;
+          size = ap (byteCount (getD (d .positions) i 0)) is ∙ size-data (getD (d .positions) i 0) what all ∙ ap (λ m. widthOf what * m) count;
+          some = some-data what n (omega arith);
+        })

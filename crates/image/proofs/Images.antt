@@ -2,11 +2,10 @@
 use mathlib.Core.Path.{_≡_, refl, sym, ap, _∙_}
 use mathlib.Core.List.{List, [], _∷_, _++_, append-nil}
 use mathlib.Core.Bool.{true}
-use mathlib.Core.Logic.{⊎-elim}
 use Prim.Native.Nat.{ℕ, zero, suc, _+_, _-_, _*_, _≤_, _<_}
 use native.Mathlib.Omega.{arith}
 use lib.ListN.{length, getD, replicate, length-append, length-map, length-replicate}
-use Rattle.laws.proofs.Tests.{clash, false-true, eq-or-not}
+use Rattle.laws.proofs.Tests.{clash, false-true}
 use Rattle.rules.specs.declared.Code.{Code}
 use Rattle.rules.specs.declared.Refusal.{Refusal}
 use Rattle.rules.specs.Answers.{Judged, ok, no, _>>=_, isOk, orD}
@@ -37,7 +36,7 @@ use Rattle.image.proofs.Rooms.{put-none, roomOf, room-gap, room-put}
 
 -- ---- a statement has as many bytes as counted
 
-empty-is : (b : List ℕ) → length b ≡ 0 → b ≡ []
+pub empty-is : (b : List ℕ) → length b ≡ 0 → b ≡ []
 empty-is [] e = refl
 empty-is (x ∷ b) e = absurd (omega arith)
 
@@ -270,17 +269,6 @@ module _ (d : Tables) where
 
   pub length-none : (image : List ℕ) → encodeSlots d ≡ ok image → Done 0 → 0 ≡ length image
   length-none image e h = sym (ap length (h image (sym (from-start d) ∙ e)))
-
-  -- "Positions reach at most 65,536", and so does the image
-  pub image-low : Ready d → (image : List ℕ) → encodeSlots d ≡ ok image → length image ≤ 65536
-  image-low ready image e = on (d .slots .count) (omega arith) done-end
-    where
-      on : (i : ℕ) → i ≤ d .slots .count → Done i → length image ≤ 65536
-      on zero l h = omega (arith, length-none image e h)
-      on (suc i) l h =
-          ⊎-elim (λ z. on i (omega arith) (done-more i (omega arith) z h))
-          (λ n. omega (arith, length-found ready image e i (omega arith) (omega arith) h, ready .position (suc i) l, ready .low (suc i) l))
-          (eq-or-not (sizeHere d i) 0)
 
 -- ---- an instruction's bytes, as the code holds them
 

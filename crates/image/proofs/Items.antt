@@ -2,7 +2,7 @@
 use mathlib.Core.Path.{_≡_, refl, ap, _∙_}
 use mathlib.Core.List.{List, [], _∷_, _++_}
 use mathlib.Core.Bool.{Bool, true, false}
-use Prim.Native.Nat.{ℕ, suc, _+_, _≤_, _<_}
+use Prim.Native.Nat.{ℕ, suc, _≤_, _<_}
 use native.Mathlib.Omega.{arith}
 use lib.ListN.{length, getD, drop, drop-of-length-le}
 use lib.Seq.{drop-cons}
@@ -15,7 +15,7 @@ use Rattle.rules.specs.Listing.{readFrame}
 use Rattle.rules.specs.Values.{below, nat}
 use Rattle.rules.specs.Names.{Entry}
 use Rattle.rules.specs.Judging.{valueAt, worth, items}
-use Rattle.rules.proofs.Laws.{then-ok, require-ok}
+use Rattle.rules.proofs.Laws.{require-ok}
 use Rattle.encoding.specs.declared.operands.Field.{Field}
 use Rattle.encoding.specs.Operands.{fieldAs, ranged}
 use Rattle.encoding.proofs.Ranges.{below-lt}
@@ -27,15 +27,15 @@ use Rattle.image.specs.Encoding.{itemsOf, itemsIn, itemOf, SmallField}
 
 -- ---- of a frame
 
-pub record Data (i : ℕ) (s : List ℕ) : Type 0 where
+pub record DataRead (i : ℕ) (s : List ℕ) : Type 0 where
   pub long : 2 ≤ length s
   pub some : 1 ≤ getD s 1 0
   pub items : ItemsRead s (getD s 1 0) 2 (itemsIn i s)
 
-pub data-in : (i : ℕ) (s : List ℕ) → DataIn i s → Data i s
+pub data-in : (i : ℕ) (s : List ℕ) → DataIn i s → DataRead i s
 data-in i s h = on (frame-read i s (readIn i s) (was-read (readFrame i s) (h .reads)))
   where
-    on : Frame i s (readIn i s) → Data i s
+    on : Frame i s (readIn i s) → DataRead i s
     on (ofInstr f) = absurd (omega (arith, f .kind, h .kind))
     on (ofLabel f) = absurd (omega (arith, f .kind, h .kind))
     on (ofVariable f) = absurd (omega (arith, f .kind, h .kind))
@@ -74,15 +74,6 @@ module _ (names : List Entry) (bound i k : ℕ) where
     pub item-nothing : worth names k e ≡ Nothing → itemOf names bound i k j e ≡ no (NoValue (atPlace i))
     unfolding itemOf _>>=_
     item-nothing h = rw h
-
-  -- its value is below the bound
-  pub item-small : (j : ℕ) (e : Expr) (n : ℕ) → itemOf names bound i k j e ≡ ok n → n < bound
-  unfolding itemOf ranged
-  item-small j e n h =
-      let a = then-ok (valueAt i (worth names k e)) (λ v. ranged i j bound v) n h in
-      let r = require-ok (below bound (a .0)) (Range (atPlace i) j (a .0)) (ok (nat (a .0))) n (a .2) in
-      let z : nat (a .0) ≡ n = (let w : ok (nat (a .0)) ≡ ok n = r .1 in cc) in
-      rw (← z) (below-lt bound (a .0) (r .0))
 
   -- ---- an item and the rest
 

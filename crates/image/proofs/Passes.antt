@@ -1,23 +1,30 @@
 -- The encoding pass, statement by statement: what passes leaves the rest to be judged, and what is refused is the answer.
 use mathlib.Core.Path.{_≡_, refl, sym, ap, _∙_}
-use mathlib.Core.List.{List, []}
-use mathlib.Core.Bool.{true, false}
+use mathlib.Core.List.{List, [], _∷_}
+use mathlib.Core.Logic.{⊎-elim}
+use mathlib.Core.Bool.{Bool, true, false, not, _||_}
 use Prim.Native.Nat.{ℕ, zero, suc, _≤_, _<_}
 use native.Mathlib.Omega.{arith}
+use lib.Dec.{eqb}
 use lib.ListN.{drop, replicate}
-use Rattle.laws.proofs.Tests.{clash, true-false}
+use denote.Enum.Declared.{tagOf}
+use types.Run.{OneOf}
+use Rattle.rules.proofs.Statement.{the-type}
+use Rattle.laws.proofs.Tests.{clash, true-false, false-true}
 use Rattle.rules.specs.declared.Refusal.{Refusal}
+use Rattle.rules.specs.declared.Statement.{Statement}
 use Rattle.rules.specs.Answers.{Judged, ok, no, _>>=_, isOk}
 use Rattle.rules.specs.Programs.{Stmt, gone, instr, label, variable, comment, org, bytes, words, pad, Program, byteCount, kindOf}
 use Rattle.rules.specs.Layout.{position, lay}
 use Rattle.rules.specs.Names.{Entry, contextAt, placed}
-use Rattle.rules.specs.Encoding.{byte, word}
-use Rattle.rules.specs.Judging.{items, encode, encodeAll}
+use Rattle.rules.specs.Judging.{encode, encodeAll}
 use Rattle.rules.proofs.Laws.{then-ok}
-use Rattle.slots.specs.Slots.{slotAt, isData}
+use Rattle.slots.specs.Slots.{slotAt}
+use Rattle.slots.specs.Meaning.{kindFor}
+use Rattle.slots.proofs.Stands.{tag-kind}
 use Rattle.slots.specs.declared.Checked.the-variants.{Passes, Refused}
 use Rattle.image.specs.Tables.{Tables, program}
-use Rattle.image.specs.Encoding.{encodeAt, encodedAs, itemsOf, checkedAs, checkOf, encodeSlots}
+use Rattle.image.specs.Encoding.{encodeAt, encodedAs, checkedAs, checkOf, encodeSlots}
 use Rattle.image.proofs.Answers.{bind-ok, bind-no}
 use Rattle.image.proofs.Placed.{placed-drop, placed-end}
 use Rattle.image.proofs.Worths.{count-program, at-program}
@@ -54,45 +61,35 @@ refused-is (no q) r e = refl
 pub ok-same : {A : Type 0} {a b : A} → ok a ≡ ok b → a ≡ b
 ok-same e = cc
 
--- ---- the encoding of a statement, by its kind
+-- ---- neither an instruction nor data: zeros, if any
 
-module _ (names : List Entry) (p : Program) (i k q : ℕ) where
-  -- zeros, if any, where it is neither an instruction nor data
-  pub encode-zeros : (s : Stmt) → (kindOf s ≡ 1 → ⊥) → isData (kindOf s) ≡ false → encode names p i k q s ≡ ok (replicate (byteCount q s) 0)
-  unfolding encode
-  encode-zeros gone n l = refl
-  encode-zeros (instr f xs c) n l = absurd (n refl)
-  encode-zeros (label m) n l = refl
-  encode-zeros (variable m e) n l = refl
-  encode-zeros (comment x) n l = refl
-  encode-zeros (org m) n l = refl
-  encode-zeros (bytes es) n l = true-false l
-  encode-zeros (words es) n l = true-false l
-  encode-zeros (pad add m) n l = refl
+abbrev pub plain : (kind : ℕ) → Bool
+plain k = not (eqb k 1 || (eqb k 6 || eqb k 7))
 
-  pub encode-bytes : (s : Stmt) → kindOf s ≡ 6 → encode names p i k q s ≡ items names 256 byte i k 0 (itemsOf s)
-  unfolding encode
-  encode-bytes gone e = absurd (omega arith)
-  encode-bytes (instr f xs c) e = absurd (omega arith)
-  encode-bytes (label m) e = absurd (omega arith)
-  encode-bytes (variable m x) e = absurd (omega arith)
-  encode-bytes (comment x) e = absurd (omega arith)
-  encode-bytes (org m) e = absurd (omega arith)
-  encode-bytes (bytes es) e = refl
-  encode-bytes (words es) e = absurd (omega arith)
-  encode-bytes (pad add m) e = absurd (omega arith)
+-- by the number of the code's variant; an instruction is never met there
+pub plain-tag : (x : Statement) → 2 ≤ kindFor x → OneOf (0 ∷ 1 ∷ 2 ∷ 3 ∷ 4 ∷ 7 ∷ []) (tagOf the-type x) → plain (kindFor x) ≡ true
+plain-tag x o =
+    ⊎-elim (λ e. absurd (omega (arith, tag-kind x)))
+    (⊎-elim (on 1 refl) (⊎-elim (on 2 refl) (⊎-elim (on 3 refl) (⊎-elim (on 4 refl) (on 7 refl)))))
+  where
+    on : (m : ℕ) → plain (suc m) ≡ true → tagOf the-type x ≡ m → plain (kindFor x) ≡ true
+    on m p e = ap plain (tag-kind x ∙ ap suc e) ∙ p
 
-  pub encode-words : (s : Stmt) → kindOf s ≡ 7 → encode names p i k q s ≡ items names 65536 word i k 0 (itemsOf s)
-  unfolding encode
-  encode-words gone e = absurd (omega arith)
-  encode-words (instr f xs c) e = absurd (omega arith)
-  encode-words (label m) e = absurd (omega arith)
-  encode-words (variable m x) e = absurd (omega arith)
-  encode-words (comment x) e = absurd (omega arith)
-  encode-words (org m) e = absurd (omega arith)
-  encode-words (bytes es) e = absurd (omega arith)
-  encode-words (words es) e = refl
-  encode-words (pad add m) e = absurd (omega arith)
+encode-plain : (names : List Entry) (p : Program) (i k q : ℕ) (s : Stmt) → plain (kindOf s) ≡ true → encode names p i k q s ≡ ok (replicate (byteCount q s) 0)
+unfolding encode
+encode-plain names p i k q gone o = refl
+encode-plain names p i k q (instr f xs c) o = false-true o
+encode-plain names p i k q (label m) o = refl
+encode-plain names p i k q (variable m e) o = refl
+encode-plain names p i k q (comment x) o = refl
+encode-plain names p i k q (org m) o = refl
+encode-plain names p i k q (bytes es) o = false-true o
+encode-plain names p i k q (words es) o = false-true o
+encode-plain names p i k q (pad add m) o = refl
+
+pub plain-zeros : (d : Tables) (i : ℕ) → plain (kindOf (slotAt (d .slots) i)) ≡ true → encodeAt d i ≡ ok (replicate (byteCount (position (program d) i) (slotAt (d .slots) i)) 0)
+unfolding encodeAt
+plain-zeros d i = encode-plain (d .entries) (program d) i (contextAt (program d) i) (position (program d) i) (slotAt (d .slots) i)
 
 -- ---- the pass from slot i on
 

@@ -1,8 +1,6 @@
 -- The encoding of one slot, and what the code answers of it.
-use mathlib.Core.Bool.{cond}
 use mathlib.Core.List.{List, [], _∷_}
 use Prim.Native.Nat.{ℕ, _<_}
-use lib.Dec.{eqb}
 use Rattle.rules.specs.declared.Code.{Code}
 use Rattle.rules.specs.declared.Kind.{Kind}
 use Rattle.rules.specs.Answers.{Judged, ok, no, _>>=_, orD}
@@ -19,6 +17,8 @@ use Rattle.encoding.specs.Operands.{ranged}
 use Rattle.slots.specs.Slots.{slotAt}
 use Rattle.image.specs.declared.Encoded.{Encoded}
 use Rattle.image.specs.declared.Encoded.the-variants.{Is, Refused}
+use Rattle.image.specs.declared.data.Data.{Data}
+use Rattle.image.specs.declared.data.Data.the-variants.{Bytes, Words}
 use Rattle.slots.specs.declared.Checked.{Checked}
 use Rattle.slots.specs.declared.Checked.the-variants.{Passes, Refused as Checked·Refused}
 use Rattle.image.specs.Tables.{Tables, program}
@@ -62,12 +62,14 @@ itemsOf (pad add m) = []
 abbrev pub itemsIn : (i : Placeℕ) (s : List ℕ) → List Expr
 itemsIn i s = itemsOf (orD (readFrame i s) gone)
 
--- bytes are of kind 6, words of kind 7: their range, and how an item is written
-abbrev pub boundOf : (kind : ℕ) → ℕ
-boundOf kind = cond (eqb kind 6) 256 65536
+-- the range of an item, and how it is written
+abbrev pub boundOf : Data → ℕ
+boundOf Bytes = 256
+boundOf Words = 65536
 
-abbrev pub writeOf : (kind : ℕ) → ℕ → List ℕ
-writeOf kind = cond (eqb kind 6) byte word
+abbrev pub writeOf : Data → ℕ → List ℕ
+writeOf Bytes = byte
+writeOf Words = word
 
 -- an item's value, and then its range
 unfoldable pub itemOf : (names : List Entry) (bound : ℕ) (i : Placeℕ) (k j : ℕ) → Expr → Judged ℕ

@@ -1,12 +1,12 @@
 -- The image of a program's slots, and what stands in a room once bytes were written there.
-use mathlib.Core.Bool.{cond}
 use mathlib.Core.List.{List, [], _++_}
 use Prim.Native.Nat.{ℕ, _+_}
-use lib.Dec.{eqb}
 use lib.ListN.{getD, length, take, drop}
 use Rattle.rules.specs.Answers.{orD}
 use Rattle.rules.specs.Programs.{Placeℕ, Addressℕ, byteCount}
 use Rattle.slots.specs.Slots.{slotAt}
+use Rattle.image.specs.declared.data.Data.{Data}
+use Rattle.image.specs.declared.data.Data.the-variants.{Bytes, Words}
 use Rattle.image.specs.Tables.{Tables}
 use Rattle.image.specs.Encoding.{encodeSlots}
 
@@ -22,6 +22,7 @@ put room q b = take q room ++ b ++ drop (q + length b) room
 abbrev pub sizeOf : Tables → (i : Placeℕ) → ℕ
 sizeOf d i = byteCount (getD (d .positions) i 0) (slotAt (d .slots) i)
 
--- how many bytes an item of data of a kind has
-abbrev pub widthOf : (kind : ℕ) → ℕ
-widthOf kind = cond (eqb kind 6) 1 2
+-- how many bytes an item of data has
+abbrev pub widthOf : Data → ℕ
+widthOf Bytes = 1
+widthOf Words = 2

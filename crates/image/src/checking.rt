@@ -1,14 +1,16 @@
 // The encoding pass: whether each statement encodes, in order, and the first that does not.
 use crate::Encoded;
 use crate::codes::encode_at;
+use crate::data::Data;
 use crate::data::check_items;
 use rules::Place;
+use rules::Statement;
 use slots::Checked;
+use slots::Slot;
 use slots::State;
 use slots::frame_at;
-use slots::is_data;
-use slots::kind_at;
 use slots::links_at;
+use slots::slot_at;
 ghost use mathlib.Core.Path.{_≡_};
 ghost use Prim.Native.Nat.{_<_};
 ghost use Rattle.rules.specs.Answers.{isOk};
@@ -42,16 +44,28 @@ fn check_at(
         (now (positions .entry)) in
         ⌜ r ≡ checkedAs (encodeAt d (at .0)) ⌝ }
 {
-    let kind = kind_at(frames, state, count, at);
-    if kind == 1 {
-        return check_code(encode_at(frames, state, count, links, values, positions, at));
+    match slot_at(frames, state, count, at) {
+        Slot::Gone => Checked::Passes,
+        Slot::Form(_) => check_code(encode_at(frames, state, count, links, values, positions, at)),
+        Slot::Holds(statement) => {
+            let frame = frame_at(frames, state, count, at);
+            let beside = links_at(links, state, at);
+            match statement {
+                Statement::Bytes(n, _) => {
+                    check_items(frame, at, Data::Bytes, n, beside, values, count)
+                }
+                Statement::Words(n, _) => {
+                    check_items(frame, at, Data::Words, n, beside, values, count)
+                }
+                Statement::Instr(_)
+                | Statement::Label(_)
+                | Statement::Variable(_, _)
+                | Statement::Comment(_)
+                | Statement::Org(_)
+                | Statement::Pad(_, _) => Checked::Passes,
+            }
+        }
     }
-    if is_data(kind) {
-        let frame = frame_at(frames, state, count, at);
-        let beside = links_at(links, state, at);
-        return check_items(frame, at, beside, values, count);
-    }
-    Checked::Passes
 }
 
 // The same as a test: a candidate looks at the statement that it changed first.

@@ -1,7 +1,7 @@
 // The bytes of a slot's instruction: its operands one after the other, each its value and then its range before the next.
 use crate::Encoded;
 use crate::worth::argument_worth;
-use encoding::encode::encode_form;
+use encoding::encode::encode;
 use encoding::operands::Field;
 use encoding::operands::field_of;
 use instruction::tables::Operand;
@@ -14,6 +14,7 @@ use rules::Place;
 use rules::Refusal;
 use slots::State;
 use slots::form_in;
+use slots::instr_at;
 ghost use mathlib.Core.Path.{_≡_};
 ghost use Prim.Native.Nat.{_+_, _<_, _≤_};
 ghost use lib.ListN.{length, getD};
@@ -108,5 +109,5 @@ pub fn encode_at(
         }
         j += 1;
     }
-    Encoded::Is(encode_form(form, fields[0], fields[1], fields[2]))
+    Encoded::Is(encode(instr_at(state, at), fields[0], fields[1], fields[2]))
 }

@@ -27,7 +27,7 @@ ghost use Rattle.listing.specs.Tables.{frameAt, Noted};
 ghost use Rattle.rules.specs.Programs.{kindOf};
 ghost use Rattle.slots.specs.Slots.{slots, slotAt, targetOf, worthIn, InstrIn};
 ghost use Rattle.image.specs.Tables.{Tables, tablesOf, isTarget, operandIn, operandAt, Aims, Ready};
-ghost use Rattle.slots.specs.State.{startsIn, formsIn, carryIn, ownersIn, offsetsIn};
+ghost use Rattle.slots.specs.State.{startsIn, formsIn, ownersIn, offsetsIn};
 
 fn register_worth(register: u8) -> Outcome
     ensures { λ r. ⌜ r ≡ Outcome.Is (pos register) ⌝ }
@@ -98,14 +98,6 @@ pub fn target_worth(
     own_worth(frame, state, c, last, beside, values, count)
 }
 
-// The place whose target stands in a slot.
-fn carried(state: &State, at: Place) -> Place
-    requires { ⌜ at .0 < 1024 ⌝ }
-    ensures { λ r. ⌜ r .0 ≡ getD (carryIn (now (state .entry))) (at .0) 0 ⌝ }
-{
-    Place(carry_at(state, at))
-}
-
 // Argument j of a form is its target.
 fn is_target(form: u8, j: usize) -> bool
     ensures { λ r. ⌜ r ≡ isTarget form j ⌝ }
@@ -137,7 +129,7 @@ pub fn argument_worth(
 {
     let form = form_in(state, at);
     if is_target(form, j) {
-        let c = carried(state, at);
+        let c = carry_at(state, at);
         return target_worth(frames, state, count, links, values, positions, c);
     }
     let frame = frame_at(frames, state, count, at);

@@ -1,19 +1,19 @@
 // The image: how long it is, and its bytes in a lent room. Gaps are zero, and room beyond it is left as it was.
 use crate::Encoded;
 use crate::codes::encode_at;
-use crate::data::BYTES;
+use crate::data::Data;
 use crate::data::item_field;
 use encoding::operands::Field;
 use rules::Address;
 use rules::Code;
 use rules::Place;
+use rules::Statement;
+use slots::Slot;
 use slots::State;
 use slots::frame_at;
-use slots::is_data;
-use slots::items_in;
-use slots::kind_at;
 use slots::links_at;
 use slots::size_at;
+use slots::slot_at;
 ghost use mathlib.Core.Path.{_≡_};
 ghost use mathlib.Core.Bool.{true};
 ghost use mathlib.Core.List.{List, _++_};
@@ -32,11 +32,11 @@ ghost use Rattle.image.specs.Encoding.{encodeAt, encodeSlots, itemsIn, b
 ghost use Rattle.image.specs.Image.{imageOf, put, widthOf, sizeOf};
 ghost use Rattle.slots.specs.State.{startsIn, formsIn};
 
-// A position, as an index of the room.
-fn address(position: u32) -> usize
-    ensures { λ r. ⌜ r ≡ position ⌝ }
+// A position is the address of a byte.
+fn address(position: u32) -> Address
+    ensures { λ r. ⌜ r .0 ≡ position ⌝ }
 {
-    position as usize
+    Address(position as usize)
 }
 
 // The end of the last statement that has bytes; 0 where none has.
@@ -50,36 +50,38 @@ pub fn image_length(frames: &[u8], state: &State, count: usize, positions: &[u32
     let mut i = count;
     while 0 < i {
         i -= 1;
-        let q = Address(address(positions[i]));
+        let q = address(positions[i]);
         if 0 < size_at(frames, state, count, Place(i), q) {
-            return address(positions[i + 1]);
+            return address(positions[i + 1]).0;
         }
     }
     0
 }
 
 // Zeros in the n bytes from q on.
-fn clear(image: &mut [u8], q: usize, n: usize)
-    requires { ⌜ (0 < n → q + n ≤ length (now image)) ⌝ }
-    ensures { λ r. ⌜ now (image .exit) ≡ put (now (image .entry)) q (replicate n 0) ⌝ }
+fn clear(image: &mut [u8], q: Address, n: usize)
+    requires { ⌜ (0 < n → q .0 + n ≤ length (now image)) ⌝ }
+    ensures { λ r. ⌜ now (image .exit) ≡ put (now (image .entry)) (q .0) (replicate n 0) ⌝ }
 {
+    let from = q.0;
     let mut i = 0;
     while i < n {
-        image[q + i] = 0;
+        image[from + i] = 0;
         i += 1;
     }
 }
 
 // The bytes of an instruction, from q on.
-fn write_code(image: &mut [u8], q: usize, code: Code)
-    requires { ⌜ (code .len ≤ 3) × (0 < code .len → q + code .len ≤ length (now image)) ⌝ }
-    ensures { λ r. ⌜ now (image .exit) ≡ put (now (image .entry)) q (bytesOfCode code) ⌝ }
+fn write_code(image: &mut [u8], q: Address, code: Code)
+    requires { ⌜ (code .len ≤ 3) × (0 < code .len → q .0 + code .len ≤ length (now image)) ⌝ }
+    ensures { λ r. ⌜ now (image .exit) ≡ put (now (image .entry)) (q .0) (bytesOfCode code) ⌝ }
 {
+    let from = q.0;
     let bytes = [code.b0, code.b1, code.b2];
     let n = code.len;
     let mut k = 0;
     while k < n {
-        image[q + k] = bytes[k];
+        image[from + k] = bytes[k];
         k += 1;
     }
 }
@@ -96,54 +98,61 @@ fn high(v: u16) -> u8
     (v / 256) as u8
 }
 
-// How many bytes an item of data of a kind has.
-fn item_width(kind: u8) -> usize
-    ensures { λ r. ⌜ r ≡ widthOf kind ⌝ }
+// How many bytes an item of data has.
+fn item_width(what: Data) -> usize
+    ensures { λ r. ⌜ r ≡ widthOf what ⌝ }
 {
-    if kind == BYTES { 1 } else { 2 }
+    match what {
+        Data::Bytes => 1,
+        Data::Words => 2,
+    }
 }
 
 // An item of data at q. Words have the low byte first.
-fn write_item(image: &mut [u8], q: usize, kind: u8, v: u16)
-    requires { ⌜ (q + widthOf kind ≤ length (now image)) × (v < boundOf kind) ⌝ }
-    ensures { λ r. ⌜ now (image .exit) ≡ put (now (image .entry)) q (writeOf kind v) ⌝ }
+fn write_item(image: &mut [u8], q: Address, what: Data, v: u16)
+    requires { ⌜ (q .0 + widthOf what ≤ length (now image)) × (v < boundOf what) ⌝ }
+    ensures { λ r. ⌜ now (image .exit) ≡ put (now (image .entry)) (q .0) (writeOf what v) ⌝ }
 {
-    if kind == BYTES {
-        image[q] = low(v);
-        return;
+    let from = q.0;
+    match what {
+        Data::Bytes => {
+            image[from] = low(v);
+        }
+        Data::Words => {
+            let first = low(v);
+            let second = high(v);
+            image[from] = first;
+            image[from + 1] = second;
+        }
     }
-    let first = low(v);
-    let second = high(v);
-    image[q] = first;
-    image[q + 1] = second;
 }
 
-// The items of the data in a frame, with the links beside it, from q on.
+// The n items of the data in a frame, with the links beside it, from q on.
 fn write_items(
     frame: &[u8],
     at: Place,
+    what: Data,
+    n: usize,
     links: &[u16],
     values: &[i64; 1024],
     count: usize,
-    q: usize,
+    q: Address,
     image: &mut [u8],
 )
-    requires { ⌜ DataIn (at .0) (now frame) × (count ≤ 1024) × (length (now links) ≡ length (now frame))
-        × (q + widthOf (getD (now frame) 0 0) * getD (now frame) 1 0 ≤ length (now image)) ⌝ }
+    requires { ⌜ DataIn (at .0) (now frame) × (n ≡ getD (now frame) 1 0) × (count ≤ 1024) × (length (now links) ≡ length (now frame))
+        × (q .0 + widthOf what * n ≤ length (now image)) ⌝ }
     ensures { λ r. ⌜ ((names : List Entry) (k : ℕ)
         → Linked (λ m. lookup names (keyOf k m)) (now (frame .entry)) (now (links .entry)) (now (values .entry)) count
-        → (b : List ℕ) → items names (boundOf (getD (now (frame .entry)) 0 0)) (writeOf (getD (now (frame .entry)) 0 0)) (at .0) k 0
-        (itemsIn (at .0) (now (frame .entry))) ≡ ok b → now (image .exit) ≡ put (now (image .entry)) q b) ⌝ }
+        → (b : List ℕ) → items names (boundOf what) (writeOf what) (at .0) k 0 (itemsIn (at .0) (now (frame .entry))) ≡ ok b
+        → now (image .exit) ≡ put (now (image .entry)) (q .0) b) ⌝ }
 {
-    let kind = frame[0];
-    let width = item_width(kind);
-    let n = items_in(frame);
+    let width = item_width(what);
     let mut j = 0;
     while j < n {
-        let Field::Is(v) = item_field(frame, at, j, links, values, count) else {
+        let Field::Is(v) = item_field(frame, at, what, j, links, values, count) else {
             return;
         };
-        write_item(image, q + width * j, kind, v);
+        write_item(image, Address(q.0 + width * j), what, v);
         j += 1;
     }
 }
@@ -169,22 +178,36 @@ fn write_at(
 {
     let i = at.0;
     let q = address(positions[i]);
-    let kind = kind_at(frames, state, count, at);
-    if kind == 1 {
-        let Encoded::Is(code) = encode_at(frames, state, count, links, values, positions, at) else {
-            return;
-        };
-        write_code(image, q, code);
-        return;
+    match slot_at(frames, state, count, at) {
+        Slot::Gone => {} // no bytes
+        Slot::Form(_) => {
+            let Encoded::Is(code) = encode_at(frames, state, count, links, values, positions, at)
+            else {
+                return;
+            };
+            write_code(image, q, code);
+        }
+        Slot::Holds(statement) => {
+            let frame = frame_at(frames, state, count, at);
+            let beside = links_at(links, state, at);
+            match statement {
+                Statement::Bytes(n, _) => {
+                    write_items(frame, at, Data::Bytes, n, beside, values, count, q, image);
+                }
+                Statement::Words(n, _) => {
+                    write_items(frame, at, Data::Words, n, beside, values, count, q, image);
+                }
+                Statement::Instr(_)
+                | Statement::Label(_)
+                | Statement::Variable(_, _)
+                | Statement::Comment(_)
+                | Statement::Org(_)
+                | Statement::Pad(_, _) => {
+                    clear(image, q, size_at(frames, state, count, at, q));
+                }
+            }
+        }
     }
-    if is_data(kind) {
-        let frame = frame_at(frames, state, count, at);
-        let beside = links_at(links, state, at);
-        write_items(frame, at, beside, values, count, q, image);
-        return;
-    }
-    let n = size_at(frames, state, count, at, Address(q));
-    clear(image, q, n);
 }
 
 // The image of slots that encode, in a room that holds it. From the last statement to the first: what follows is always in place.
@@ -204,7 +227,8 @@ pub fn write_image(
         (now (positions .entry)) in
         ⌜ (let bytes = imageOf d in now (image .exit) ≡ bytes ++ drop (length bytes) (now (image .entry))) ⌝ }
 {
-    clear(image, 0, image_length(frames, state, count, positions));
+    let n = image_length(frames, state, count, positions);
+    clear(image, Address(0), n);
     let mut i = count;
     while 0 < i {
         i -= 1;

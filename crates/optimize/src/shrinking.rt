@@ -11,9 +11,9 @@ use instruction::tables::JMPF;
 use rules::Place;
 use rules::Settings;
 use slots::Checked;
+use slots::Slot;
 use slots::State;
-use slots::form_in;
-use slots::kind_at;
+use slots::slot_at;
 ghost use mathlib.Core.Path.{_≡_};
 ghost use mathlib.Core.Bool.{true};
 ghost use Prim.Native.Nat.{_<_};
@@ -102,10 +102,9 @@ fn shrink_at(
         let u : Slots = tableOf (now (frames .entry)) (now (state .exit)) count in
         ⌜ Tried (shrinkAt asked (namesOf (programOf t)) (programOf t) (at .0)) t u r ⌝ }
 {
-    if kind_at(frames, state, count, at) != 1 {
+    let Slot::Form(form) = slot_at(frames, state, count, at) else {
         return false;
-    }
-    let form = form_in(state, at);
+    };
     if form == JMPF {
         return shrink_jump(frames, state, count, links, values, positions, deepest, at);
     }

@@ -7,11 +7,11 @@ use Prim.Native.Nat.{ℕ, suc, _+_, _*_, _≤_, _<_}
 use native.Mathlib.Numerals.{add-one}
 use native.Mathlib.Omega.{arith}
 use lib.ListN.{length, getD, length-append}
-use borrow.Author.Tests.{eq-eqb, ne-eqb}
+use borrow.Author.Tests.{le-leb, lt-leb}
 use Rattle.laws.specs.Lists.{each}
 use Rattle.laws.proofs.Lists.{each-append, each-one}
 use Rattle.laws.proofs.Counts.{rises}
-use Rattle.laws.proofs.Tests.{eq-or-not}
+use Rattle.laws.proofs.Tests.{lt-or-le}
 use Rattle.rules.specs.Expressions.{pair}
 use Rattle.rules.specs.Programs.{Placeℕ, Program, isGone}
 use Rattle.rules.specs.Output.{compact, stemsFrom}
@@ -22,13 +22,13 @@ use Rattle.output.proofs.Listings.{kept-more}
 -- ---- one more place, or none
 
 module _ (forms : List ℕ) where
-  pub kept-one : (i : ℕ) → (getD forms i 0 ≡ goneForm → ⊥) → keptTo forms (i + 1) ≡ keptTo forms i ++ (i ∷ [])
-  kept-one i n = kept-more forms i ∙ rw (ne-eqb (getD forms i 0) goneForm n)
+  pub kept-one : (i : ℕ) → getD forms i 0 < goneForm → keptTo forms (i + 1) ≡ keptTo forms i ++ (i ∷ [])
+  kept-one i n = kept-more forms i ∙ rw (lt-leb goneForm (getD forms i 0) n)
 
-  pub kept-none : (i : ℕ) → getD forms i 0 ≡ goneForm → keptTo forms (i + 1) ≡ keptTo forms i
-  kept-none i e = kept-more forms i ∙ rw (eq-eqb (getD forms i 0) goneForm e, append-nil)
+  pub kept-none : (i : ℕ) → goneForm ≤ getD forms i 0 → keptTo forms (i + 1) ≡ keptTo forms i
+  kept-none i e = kept-more forms i ∙ rw (le-leb goneForm (getD forms i 0) e, append-nil)
 
-  pub counts-one : (i : ℕ) → (getD forms i 0 ≡ goneForm → ⊥) → length (keptTo forms (i + 1)) ≡ length (keptTo forms i) + 1
+  pub counts-one : (i : ℕ) → getD forms i 0 < goneForm → length (keptTo forms (i + 1)) ≡ length (keptTo forms i) + 1
   counts-one i n = ap length (kept-one i n) ∙ length-append (keptTo forms i) (i ∷ [])
 
   -- no slot takes a place away
@@ -38,7 +38,7 @@ module _ (forms : List ℕ) where
       rise : (k : ℕ) → length (keptTo forms k) ≤ length (keptTo forms (suc k))
       rise k =
           let z : length (keptTo forms (suc k)) ≡ length (keptTo forms (k + 1)) = ap (λ m. length (keptTo forms m)) (sym (add-one k)) in
-          ⊎-elim (λ e. omega (arith, ap length (kept-none k e))) (λ n. omega (arith, counts-one k n)) (eq-or-not (getD forms k 0) goneForm)
+          ⊎-elim (λ n. omega (arith, counts-one k n)) (λ e. omega (arith, ap length (kept-none k e))) (lt-or-le (getD forms k 0) goneForm)
 
 -- ---- one entry for each statement that comes out
 

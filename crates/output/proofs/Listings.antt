@@ -6,12 +6,12 @@ use mathlib.Core.Bool.{Bool, true, false, cond}
 use Prim.Native.Nat.{ℕ, zero, suc, _+_, _≤_, _<_}
 use native.Mathlib.Numerals.{add-one}
 use native.Mathlib.Omega.{arith}
-use lib.Dec.{eqb}
+use lib.Dec.{eqb, leb}
 use lib.ListN.{length, getD, length-append}
-use borrow.Author.Tests.{eq-eqb, ne-eqb}
+use borrow.Author.Tests.{le-leb, lt-leb}
 use Rattle.laws.specs.Counts.{tab}
 use Rattle.laws.specs.Lists.{each}
-use Rattle.laws.proofs.Tests.{eq-or-not}
+use Rattle.laws.proofs.Tests.{lt-or-le}
 use Rattle.laws.proofs.Counts.{rises, length-tab, tab-suc, each-tab, map-tab}
 use Rattle.rules.specs.Programs.{Operand, Stmt, gone, instr, label, variable, comment, org, bytes, words, pad, Program, retarget, isGone}
 use Rattle.rules.specs.Listing.{ListingForm}
@@ -57,16 +57,16 @@ stems-append i (s ∷ p) q = let z : suc i + length p ≡ i + suc (length p) = o
     on true = refl
     on false = refl
 
-pub kept-more : (forms : List ℕ) (n : ℕ) → keptTo forms (n + 1) ≡ keptTo forms n ++ cond (eqb (getD forms n 0) goneForm) [] (n ∷ [])
+pub kept-more : (forms : List ℕ) (n : ℕ) → keptTo forms (n + 1) ≡ keptTo forms n ++ cond (leb goneForm (getD forms n 0)) [] (n ∷ [])
 unfolding keptTo
-kept-more forms n = each-tab (λ i. cond (eqb (getD forms i 0) goneForm) [] (i ∷ [])) (λ i. i) n
+kept-more forms n = each-tab (λ i. cond (leb goneForm (getD forms i 0)) [] (i ∷ [])) (λ i. i) n
 
 pub kept-few : (forms : List ℕ) (n : ℕ) → length (keptTo forms n) ≤ n
 unfolding keptTo each tab
 kept-few forms zero = omega arith
 kept-few forms (suc n) =
-    let e = ap length (ap (keptTo forms) (sym (add-one n)) ∙ kept-more forms n) ∙ length-append (keptTo forms n) (cond (eqb (getD forms n 0) goneForm) [] (n ∷ [])) in
-    omega (arith, e, kept-few forms n, one (eqb (getD forms n 0) goneForm))
+    let e = ap length (ap (keptTo forms) (sym (add-one n)) ∙ kept-more forms n) ∙ length-append (keptTo forms n) (cond (leb goneForm (getD forms n 0)) [] (n ∷ [])) in
+    omega (arith, e, kept-few forms n, one (leb goneForm (getD forms n 0)))
   where
     one : (b : Bool) → length (cond b [] (n ∷ [])) ≤ 1
     one true = omega arith
@@ -134,14 +134,14 @@ module _ (t : Slots) where
       ap (stemsFrom 0) (tab-suc (slotAt t) n) ∙ stems-append 0 (tab (slotAt t) n) (slotAt t n ∷ []) ∙ rw z
 
   -- a slot is gone by its form alone
-  gone-form : Held (t .frames) (t .starts) (t .count) → (i : ℕ) → i < t .count → isGone (slotAt t i) ≡ eqb (getD (t .forms) i 0) goneForm
-  gone-form h i l = ⊎-elim is-gone is-kept (eq-or-not (getD (t .forms) i 0) goneForm)
+  gone-form : Held (t .frames) (t .starts) (t .count) → (i : ℕ) → i < t .count → isGone (slotAt t i) ≡ leb goneForm (getD (t .forms) i 0)
+  gone-form h i l = ⊎-elim is-kept is-gone (lt-or-le (getD (t .forms) i 0) goneForm)
     where
-      is-gone : getD (t .forms) i 0 ≡ goneForm → isGone (slotAt t i) ≡ eqb (getD (t .forms) i 0) goneForm
-      is-gone e = ap isGone (slot-gone t i e) ∙ sym (eq-eqb (getD (t .forms) i 0) goneForm e)
+      is-gone : goneForm ≤ getD (t .forms) i 0 → isGone (slotAt t i) ≡ leb goneForm (getD (t .forms) i 0)
+      is-gone e = ap isGone (slot-gone t i e) ∙ sym (le-leb goneForm (getD (t .forms) i 0) e)
 
-      is-kept : (getD (t .forms) i 0 ≡ goneForm → ⊥) → isGone (slotAt t i) ≡ eqb (getD (t .forms) i 0) goneForm
-      is-kept n = kept-kind (slotAt t i) (kept-form t h i l n) ∙ sym (ne-eqb (getD (t .forms) i 0) goneForm n)
+      is-kept : getD (t .forms) i 0 < goneForm → isGone (slotAt t i) ≡ leb goneForm (getD (t .forms) i 0)
+      is-kept n = kept-kind (slotAt t i) (kept-form t h i l n) ∙ sym (lt-leb goneForm (getD (t .forms) i 0) n)
 
   stems-to : Held (t .frames) (t .starts) (t .count) → (n : ℕ) → n ≤ t .count → stems (tab (slotAt t) n) ≡ keptTo (t .forms) n
   unfolding stems stemsFrom keptTo each tab

@@ -5,12 +5,12 @@ use mathlib.Core.List.{List, [], _∷_, _++_}
 use mathlib.Core.Bool.{Bool, true, false, _||_, _&&_, not, cond}
 use Prim.Native.Nat.{ℕ, _+_, _≤_, _<_}
 use native.Mathlib.Omega.{arith}
-use lib.Dec.{eqb}
+use lib.Dec.{eqb, leb}
 use lib.ListN.{length, getD, drop, List·getD-append}
 use lib.Seq.{getD-drop}
 use borrow.Author.Tests.{eq-eqb, ne-eqb}
 use Rattle.laws.specs.Counts.{tab}
-use Rattle.laws.proofs.Tests.{eq-or-not}
+use Rattle.laws.proofs.Tests.{eq-or-not, lt-or-le}
 use Rattle.laws.proofs.Counts.{length-tab, getD-tab, tab-ext, map-tab}
 use Rattle.laws.proofs.Stores.{front-drop}
 use Rattle.rules.specs.declared.Settings.{Settings}
@@ -42,60 +42,46 @@ spoken-kept asked s n = ap (λ (b : Bool). cond ((b || false) && not (asked .com
 -- what stands in a slot, by its form
 made : Slots → (i g : ℕ) → Stmt
 made t i g =
-    cond (eqb g goneForm) gone (onInstr (written t i) (λ x. instr g (aimedAt t g (getD (t .carry) i 0) (x .args)) (getD (t .carry) i 0)) (written t i))
+    cond (leb goneForm g) gone (onInstr (written t i) (λ x. instr g (aimedAt t g (getD (t .carry) i 0) (x .args)) (getD (t .carry) i 0)) (written t i))
 
-slot-same : (t : Slots) (forms : List ℕ) (i : Placeℕ) → getD forms i 0 ≡ getD (t .forms) i 0 → slotAt (formed t forms) i ≡ slotAt t i
+pub slot-same : (t : Slots) (forms : List ℕ) (i : Placeℕ) → getD forms i 0 ≡ getD (t .forms) i 0 → slotAt (formed t forms) i ≡ slotAt t i
 unfolding slotAt targetOf made
 slot-same t forms i e = ap (made t i) e
 
--- a slot that is not gone is of its frame's kind
-kind-frame : (t : Slots) → Held (t .frames) (t .starts) (t .count) → (i : Placeℕ) → i < t .count → (getD (t .forms) i 0 ≡ goneForm → ⊥)
-    → kindOf (slotAt t i) ≡ getD (frameAt (t .frames) (t .starts) i) 0 0
-kind-frame t h i l n = kind-kept t i n ∙ kind-read i (frameAt (t .frames) (t .starts) i) (written t i) (frame-is (t .frames) (t .starts) (t .count) h i l)
-
-module _ (asked : Settings) (t : Slots) (h : Held (t .frames) (t .starts) (t .count)) (forms : List ℕ) (i : Placeℕ) (l : i < t .count)
-    (e : getD forms i 0 ≡ shownForm asked (frameAt (t .frames) (t .starts) i) (getD (t .forms) i 0)) where
-  -- a form stays if comments are asked for, or the frame is none
+module _ (asked : Settings) (t : Slots) (forms : List ℕ) (i : Placeℕ) (e : getD forms i 0 ≡ shownForm asked (kindOf (slotAt t i)) (getD (t .forms) i 0)) where
+  -- a form stays if comments are asked for, or none stands there
   form-asked : asked .comments ≡ true → getD forms i 0 ≡ getD (t .forms) i 0
   unfolding shownForm
   form-asked c = e ∙ rw c
 
-  form-other : asked .comments ≡ false → (getD (frameAt (t .frames) (t .starts) i) 0 0 ≡ 4 → ⊥) → getD forms i 0 ≡ getD (t .forms) i 0
+  form-other : asked .comments ≡ false → (kindOf (slotAt t i) ≡ 4 → ⊥) → getD forms i 0 ≡ getD (t .forms) i 0
   unfolding shownForm
-  form-other c n = e ∙ rw (c, ne-eqb (getD (frameAt (t .frames) (t .starts) i) 0 0) 4 n)
+  form-other c n = e ∙ rw (c, ne-eqb (kindOf (slotAt t i)) 4 n)
 
-  form-gone : asked .comments ≡ false → getD (frameAt (t .frames) (t .starts) i) 0 0 ≡ 4 → getD forms i 0 ≡ goneForm
+  form-gone : asked .comments ≡ false → kindOf (slotAt t i) ≡ 4 → getD forms i 0 ≡ goneForm
   unfolding shownForm
-  form-gone c k = e ∙ rw (c, eq-eqb (getD (frameAt (t .frames) (t .starts) i) 0 0) 4 k)
+  form-gone c k = e ∙ rw (c, eq-eqb (kindOf (slotAt t i)) 4 k)
 
   slot-shown : slotAt (formed t forms) i ≡ spoken asked (slotAt t i)
-  slot-shown = on (asked .comments) refl (eq-or-not (getD (frameAt (t .frames) (t .starts) i) 0 0) 4)
+  slot-shown = on (asked .comments) refl (eq-or-not (kindOf (slotAt t i)) 4)
     where
-      comment-goes : asked .comments ≡ false → getD (frameAt (t .frames) (t .starts) i) 0 0 ≡ 4 → (getD (t .forms) i 0 ≡ goneForm) ⊎ (getD (t .forms) i 0 ≡ goneForm → ⊥)
-          → spoken asked (slotAt t i) ≡ gone
-      comment-goes c k (inl g) = ap (spoken asked) (slot-gone t i g)
-      comment-goes c k (inr n) = spoken-gone asked (slotAt t i) c (kind-frame t h i l n ∙ k)
-
-      on : (b : Bool) → asked .comments ≡ b → (getD (frameAt (t .frames) (t .starts) i) 0 0 ≡ 4) ⊎ (getD (frameAt (t .frames) (t .starts) i) 0 0 ≡ 4 → ⊥)
-          → slotAt (formed t forms) i ≡ spoken asked (slotAt t i)
+      on : (b : Bool) → asked .comments ≡ b → (kindOf (slotAt t i) ≡ 4) ⊎ (kindOf (slotAt t i) ≡ 4 → ⊥) → slotAt (formed t forms) i ≡ spoken asked (slotAt t i)
       on true c k = slot-same t forms i (form-asked c) ∙ sym (spoken-asked asked (slotAt t i) c)
-      on false c (inl k) = slot-gone (formed t forms) i (form-gone c k) ∙ sym (comment-goes c k (eq-or-not (getD (t .forms) i 0) goneForm))
-      on false c (inr n) =
-          slot-same t forms i (form-other c n) ∙ sym (spoken-kept asked (slotAt t i) (λ z. n (sym (kind-frame t h i l (not-gone t i 3 z)) ∙ z)))
+      on false c (inl k) = slot-gone (formed t forms) i (omega (arith, form-gone c k)) ∙ sym (spoken-gone asked (slotAt t i) c k)
+      on false c (inr n) = slot-same t forms i (form-other c n) ∙ sym (spoken-kept asked (slotAt t i) n)
 
   -- a slot that is left has the form that it had
-  form-left : (getD forms i 0 ≡ goneForm → ⊥) → getD forms i 0 ≡ getD (t .forms) i 0
-  form-left g = on (asked .comments) refl (eq-or-not (getD (frameAt (t .frames) (t .starts) i) 0 0) 4)
+  form-left : getD forms i 0 < goneForm → getD forms i 0 ≡ getD (t .forms) i 0
+  form-left g = on (asked .comments) refl (eq-or-not (kindOf (slotAt t i)) 4)
     where
-      on : (b : Bool) → asked .comments ≡ b → (getD (frameAt (t .frames) (t .starts) i) 0 0 ≡ 4) ⊎ (getD (frameAt (t .frames) (t .starts) i) 0 0 ≡ 4 → ⊥)
-          → getD forms i 0 ≡ getD (t .forms) i 0
+      on : (b : Bool) → asked .comments ≡ b → (kindOf (slotAt t i) ≡ 4) ⊎ (kindOf (slotAt t i) ≡ 4 → ⊥) → getD forms i 0 ≡ getD (t .forms) i 0
       on true c k = form-asked c
-      on false c (inl k) = absurd (g (form-gone c k))
+      on false c (inl k) = absurd (omega (arith, g, form-gone c k))
       on false c (inr n) = form-other c n
 
 -- ---- the tables
 abbrev pub ShownForms : Settings → Slots → (forms : List ℕ) → Type 0
-ShownForms asked t forms = (i : Placeℕ) → i < t .count → getD forms i 0 ≡ shownForm asked (frameAt (t .frames) (t .starts) i) (getD (t .forms) i 0)
+ShownForms asked t forms = (i : Placeℕ) → i < t .count → getD forms i 0 ≡ shownForm asked (kindOf (slotAt t i)) (getD (t .forms) i 0)
 
 pub shown-slots : (asked : Settings) (t : Slots) (forms : List ℕ) → Sound t → ShownForms asked t forms → Shown asked t (formed t forms)
 unfolding programOf shown
@@ -108,12 +94,12 @@ shown-slots asked t forms s e =
             (let c = s .carried i l (as-it-was i l k) (rw (kept i l k) at u) in record { inside = c .inside; instruction = c .instruction; transfer = c .transfer });
         owned = s .owned;
       };
-      program = tab-ext (slotAt (formed t forms)) (λ i. spoken asked (slotAt t i)) (t .count) (λ i l. slot-shown asked t (s .held) forms i l (e i l))
+      program = tab-ext (slotAt (formed t forms)) (λ i. spoken asked (slotAt t i)) (t .count) (λ i l. slot-shown asked t forms i (e i l))
           ∙ sym (map-tab (slotAt t) (spoken asked) (t .count));
     }
   where
     kept : (i : Placeℕ) → i < t .count → kindOf (slotAt (formed t forms) i) ≡ 1 → getD forms i 0 ≡ getD (t .forms) i 0
-    kept i l k = form-left asked t (s .held) forms i l (e i l) (not-gone (formed t forms) i 0 k)
+    kept i l k = form-left asked t forms i (e i l) (not-gone (formed t forms) i 0 k)
 
     as-it-was : (i : Placeℕ) → i < t .count → kindOf (slotAt (formed t forms) i) ≡ 1 → kindOf (slotAt t i) ≡ 1
     as-it-was i l k = sym (ap kindOf (slot-same t forms i (kept i l k))) ∙ k

@@ -90,7 +90,7 @@ kind-least i s x (ofBytes f) = rw (f .is) (omega arith)
 kind-least i s x (ofWords f) = rw (f .is) (omega arith)
 kind-least i s x (ofPad f) = rw (f .is) (omega arith)
 
-pub kept-form : (t : Slots) → Held (t .frames) (t .starts) (t .count) → (i : ℕ) → i < t .count → (getD (t .forms) i 0 ≡ goneForm → ⊥) → 1 ≤ kindOf (slotAt t i)
+pub kept-form : (t : Slots) → Held (t .frames) (t .starts) (t .count) → (i : ℕ) → i < t .count → getD (t .forms) i 0 < goneForm → 1 ≤ kindOf (slotAt t i)
 kept-form t h i l n = rw (kind-kept t i n) (kind-least i (frameAt (t .frames) (t .starts) i) (written t i) (frame-is (t .frames) (t .starts) (t .count) h i l))
 
 -- ---- the bytes by kind

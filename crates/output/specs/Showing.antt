@@ -4,14 +4,13 @@ use mathlib.Core.List.{List}
 use mathlib.Core.Bool.{cond}
 use Prim.Native.Nat.{ℕ}
 use lib.Dec.{eqb}
-use lib.ListN.{getD}
 use Rattle.rules.specs.declared.Settings.{Settings}
 use Rattle.rules.specs.Output.{shown}
 use Rattle.slots.specs.Slots.{Slots, slots, goneForm, programOf, Sound}
 
--- the form of a place whose frame is s, f being its form so far
-unfoldable pub shownForm : Settings → (s : List ℕ) (f : ℕ) → ℕ
-shownForm asked s f = cond (asked .comments) f (cond (eqb (getD s 0 0) 4) goneForm f)
+-- the form of a place where a statement of kind k stands, f being its form so far
+unfoldable pub shownForm : Settings → (k f : ℕ) → ℕ
+shownForm asked k f = cond (asked .comments) f (cond (eqb k 4) goneForm f)
 
 -- the tables with other forms
 abbrev pub formed : Slots → (forms : List ℕ) → Slots

@@ -5,12 +5,13 @@ use listing::line_bytes;
 use rules::Place;
 use slots::CARRY;
 use slots::NO_OWNER;
+use slots::Slot;
 use slots::State;
 use slots::argument_at;
 use slots::form_in;
 use slots::frame_at;
-use slots::kind_at;
 use slots::owner_at;
+use slots::slot_at;
 use slots::wide;
 ghost use mathlib.Core.Path.{_≡_};
 ghost use Prim.Native.Nat.{_<_, _≤_};
@@ -73,16 +74,12 @@ pub fn line_length_at(marked: bool, frames: &[u8], state: &State, count: usize, 
         (now (state .entry)))
         (carryIn (now (state .entry))) (ownersIn (now (state .entry))) (at .0) r ⌝ }
 {
-    let kind = kind_at(frames, state, count, at);
-    if kind == 0 {
-        return 0;
-    }
     let b = line_bytes(marked);
-    if kind == 1 {
-        return 2 * (instruction_length(frames, state, count, at) + b) + 1;
+    match slot_at(frames, state, count, at) {
+        Slot::Gone => 0,
+        Slot::Form(_) => 2 * (instruction_length(frames, state, count, at) + b) + 1,
+        Slot::Holds(_) => 2 * (frame_at(frames, state, count, at).len() + b) + 1,
     }
-    let frame = frame_at(frames, state, count, at);
-    2 * (frame.len() + b) + 1
 }
 
 // How many characters the line has that marks the new form.

@@ -1,8 +1,7 @@
 // The place that each line stems from: a statement never leaves its slot. C-13 hands the list out, two bytes an entry.
 use rules::Place;
-use slots::GONE;
 use slots::State;
-use slots::form_in;
+use slots::is_gone;
 ghost use mathlib.Core.Path.{_≡_};
 ghost use Prim.Native.Nat.{_+_, _*_, _≤_, _<_};
 ghost use lib.ListN.{length};
@@ -20,7 +19,7 @@ pub fn count_stems(count: usize, state: &State) -> usize
     let mut n = 0;
     let mut i = 0;
     while i < count {
-        if form_in(state, Place(i)) != GONE {
+        if !is_gone(state, Place(i)) {
             n += 1;
         }
         i += 1;
@@ -46,7 +45,7 @@ pub fn write_stems(count: usize, state: &State, list: &mut [u8]) -> usize
     let mut n = 0;
     let mut i = 0;
     while i < count {
-        if form_in(state, Place(i)) != GONE {
+        if !is_gone(state, Place(i)) {
             put_entry(list, 2 * n, i);
             n += 1;
         }

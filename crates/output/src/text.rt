@@ -7,14 +7,15 @@ use instruction::tables::is_transfer;
 use listing::line_bytes;
 use rules::Place;
 use slots::CARRY;
-use slots::GONE;
 use slots::NO_OWNER;
 use slots::OFFSET;
+use slots::Slot;
 use slots::State;
 use slots::form_in;
 use slots::frame_at;
-use slots::kind_at;
+use slots::is_gone;
 use slots::owner_at;
+use slots::slot_at;
 use slots::wide;
 ghost use mathlib.Core.Path.{_≡_};
 ghost use mathlib.Core.Bool.{true};
@@ -163,13 +164,12 @@ fn put_statement(
     ensures { λ r. let t : Slots = tableOf (now (frames .entry)) (now (state .entry)) count in
         ⌜ Put (now (out .entry)) at (bytesAt t (now (positions .entry)) (place .0)) (now (out .exit)) r ⌝ }
 {
-    let kind = kind_at(frames, state, count, place);
-    if kind == 1 {
-        return put_instruction(frames, state, count, positions, place, out, at);
-    }
-    let frame = frame_at(frames, state, count, place);
-    put_bytes(out, at, frame);
-    at + 2 * frame.len()
+    let Slot::Form(_) = slot_at(frames, state, count, place) else {
+        let frame = frame_at(frames, state, count, place);
+        put_bytes(out, at, frame);
+        return at + 2 * frame.len();
+    };
+    put_instruction(frames, state, count, positions, place, out, at)
 }
 
 fn end_line(out: &mut [u8], at: usize) -> usize
@@ -200,13 +200,13 @@ fn put_line(
         × (r ≡ at + length (lineAt (formOf marked) (now (lines .entry)) t (place .0))) ⌝ }
 {
     let i = place.0;
-    if form_in(state, place) == GONE {
+    if is_gone(state, place) {
         return at;
     }
     let b = line_bytes(marked);
     let end = put_statement(frames, state, count, positions, place, out, at + 2 * b);
-    let kind = kind_at(frames, state, count, place);
-    put_source(marked, kind, lines[i], out, at);
+    let frame = frame_at(frames, state, count, place);
+    put_source(marked, frame[0], lines[i], out, at);
     end_line(out, end)
 }
 

@@ -10,7 +10,7 @@ use lib.Dec.{eqb}
 use lib.ListN.{length, getD}
 use borrow.Author.Tests.{ne-eqb, lt-ltb, le-ltb, lt-leb, le-leb}
 use Rattle.laws.specs.Options.{isSome, given, bind}
-use Rattle.laws.proofs.Tests.{false-true, true-false, cond-true, cond-false, eq-or-not}
+use Rattle.laws.proofs.Tests.{false-true, true-false, cond-true, cond-false, lt-or-le}
 use Rattle.rules.specs.declared.Kind.{Kind}
 use Rattle.rules.specs.declared.Kind.the-variants.{Reg, I8, D9, Bit, Rel8, A12, A16, Rel16}
 use Rattle.rules.specs.Expressions.{Expr}
@@ -298,9 +298,9 @@ module _ (frames starts : List ℕ) (count : ℕ) (forms carry owners offsets ot
 
   kind-any : (i : ℕ) → kindOf (slotAt those i) ≡ kindOf (slotAt these i)
   kind-any i =
-      ⊎-elim (λ e. ap kindOf (slot-gone those i e) ∙ sym (ap kindOf (slot-gone these i e)))
-      (λ n. kind-kept those i n ∙ sym (kind-kept these i n))
-      (eq-or-not (getD forms i 0) goneForm)
+      ⊎-elim (λ n. kind-kept those i n ∙ sym (kind-kept these i n))
+      (λ e. ap kindOf (slot-gone those i e) ∙ sym (ap kindOf (slot-gone these i e)))
+      (lt-or-le (getD forms i 0) goneForm)
 
   pub sound-any : Sound these → Sound those
   sound-any s =

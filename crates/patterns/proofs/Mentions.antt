@@ -9,8 +9,8 @@ use lib.IntN.{pos}
 use lib.ListN.{length, getD, drop, take}
 use lib.Seq.{take-length}
 use Rattle.laws.specs.Counts.{sumTo}
-use Rattle.laws.specs.Lists.{total}
-use Rattle.laws.proofs.Tests.{false-true, true-false}
+use Rattle.laws.specs.Lists.{total, isOneOf}
+use Rattle.laws.proofs.Tests.{false-true}
 use Rattle.laws.proofs.Lists.{total-none}
 use Rattle.laws.proofs.Counts.{total-by, sum-ext}
 use Rattle.rules.specs.declared.Kind.{Kind}
@@ -23,14 +23,12 @@ use Rattle.rules.specs.Programs.{Operand, register, value, inner, Stmt, Program
 use Rattle.rules.specs.Rewriting.{references}
 use Rattle.rules.specs.Statements.{argAt, argumentAt, exprAt, operandAt}
 use Rattle.rules.proofs.Laws.{length-placed, placed-at}
-use Rattle.listing.specs.Tables.{frameAt, inputAt, Held}
-use Rattle.slots.specs.Slots.{Slots, written, slotAt, programOf, targetOf, isReg, isData, InstrIn, DataIn, Sound}
-use Rattle.slots.proofs.Frames.{Left, Reads, Frame, ofInstr, ofLabel, ofVariable, ofComment, ofOrg, ofBytes, ofWords, ofPad, VariableFrame, frame-of, frame-read, was-read}
+use Rattle.listing.specs.Tables.{frameAt, inputAt}
+use Rattle.slots.specs.Slots.{Slots, slotAt, programOf, targetOf, isReg, InstrIn, DataIn, Sound}
+use Rattle.slots.proofs.Frames.{Left, Reads, Frame, ofInstr, ofLabel, ofVariable, ofComment, ofOrg, ofBytes, ofWords, ofPad, frame-read, was-read}
 use Rattle.slots.proofs.Operands.{OperandRead, instr-in, operands-in}
-use Rattle.slots.proofs.Tables.{frame-is}
-use Rattle.slots.proofs.Slots.{kind-read, kind-kept, not-gone}
 use Rattle.slots.proofs.Items.{ItemsRead, items-read}
-use Rattle.patterns.specs.Mentions.{times, readAs, itemsOf, VariableIn}
+use Rattle.patterns.specs.Mentions.{times, readAs, itemsOf}
 use Rattle.patterns.proofs.Programs.{length-program, at-program}
 use Rattle.patterns.proofs.Instructions.{value-at, read-operands, own, own-some, args-own, args-aimed}
 
@@ -126,15 +124,7 @@ module _ (t : Slots) (s : Sound t) (i : ℕ) (l : i < t .count) (e : kindOf (slo
         ∙ total-aimed (inOperand w) x (argsOf (readAs i frame)) some
         ∙ ap (λ k. total (inOperand w) (take (k - 1) (argsOf (readAs i frame))) + inOperand w x) own-length
 
--- ---- a variable, and data
-
--- the kind of what stands in a slot is its frame's first byte
-pub kind-frame : (t : Slots) → Held (t .frames) (t .starts) (t .count) → (i : ℕ) → i < t .count → (k : ℕ) → kindOf (slotAt t i) ≡ suc k → getD (frameAt (t .frames) (t .starts) i) 0 0 ≡ suc k
-kind-frame t h i l k e =
-    sym (kind-read i (frameAt (t .frames) (t .starts) i) (written t i) (frame-is (t .frames) (t .starts) (t .count) h i l)) ∙ sym (kind-kept t i (not-gone t i k e)) ∙ e
-
-pub variable-in : (i : ℕ) (s : List ℕ) → VariableIn i s → VariableFrame s (readAs i s)
-variable-in i s h = frame-of i s (readAs i s) 3 (frame-read i s (readAs i s) (was-read (readFrame i s) (h .reads))) (h .kind)
+-- ---- data
 
 -- as many items as the count, each reading where it begins
 pub record ItemsIn (i : ℕ) (s : List ℕ) : Type 0 where
@@ -156,18 +146,21 @@ data-in i s h = on (frame-read i s (readAs i s) (was-read (readFrame i s) (h .re
     on (ofWords f) = record { long = f .long; few = f .few; items = rw (f .is) (items-read i s (getD s 1 0) 2 (Left (f .es) []) (f .items)); over = λ w. rw (f .is) }
     on (ofPad f) = absurd (omega (arith, f .kind, h .no-pad))
 
--- ---- what holds no expression
+-- ---- what holds no expression, by the kind
 
-pub in-none : (w : Expr → ℕ) (s : Stmt) → (kindOf s ≡ 1 → ⊥) → (kindOf s ≡ 3 → ⊥) → isData (kindOf s) ≡ false → overExprs w s ≡ 0
-in-none w gone a b l = refl
-in-none w (instr f xs c) a b l = absurd (a refl)
-in-none w (label m) a b l = refl
-in-none w (variable m d) a b l = absurd (b refl)
-in-none w (comment x) a b l = refl
-in-none w (org m) a b l = refl
-in-none w (bytes es) a b l = true-false l
-in-none w (words es) a b l = true-false l
-in-none w (pad add m) a b l = refl
+abbrev pub without : ℕ → Bool
+without k = isOneOf (2 ∷ 4 ∷ 5 ∷ 8 ∷ []) k
+
+pub in-none : (w : Expr → ℕ) (s : Stmt) → without (kindOf s) ≡ true → overExprs w s ≡ 0
+in-none w gone e = refl
+in-none w (instr f xs c) e = false-true e
+in-none w (label m) e = refl
+in-none w (variable m d) e = false-true e
+in-none w (comment x) e = refl
+in-none w (org m) e = refl
+in-none w (bytes es) e = false-true e
+in-none w (words es) e = false-true e
+in-none w (pad add m) e = refl
 
 -- ---- the whole, by place
 

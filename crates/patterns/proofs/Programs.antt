@@ -1,14 +1,16 @@
 -- The program that the tables hold, by place: as many statements as counted, each as its slot has it, and nothing behind.
-use mathlib.Core.Path.{_≡_, refl}
-use mathlib.Core.Bool.{Bool, false, not, cond}
+use mathlib.Core.Path.{_≡_, ap, _∙_}
+use mathlib.Core.Logic.{⊎-elim}
+use mathlib.Core.List.{List, [], _∷_, map}
+use mathlib.Core.Bool.{Bool, not}
 use Prim.Native.Nat.{ℕ, _-_, _≤_, _<_}
 use native.Mathlib.Omega.{arith}
-use lib.Dec.{eqb}
 use lib.ListN.{length}
+use types.Run.{OneOf}
 use Rattle.laws.specs.Counts.{scan}
 use Rattle.laws.proofs.Counts.{length-tab, getD-tab, scan-bound}
 use Rattle.laws.proofs.Stores.{get-out}
-use Rattle.rules.specs.Programs.{Stmt, gone, instr, label, variable, comment, org, bytes, words, pad, at, kindOf}
+use Rattle.rules.specs.Programs.{gone, at}
 use Rattle.rules.specs.Rewriting.{insignificant, next}
 use Rattle.slots.specs.Slots.{Slots, slotAt, programOf}
 
@@ -24,17 +26,14 @@ module _ (t : Slots) where
   pub past-program : (i : ℕ) → t .count ≤ i → at (programOf t) i ≡ gone
   past-program i l = get-out (programOf t) i gone (omega (arith, length-program))
 
--- a statement is significant by its kind
-pub significant-kind : (s : Stmt) → not (insignificant s) ≡ cond (eqb (kindOf s) 0) false (not (eqb (kindOf s) 4))
-significant-kind gone = refl
-significant-kind (instr f xs c) = refl
-significant-kind (label n) = refl
-significant-kind (variable n e) = refl
-significant-kind (comment x) = refl
-significant-kind (org l) = refl
-significant-kind (bytes es) = refl
-significant-kind (words es) = refl
-significant-kind (pad add m) = refl
+-- what is the same for every number of a list is so for one of them: joined arms of a match
+pub joined : {A : Type 0} (f : ℕ → A) (y : A) (ks : List ℕ) (n : ℕ) → OneOf ks n → map f ks ≡ map (λ k. y) ks → f n ≡ y
+joined f y [] n h e = absurd h
+joined f y (k ∷ []) n h e = let q : f k ≡ y = cc in ap f h ∙ q
+joined f y (k ∷ l ∷ ks) n h e =
+    let q : f k ≡ y = cc in
+    let r : map f (l ∷ ks) ≡ map (λ k. y) (l ∷ ks) = cc in
+    ⊎-elim (λ z. ap f z ∙ q) (λ z. joined f y (l ∷ ks) n z r) h
 
 -- ---- the search for the next significant place, which stands at j
 module _ (t : Slots) where

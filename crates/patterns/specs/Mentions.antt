@@ -5,7 +5,7 @@ use mathlib.Core.List.{List, []}
 use Prim.Native.Nat.{ℕ, _≤_, _<_}
 use lib.Dec.{eqb}
 use lib.ListN.{getD, length}
-use Rattle.rules.specs.Answers.{orD, isOk}
+use Rattle.rules.specs.Answers.{orD}
 use Rattle.rules.specs.Expressions.{Expr, mentions}
 use Rattle.rules.specs.Listing.{readFrame}
 use Rattle.rules.specs.Programs.{Placeℕ, Stmt, gone, instr, label, variable, comment, org, bytes, words, pad, kindOf}
@@ -35,11 +35,6 @@ itemsOf (org l) = []
 itemsOf (bytes es) = es
 itemsOf (words es) = es
 itemsOf (pad add m) = []
-
--- a frame that was read at place i is a variable
-pub record VariableIn (i : Placeℕ) (s : List ℕ) : Type 0 where
-  pub reads : isOk (readFrame i s) ≡ true
-  pub kind : getD s 0 0 ≡ 3
 
 -- ---- by links
 

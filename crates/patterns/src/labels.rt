@@ -31,7 +31,7 @@ pub fn inner_label_at(frames: &[u8], state: &State, count: usize, at: Place) -> 
     if !is_transfer(form_at(frames, state, count, at)) {
         return InnerLabel::Nothing;
     }
-    let written = Place(carry_at(state, at));
+    let written = carry_at(state, at);
     let owner = owner_at(state, written);
     if owner < NO_OWNER {
         return InnerLabel::Of(Place(owner), offset_at(state, written));

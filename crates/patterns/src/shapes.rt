@@ -119,7 +119,7 @@ pub fn inverted_shape(
     let Opening::At(jump, m, _) = opening_at(frames, state, count, from, at) else {
         return Inverted::Nothing;
     };
-    if names_bare(frames, state, count, links, at, m.0) {
+    if names_bare(frames, state, count, links, at, m) {
         return Inverted::At(jump, m);
     }
     Inverted::Nothing
@@ -172,13 +172,13 @@ pub fn trampoline_shape(
     let Landing::At(s, _) = landing_after(frames, state, count, last) else {
         return Trampoline::Nothing;
     };
-    if !names_bare(frames, state, count, links, at, t.0) {
+    if !names_bare(frames, state, count, links, at, t) {
         return Trampoline::Nothing;
     }
-    if !names_bare(frames, state, count, links, skip, s.0) {
+    if !names_bare(frames, state, count, links, skip, s) {
         return Trampoline::Nothing;
     }
-    if references(frames, state, count, links, t.0) == 1 {
+    if references(frames, state, count, links, t) == 1 {
         return Trampoline::At(skip, t, last, s);
     }
     Trampoline::Nothing

@@ -1,7 +1,9 @@
 // Which statements a pattern consists of.
 use rules::Place;
+use rules::Statement;
+use slots::Slot;
 use slots::State;
-use slots::kind_at;
+use slots::slot_at;
 ghost use mathlib.Core.Path.{_≡_};
 ghost use mathlib.Core.List.{List};
 ghost use mathlib.Core.Bool.{not};
@@ -19,11 +21,20 @@ fn significant_at(frames: &[u8], state: &State, count: usize, at: Place) -> bool
         (let t = slots (now (frames .entry)) (startsIn (now (state .entry))) count (formsIn (now (state .entry))) carry owners offsets in
         r ≡ not (insignificant (slotAt t (at .0))))) ⌝ }
 {
-    let kind = kind_at(frames, state, count, at);
-    if kind == 0 {
-        return false;
+    match slot_at(frames, state, count, at) {
+        Slot::Gone => false,
+        Slot::Form(_) => true,
+        Slot::Holds(statement) => match statement {
+            Statement::Comment(_) => false,
+            Statement::Instr(_)
+            | Statement::Label(_)
+            | Statement::Variable(_, _)
+            | Statement::Org(_)
+            | Statement::Bytes(_, _)
+            | Statement::Words(_, _)
+            | Statement::Pad(_, _) => true,
+        },
     }
-    kind != 4
 }
 
 // The first significant place from a place on; where there is none, a place behind the last.

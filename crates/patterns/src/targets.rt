@@ -11,9 +11,7 @@ use slots::Slot;
 use slots::State;
 use slots::argument_at;
 use slots::carry_at;
-use slots::form_in;
 use slots::frame_at;
-use slots::kind_at;
 use slots::links_at;
 use slots::owner_at;
 use slots::slot_at;
@@ -44,10 +42,10 @@ pub fn form_at(frames: &[u8], state: &State, count: usize, at: Place) -> u8
     if count <= i {
         return GONE;
     }
-    if kind_at(frames, state, count, at) == 1 {
-        return form_in(state, at);
-    }
-    GONE
+    let Slot::Form(form) = slot_at(frames, state, count, at) else {
+        return GONE;
+    };
+    form
 }
 
 pub fn branch_at(frames: &[u8], state: &State, count: usize, form: u8, at: Place) -> bool
@@ -126,12 +124,12 @@ fn is_bare_target(
     count: usize,
     links: &[u16; 28672],
     at: Place,
-    place: usize,
+    place: Place,
 ) -> bool
     requires { ⌜ Held (now frames) (startsIn (now state)) count × TargetIn (now frames) (startsIn (now state)) count (at .0) × (length
         (now links) ≡ 28672) ⌝ }
     ensures { λ r. ⌜ ((n : ℕ) → Referred (λ m. eqb m n) (frameAt (now (frames .entry)) (startsIn (now (state .entry))) (at .0))
-        (frameAt (now (links .entry)) (startsIn (now (state .entry))) (at .0)) place → (forms carry offsets : List ℕ)
+        (frameAt (now (links .entry)) (startsIn (now (state .entry))) (at .0)) (place .0) → (forms carry offsets : List ℕ)
         → (let t = slots (now (frames .entry)) (startsIn (now (state .entry))) count forms carry (ownersIn (now (state .entry))) offsets in
         r ≡ bareIn n (targetOf t (at .0)))) ⌝ }
 {
@@ -141,7 +139,7 @@ fn is_bare_target(
     is_bare(
         target_in(frames, state, count, at),
         target_links(frames, state, count, links, at),
-        place,
+        place.0,
     )
 }
 
@@ -152,18 +150,18 @@ pub fn names_bare(
     count: usize,
     links: &[u16; 28672],
     at: Place,
-    place: usize,
+    place: Place,
 ) -> bool
     requires { ⌜ Held (now frames) (startsIn (now state)) count × (at .0 < count)
         × TargetIn (now frames) (startsIn (now state)) count (getD (carryIn (now state)) (at .0) 0) × (length (now links) ≡ 28672) ⌝ }
     ensures { λ r. ⌜ (let c = getD (carryIn (now (state .entry))) (at .0) 0 in
         (n : ℕ) → Referred (λ m. eqb m n) (frameAt (now (frames .entry)) (startsIn (now (state .entry))) c)
-        (frameAt (now (links .entry)) (startsIn (now (state .entry))) c) place → (forms offsets : List ℕ) →
+        (frameAt (now (links .entry)) (startsIn (now (state .entry))) c) (place .0) → (forms offsets : List ℕ) →
         (let t = slots (now (frames .entry)) (startsIn (now (state .entry))) count forms (carryIn (now (state .entry))) (ownersIn
         (now (state .entry))) offsets in
         Sound t → kindOf (slotAt t (at .0)) ≡ 1 → isTransfer (getD forms (at .0) 0) ≡ true
         → r ≡ namesBare n (instrAt t (at .0)))) ⌝ }
 {
-    let written = Place(carry_at(state, at));
+    let written = carry_at(state, at);
     is_bare_target(frames, state, count, links, written, place)
 }

@@ -1,6 +1,7 @@
 -- What the code's statement in a slot means, kind by kind.
 use mathlib.Core.Path.{_≡_, refl, sym, ap, ap₂, _∙_}
 use mathlib.Core.Bool.{Bool, true, false, cond}
+use mathlib.Core.Logic.{⊎-elim}
 use mathlib.Core.List.{List, [], _∷_, map}
 use Prim.Native.Nat.{ℕ, zero, suc, _+_, _-_, _*_, _<_, _≤_}
 use native.Mathlib.Omega.{arith}
@@ -8,7 +9,9 @@ use lib.Dec.{eqb}
 use lib.ListN.{length, getD, take, length-map}
 use denote.Enum.Declared.{tagOf}
 use borrow.Author.Tests.{eq-eqb}
+use types.Run.{OneOf}
 use Rattle.rules.proofs.Statement.{the-type}
+use Rattle.slots.proofs.Slot.{the-type as slot-type}
 use Rattle.laws.proofs.Stores.{get-in}
 use Rattle.laws.proofs.Tests.{clash}
 use Rattle.rules.specs.declared.Arg.{Arg}
@@ -29,9 +32,9 @@ use Rattle.listing.proofs.Statements.{statement-stands}
 use Rattle.slots.specs.Slots.{Slots, slotAt, written, isReg, aimedAt, reformed, Agree}
 use Rattle.slots.specs.Meaning.{meantBy, kindFor, kindIn, Agrees, Stands}
 use Rattle.slots.specs.declared.Slot.{Slot}
-use Rattle.slots.specs.declared.Slot.the-variants.{Gone, Holds}
+use Rattle.slots.specs.declared.Slot.the-variants.{Gone, Form, Holds}
 use Rattle.slots.proofs.Frames.{Frame, FrameOf, ofInstr, ofLabel, ofVariable, ofComment, ofOrg, ofBytes, ofWords, ofPad, frame-read, was-read, frame-of}
-use Rattle.slots.proofs.Slots.{slot-gone, slot-kept, slot-instr, kind-kept, kind-read, written-frame}
+use Rattle.slots.proofs.Slots.{slot-gone, slot-kept, slot-instr, kind-kept, kind-read, not-gone, written-frame}
 use Rattle.slots.proofs.Tables.{reads-as, frame-is}
 use Rattle.slots.proofs.Operands.{argument-first}
 
@@ -98,19 +101,17 @@ module _ (t : Slots) (h : Held (t .frames) (t .starts) (t .count)) (i : ℕ) (l 
   stands : stmtOf i s (statementOf s) ≡ written t i
   stands = statement-stands i s (written t i) (reads-as (t .frames) (t .starts) (t .count) h i l)
 
-  pub gone-means : getD (t .forms) i 0 ≡ 70 → slotAt t i ≡ meantBy t i Gone
-  gone-means e = slot-gone t i e
-
-  pub first-byte : (getD (t .forms) i 0 ≡ 70 → ⊥) → kindOf (slotAt t i) ≡ 1 → getD s 0 0 ≡ 1
-  first-byte g e = sym (kind-read i s (written t i) (frame-is (t .frames) (t .starts) (t .count) h i l)) ∙ sym (kind-kept t i g) ∙ e
+  -- a frame's first byte is the kind of what stands there
+  pub first-is : (k : ℕ) → kindOf (slotAt t i) ≡ suc k → getD s 0 0 ≡ suc k
+  first-is k e = sym (kind-read i s (written t i) (frame-is (t .frames) (t .starts) (t .count) h i l)) ∙ sym (kind-kept t i (not-gone t i k e)) ∙ e
 
   -- no instruction: as it was read
-  pub other-means : (getD (t .forms) i 0 ≡ 70 → ⊥) → (getD s 0 0 ≡ 1 → ⊥) → slotAt t i ≡ meantBy t i (Holds (statementOf s))
+  pub other-means : getD (t .forms) i 0 < 70 → (getD s 0 0 ≡ 1 → ⊥) → slotAt t i ≡ meantBy t i (statementOf s)
   other-means g n =
       let o : kindOf (written t i) ≡ 1 → ⊥ = λ k. n (sym (kind-read i s (written t i) (frame-is (t .frames) (t .starts) (t .count) h i l)) ∙ k) in
       slot-kept t i g ∙ still (reformed t i) (written t i) o ∙ sym (rw stands (still _ (written t i) o))
 
-  module _ (f : ℕ) (e : getD (t .forms) i 0 ≡ f) (not-gone : getD (t .forms) i 0 ≡ 70 → ⊥) (k : getD s 0 0 ≡ 1) (ag : Agrees t i) (b c : ℕ)
+  module _ (f : ℕ) (e : getD (t .forms) i 0 ≡ f) (kept : getD (t .forms) i 0 < 70) (k : getD s 0 0 ≡ 1) (ag : Agrees t i) (b c : ℕ)
       (p : (j : ℕ) → 1 < length (operandsAt (getD s 1 0)) → b ≡ argumentAt s (operandsAt (getD s 1 0)) 2 1)
       (q : (j : ℕ) → 2 < length (operandsAt (getD s 1 0)) → c ≡ argumentAt s (operandsAt (getD s 1 0)) 2 2) where
     abbrev f₀ : ℕ
@@ -119,8 +120,8 @@ module _ (t : Slots) (h : Held (t .frames) (t .starts) (t .count)) (i : ℕ) (l 
     abbrev place : ℕ → Arg
     place j = argAt (argumentAt s (operandsAt f₀) 2 j)
 
-    kind-one : kindOf (slotAt t i) ≡ 1
-    kind-one = kind-kept t i not-gone ∙ kind-read i s (written t i) (frame-is (t .frames) (t .starts) (t .count) h i l) ∙ k
+    pub kind-one : kindOf (slotAt t i) ≡ 1
+    kind-one = kind-kept t i kept ∙ kind-read i s (written t i) (frame-is (t .frames) (t .starts) (t .count) h i l) ∙ k
 
     agrees : Agree f f₀
     agrees = rw e at (ag kind-one)
@@ -157,11 +158,11 @@ module _ (t : Slots) (h : Held (t .frames) (t .starts) (t .count)) (i : ℕ) (l 
     unfolding stmtOf instructionOf
     written-is = sym stands ∙ ap (stmtOf i s) (read-instr s k)
 
-    pub instr-means : slotAt t i ≡ meantBy t i (Holds (OfInstr is))
+    pub instr-means : slotAt t i ≡ meantBy t i (OfInstr is)
     unfolding stmtOf
     instr-means =
         let c′ = getD (t .carry) i 0 in
-        slot-instr t i (formOf was) (operandsOf s (operandsAt (formOf was)) (argumentsOf was)) i not-gone written-is
+        slot-instr t i (formOf was) (operandsOf s (operandsAt (formOf was)) (argumentsOf was)) i kept written-is
         ∙ ap₂ (λ (n : ℕ) (xs : List Operand). instr n (aimedAt t n c′ xs) c′) (e ∙ sym (number-back f (argAt 2) (argAt b) (argAt c) form-known)) (sym operands)
 
 -- ---- a frame that reads
@@ -206,29 +207,71 @@ module _ (i : ℕ) (s : List ℕ) (h : isOk (readFrame i s) ≡ true) where
 
 -- ---- what stands in a slot, by its variant
 
-pub kind-meant : (t : Slots) (i : ℕ) (r : Slot) → kindOf (meantBy t i r) ≡ kindIn r
+pub kind-meant : (t : Slots) (i : ℕ) (x : Statement) → kindOf (meantBy t i x) ≡ kindFor x
 unfolding stmtOf
-kind-meant t i Gone = refl
-kind-meant t i (Holds (OfInstr x)) = refl
-kind-meant t i (Holds (Label n)) = refl
-kind-meant t i (Holds (Variable n a)) = refl
-kind-meant t i (Holds (Comment n)) = refl
-kind-meant t i (Holds (Org l)) = refl
-kind-meant t i (Holds (Bytes n a)) = refl
-kind-meant t i (Holds (Words n a)) = refl
-kind-meant t i (Holds (Pad a m)) = refl
+kind-meant t i (OfInstr x) = refl
+kind-meant t i (Label n) = refl
+kind-meant t i (Variable n a) = refl
+kind-meant t i (Comment n) = refl
+kind-meant t i (Org l) = refl
+kind-meant t i (Bytes n a) = refl
+kind-meant t i (Words n a) = refl
+kind-meant t i (Pad a m) = refl
+
+pub kind-none : (x : Stmt) → kindOf x ≡ 0 → x ≡ gone
+kind-none gone e = refl
+kind-none (instr f xs c) e = absurd (omega arith)
+kind-none (label n) e = absurd (omega arith)
+kind-none (variable n d) e = absurd (omega arith)
+kind-none (comment d) e = absurd (omega arith)
+kind-none (org l) e = absurd (omega arith)
+kind-none (bytes es) e = absurd (omega arith)
+kind-none (words es) e = absurd (omega arith)
+kind-none (pad add m) e = absurd (omega arith)
 
 module _ (t : Slots) (i : ℕ) (r : Slot) (h : Stands t i r) where
-  -- no instruction stands there: the code's statement means the slot's
-  pub means-other : (kindOf (slotAt t i) ≡ 1 → ⊥) → slotAt t i ≡ meantBy t i r
-  means-other n = h .means (λ e. absurd (n e))
+  pub none-stands : r ≡ Gone → slotAt t i ≡ gone
+  none-stands e = kind-none (slotAt t i) (h .kind ∙ ap kindIn e)
 
-  pub means-above : 2 ≤ kindIn r → slotAt t i ≡ meantBy t i r
-  means-above l = means-other (λ e. omega (arith, h .low e))
+  pub form-stands : (f : ℕ) → r ≡ Form f → kindOf (slotAt t i) ≡ 1
+  form-stands f e = h .kind ∙ ap kindIn e
 
-  -- what is of no kind k from 2 on by its variant is of none
-  pub not-kind : (k : ℕ) → 2 ≤ k → (kindIn r ≡ k → ⊥) → kindOf (slotAt t i) ≡ k → ⊥
-  not-kind k l n e = n (sym (kind-meant t i r) ∙ sym (ap kindOf (means-other (λ o. omega arith))) ∙ e)
+  pub kind-stands : (x : Statement) → r ≡ Holds x → kindOf (slotAt t i) ≡ kindFor x
+  kind-stands x e = h .kind ∙ ap kindIn e
+
+-- what a statement says that is no instruction, in its frame
+module _ (t : Slots) (held : Held (t .frames) (t .starts) (t .count)) (i : ℕ) (l : i < t .count) (r : Slot) (h : Stands t i r) where
+  abbrev f : List ℕ
+  f = frameAt (t .frames) (t .starts) i
+
+  by-frame : (x : Statement) → r ≡ Holds x → (k : ℕ) → kindFor x ≡ suc (suc k) → x ≡ byKind (suc (suc k)) f
+  by-frame x e k n =
+      h .holds x e .read
+      ∙ kind-is f (suc (suc k)) (first-is t held i l (suc k) (kind-stands t i r h x e ∙ n))
+
+  pub variable-says : (n : ℕ) (a : Arg) → r ≡ Holds (Variable n a) → (n ≡ pairAt f 1) × (a ≡ argAt 3)
+  variable-says n a e = let z = by-frame (Variable n a) e 1 refl in (cc, cc)
+
+  pub bytes-says : (n : ℕ) (a : Arg) → r ≡ Holds (Bytes n a) → (n ≡ getD f 1 0) × (a ≡ argAt 2)
+  bytes-says n a e = let z = by-frame (Bytes n a) e 4 refl in (cc, cc)
+
+  pub words-says : (n : ℕ) (a : Arg) → r ≡ Holds (Words n a) → (n ≡ getD f 1 0) × (a ≡ argAt 2)
+  words-says n a e = let z = by-frame (Words n a) e 5 refl in (cc, cc)
+
+  pub pad-says : (a m : ℕ) → r ≡ Holds (Pad a m) → (a ≡ getD f 1 0) × (m ≡ pairAt f 2)
+  pad-says a m e = let z = by-frame (Pad a m) e 6 refl in (cc, cc)
+
+-- one of the first two variants: no statement as it was read
+pub none-tag : (r : Slot) → OneOf (0 ∷ 1 ∷ []) (tagOf slot-type r) → kindIn r ≤ 1
+none-tag Gone k = omega arith
+none-tag (Form f) k = omega arith
+none-tag (Holds x) k = ⊎-elim (λ e. absurd (omega arith)) (λ e. absurd (omega arith)) k
+
+-- the first variant or the last: no instruction
+pub no-instr : (t : Slots) (i : ℕ) (r : Slot) → Stands t i r → OneOf (0 ∷ 2 ∷ []) (tagOf slot-type r) → kindOf (slotAt t i) ≡ 1 → ⊥
+no-instr t i Gone h k e = let z : _≡_ {A = ℕ} 0 1 = sym (h .kind) ∙ e in omega arith
+no-instr t i (Form f) h k e = ⊎-elim (λ z. omega arith) (λ z. omega arith) k
+no-instr t i (Holds x) h k e = omega (arith, h .kind, h .holds x refl .other)
 
 -- a variant's number is one less
 pub tag-kind : (x : Statement) → kindFor x ≡ suc (tagOf the-type x)

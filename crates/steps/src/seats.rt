@@ -2,9 +2,10 @@
 use crate::Seat;
 use rules::Place;
 use slots::CARRY;
+use slots::GONE;
+use slots::Slot;
 use slots::State;
-use slots::form_in;
-use slots::kind_at;
+use slots::slot_at;
 ghost use mathlib.Core.Path.{_≡_};
 ghost use Prim.Native.Nat.{_≤_};
 ghost use Rattle.rules.specs.Programs.{at};
@@ -21,18 +22,18 @@ pub fn seat_at(frames: &[u8], state: &State, count: usize, place: Place) -> Seat
     let i = place.0;
     if count <= i {
         return Seat {
-            form: 70,
+            form: GONE,
             carried: 0,
         };
     }
-    if kind_at(frames, state, count, place) != 1 {
+    let Slot::Form(form) = slot_at(frames, state, count, place) else {
         return Seat {
-            form: 70,
+            form: GONE,
             carried: 0,
         };
-    }
+    };
     Seat {
-        form: form_in(state, place),
+        form,
         carried: state[CARRY][i],
     }
 }
@@ -41,7 +42,7 @@ pub fn seat_at(frames: &[u8], state: &State, count: usize, place: Place) -> Seat
 fn is_changed(old: Seat, new: Seat) -> bool
     ensures { λ r. ⌜ r ≡ isChanged old new ⌝ }
 {
-    if old.form == 70 {
+    if old.form == GONE {
         return false;
     }
     if old.form != new.form {

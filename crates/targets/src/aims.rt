@@ -1,10 +1,9 @@
 // What the target of a transfer comes to: its value, and the byte at that address.
+use anchors::value_origin;
 use asm::Origin;
-use asm::origin_of;
 use image::argument_worth;
 use instruction::tables::operand_count;
 use output::bits;
-use rules::Address;
 use rules::Outcome;
 use rules::Place;
 use slots::State;
@@ -13,20 +12,13 @@ ghost use mathlib.Core.Path.{_≡_};
 ghost use mathlib.Core.Bool.{true};
 ghost use mathlib.Core.List.{_++_};
 ghost use Prim.Native.Nat.{_%_, _<_};
-ghost use lib.IntN.{pos};
 ghost use mir.Syntax.{w32};
 ghost use mir.Val.{ofZ};
 ghost use Rattle.rules.specs.Expressions.{pair, four};
 ghost use Rattle.rules.specs.Forms.{isTransfer};
-ghost use Rattle.rules.specs.Layout.{origin};
-ghost use Rattle.rules.specs.Values.{nat};
-ghost use Rattle.listing.specs.Tables.{Held};
-ghost use Rattle.env.specs.Tables.{Any};
-ghost use Rattle.slots.specs.Slots.{programOf, Positioned};
-ghost use Rattle.slots.specs.State.{startsIn, formsIn};
 ghost use Rattle.image.specs.Tables.{Tables, tablesOf, program, Ready};
 ghost use Rattle.patterns.specs.Targets.{standsAt, formIn};
-ghost use Rattle.anchors.specs.Anchored.{Found, Small, offsetIn};
+ghost use Rattle.anchors.specs.Anchored.{Small, offsetIn};
 ghost use Rattle.targets.specs.Targets.{numberOf};
 ghost use Rattle.targets.specs.Aimed.{placeIn, AimIs};
 
@@ -44,39 +36,6 @@ fn value_bits(v: Outcome) -> u32
         Outcome::Is(z) => bits(z),
         Outcome::Unknown => 0,
         Outcome::Nothing => 0,
-    }
-}
-
-// A number that is not negative, as an address.
-fn address(v: i32) -> Address
-    requires { ⌜ v ≡ pos (nat v) ⌝ }
-    ensures { λ r. ⌜ r .0 ≡ nat v ⌝ }
-{
-    Address(v as usize)
-}
-
-// The origin of a value. `positions` are those of the slots.
-fn byte_of(
-    frames: &[u8],
-    state: &State,
-    count: usize,
-    positions: &[u32; 1025],
-    x: Outcome,
-) -> Origin
-    requires { ⌜ Held (now frames) (startsIn (now state)) count
-        × Any (now frames) (startsIn (now state)) count (formsIn (now state)) (λ t. Positioned t (now positions)) ⌝ }
-    ensures { λ r. ⌜ Any (now (frames .entry)) (startsIn (now (state .entry))) count (formsIn (now (state .entry)))
-        (λ t. Found t (origin (programOf t) x) r) ⌝ }
-{
-    match x {
-        Outcome::Is(v) => {
-            if v < 0 {
-                return Origin::Nothing;
-            }
-            origin_of(frames, state, count, positions, address(v))
-        }
-        Outcome::Unknown => Origin::Nothing,
-        Outcome::Nothing => Origin::Nothing,
     }
 }
 
@@ -136,6 +95,6 @@ pub fn aim_at(
 {
     let last = operand_count(form_in(state, at)) - 1;
     let worth = argument_worth(frames, state, count, links, values, positions, at, last);
-    let byte = byte_of(frames, state, count, positions, worth);
+    let byte = value_origin(frames, state, count, positions, worth);
     eight_bytes(value_bits(worth), place_of(byte), offset_of(byte))
 }

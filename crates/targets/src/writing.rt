@@ -61,7 +61,7 @@ pub fn write_lines(
             i += 1;
             continue;
         }
-        let c = carry_at(state, Place(i));
+        let c = carry_at(state, Place(i)).0;
         marked += put_target(out, 45 * n, i, c, before[c], after[i]);
         n += 1;
         i += 1;

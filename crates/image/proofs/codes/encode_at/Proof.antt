@@ -1,4 +1,4 @@
--- `encoding::encode_at` meets its contract. The invariant: what is left of the encoding from argument j on, with the fields before it in hand.
+-- `codes::encode_at` meets its contract. The invariant: what is left of the encoding from argument j on, with the fields before it in hand.
 use mathlib.Core.Path.{_≡_, refl, sym, ap, _∙_}
 use mathlib.Core.List.{[], _∷_}
 use Prim.Native.Nat.{ℕ, zero, suc, _+_, _-_, _<_, _≤_}
@@ -16,6 +16,7 @@ use Rattle.instruction.proofs.Numbers.{size-bound}
 use Rattle.instruction.proofs.Numbers.{few-operands}
 use Rattle.slots.specs.Slots.{slotAt, aimedAt, written}
 use Rattle.encoding.specs.Encode.{codeAt}
+use Rattle.encoding.proofs.Codes.{code-of}
 use Rattle.image.specs.declared.Encoded.the-variants.{Is}
 use Rattle.image.specs.Tables.{Tables, tablesOf, program, operandAt}
 use Rattle.image.specs.Encoding.{fieldOf, encodeAt, encodedAs}
@@ -53,6 +54,10 @@ module _ (s : tie.Start Inv-loop μ-loop) where
 
   same-count : length (argsOf (slotAt (here .slots) place)) ≡ length (operandsAt form)
   same-count = count-args (here .slots) (s .pre .0 .sound .held) place (s .pre .1) (s .pre .2) (s .pre .0 .sound .forms place (s .pre .1) (s .pre .2))
+
+  -- the form is one of the seventy
+  known : form < 70
+  known = s .pre .0 .sound .forms place (s .pre .1) (s .pre .2) .known
 
 form-in-requires : tie.Need-form-in-requires Inv-loop μ-loop
 form-in-requires c κs = omega (arith, low (c .before))
@@ -170,16 +175,25 @@ loop-again c =
           ∙ ap (λ m. left m (set (l .fields) (l .j) v)) (sym (add-one (l .j))),
     )
 
+instr-at-requires : tie.Need-instr-at-requires Inv-loop μ-loop
+instr-at-requires c κs =
+    let s = c .before .before .before .before .before .before .before .before in
+    (omega (arith, low s), known s)
+
 returns-2 : tie.Need-returns-2 Inv-loop μ-loop
 returns-2 c =
-    let k = c .before .before in
+    let k = c .before .before .before in
     let a = k .before .before in
     let l = k .before .loop in
     let s = a .before .before .before .before .before in
     let d = here s in
     let p = program d in
-    let all : length (operandsAt (form s)) ≤ l .j = omega (arith, k .operand-count .ensures, c .before .if1 .left, same-operands a) in
-    ap Is (c .encode-form .ensures .0 ∙ ap (λ f. codeAt f (getD (l .fields) 0 0) (getD (l .fields) 1 0) (getD (l .fields) 2 0)) (a .before .before .before .form-in .ensures) ∙ sym (code-is (form s) (l .fields)))
+    let all : length (operandsAt (form s)) ≤ l .j = omega (arith, k .operand-count .ensures, c .before .before .if1 .left, same-operands a) in
+    ap Is
+    (c .encode .ensures
+    ∙ code-of _ _ _ _
+    ∙ ap (λ f. codeAt f (getD (l .fields) 0 0) (getD (l .fields) 1 0) (getD (l .fields) 2 0)) (c .before .instr-at .ensures .0)
+    ∙ sym (code-is (form s) (l .fields)))
     ∙ sym
     (ap encodedAs
     (l .inv .3
@@ -208,6 +222,7 @@ encode-at-spec =
     add-j
     loop-less
     loop-again
+    instr-at-requires
     (λ c. search needs)
     (λ c. search needs)
     (λ c. search needs)

@@ -21,13 +21,13 @@ use Rattle.image.proofs.data.check_items.Statement.{statement}
 use Rattle.image.proofs.data.check_items.Tie as tie
 
 abbrev Inv-loop : tie.InvT-loop
-Inv-loop frame at links values count n j₀ j =
+Inv-loop frame at what n links values count j₀ j =
     (j ≤ n) × ((names : List Entry) (k : ℕ) → Linked (λ m. lookup names (keyOf k m)) frame links values count →
-    let left : (ℕ → List ℕ) → ℕ → Judged (List ℕ) = λ write m. items names (boundOf (getD frame 0 0)) write (at .0) k m (drop m (itemsIn (at .0) frame)) in
+    let left : (ℕ → List ℕ) → ℕ → Judged (List ℕ) = λ write m. items names (boundOf what) write (at .0) k m (drop m (itemsIn (at .0) frame)) in
     (write : ℕ → List ℕ) → checkedAs (left write 0) ≡ checkedAs (left write j))
 
 abbrev μ-loop : tie.MeasureT-loop
-μ-loop frame at links values count n j₀ j = n - j
+μ-loop frame at what n links values count j₀ j = n - j
 
 module _ (s : tie.Start Inv-loop μ-loop) where
   abbrev frame : List ℕ
@@ -37,7 +37,7 @@ module _ (s : tie.Start Inv-loop μ-loop) where
   all = itemsIn (s .args .at .0) frame
 
   abbrev bound : ℕ
-  bound = boundOf (getD frame 0 0)
+  bound = boundOf (s .args .what)
 
   abbrev one : (names : List Entry) (k j : ℕ) → Judged ℕ
   one names k j = itemOf names bound (s .args .at .0) k j (getD all j (num (pos 0)))
@@ -48,26 +48,23 @@ module _ (s : tie.Start Inv-loop μ-loop) where
   count-is : length all ≡ getD frame 1 0
   count-is = data-in (s .args .at .0) frame (s .pre .0) .items .count
 
-items-in-requires : tie.Need-items-in-requires Inv-loop μ-loop
-items-in-requires c κs = let s = c .before .before in data-in (s .args .at .0) (frame s) (s .pre .0) .long
-
 loop-holds : tie.Need-loop-holds Inv-loop μ-loop
 loop-holds c = (omega arith, λ names k l write. refl)
 
 item-field-requires : tie.Need-item-field-requires Inv-loop μ-loop
 item-field-requires c κs =
-    let s = c .before .before .before .before .before in
-    (s .pre .0, omega (arith, c .before .before .items-in .ensures), s .pre .1, s .pre .2)
+    let s = c .before .before .before .before in
+    (s .pre .0, omega (arith, s .pre .1), s .pre .2, s .pre .3)
 
 -- there is an item j
-some : (c : tie.In-loop Inv-loop μ-loop) → c .before .loop .j < length (all (c .before .before .before .before .before))
-some c = let s = c .before .before .before .before .before in omega (arith, count-is s, c .before .before .items-in .ensures)
+some : (c : tie.In-loop Inv-loop μ-loop) → c .before .loop .j < length (all (c .before .before .before .before))
+some c = let s = c .before .before .before .before in omega (arith, count-is s, s .pre .1)
 
 returns : tie.Need-returns Inv-loop μ-loop
 returns c names k said write =
     let f = c .before .before .before in
     let l = f .before .before .loop in
-    let s = f .before .before .before .before .before .before in
+    let s = f .before .before .before .before .before in
     let r = c .before .r .given in
     sym
     (l .inv .1 names k said write
@@ -85,7 +82,7 @@ loop-again : tie.Need-loop-again Inv-loop μ-loop
 loop-again c =
     let f = c .before .before in
     let l = f .before .before .loop in
-    let s = f .before .before .before .before .before .before in
+    let s = f .before .before .before .before .before in
     let v = c .enum-told .given in (
       omega arith,
       λ names k said write.
@@ -100,10 +97,10 @@ loop-again c =
 returns-2 : tie.Need-returns-2 Inv-loop μ-loop
 returns-2 c names k said write =
     let l = c .before .loop in
-    let s = c .before .before .before .before .before in
+    let s = c .before .before .before .before in
     sym
     (l .inv .1 names k said write
-    ∙ ap checkedAs (items-end names (bound s) (s .args .at .0) k write (all s) (l .j) (omega (arith, count-is s, c .before .before .items-in .ensures))))
+    ∙ ap checkedAs (items-end names (bound s) (s .args .at .0) k write (all s) (l .j) (omega (arith, count-is s, s .pre .1))))
 
 pub check-items-spec : {M : Type 1} → statement M
 check-items-spec =
@@ -111,7 +108,6 @@ check-items-spec =
     (tie.spec
     Inv-loop
     μ-loop
-    items-in-requires
     loop-holds
     item-field-requires
     (λ c. search needs)

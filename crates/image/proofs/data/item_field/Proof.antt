@@ -31,7 +31,7 @@ module _ (s : tie.Start) where
   item = getD (itemsIn (s .args .at .0) frame) (s .args .j) (num (pos 0))
 
   abbrev bound : ℕ
-  bound = boundOf (getD frame 0 0)
+  bound = boundOf (s .args .what)
 
 -- the item begins within the frame
 inside : (c : tie.After-item-in) → c .item-in .result < length (frame (c .before .before .before))
@@ -60,11 +60,6 @@ linked-worth-requires c κs =
     let s = a .before .before .before in
     (s .pre .2, part-lengths (frame s) (s .args .links .now) (a .item-in .result) (s .pre .3))
 
-shared-slice-read-item-range : tie.Need-shared-slice-read-item-range
-shared-slice-read-item-range c =
-    let s = c .before .before .before .before .before .before .before .before .before .before in
-    omega (arith, data-in (s .args .at .0) (frame s) (s .pre .0) .long)
-
 -- the names that the links say
 abbrev Said : tie.Start → (names : List Entry) (k : ℕ) → Type 0
 Said s names k = Linked (λ m. lookup names (keyOf k m)) (frame s) (s .args .links .now) (s .args .values .now) (s .args .count)
@@ -88,7 +83,7 @@ as-passed c = search needs
 
 returns : tie.Need-returns
 returns c =
-    let t = c .before .before in
+    let t = c .before in
     let v = t .before .v .given in
     let w = t .before .before .before in
     let s = w .before .before .before .before .before .before in
@@ -123,7 +118,6 @@ item-field-spec =
     (λ c. search needs)
     linked-worth-requires
     (λ c. search needs)
-    shared-slice-read-item-range
     (λ c κs. search needs)
     (λ c. search needs)
     (λ c. search needs)

@@ -14,7 +14,7 @@ use Rattle.listing.specs.Tables.{frameAt}
 use Rattle.laws.proofs.Tests.{and-true}
 use Rattle.slots.specs.Slots.{Slots, slots, targetOf, programOf, worthIn, Agree}
 use Rattle.slots.proofs.Linking.{spans, length-beside}
-use Rattle.image.specs.Tables.{Tables, tables, tablesOf, isTarget, operandIn, Aims}
+use Rattle.image.specs.Tables.{Tables, tablesOf, isTarget, operandIn, Aims}
 use Rattle.image.proofs.Operands.{slot-in, count-kinds, operand-target, operand-own}
 use Rattle.slots.specs.State.{startsIn, formsIn, carryIn, ownersIn, offsetsIn}
 use Rattle.image.proofs.worth.argument_worth.Statement.{statement}
@@ -61,12 +61,14 @@ target-if c b e =
     let s = c .before .before .before in
     sym (ap (λ f. isTarget f (s .args .j)) (c .before .form-in .ensures)) ∙ sym (c .is-target .ensures) ∙ e
 
-carried-requires : tie.Need-carried-requires
-carried-requires c κs = low (c .before .before .before .before)
+carry-at-requires : tie.Need-carry-at-requires
+carry-at-requires c κs = omega (arith, low (c .before .before .before .before))
 
 -- the target is carried from a place that wrote one
-aims : (s : tie.Start) → isTarget (form s) (s .args .j) ≡ true
-    → Aims (slots (s .args .frames .now) (startsIn (s .args .state .now)) (s .args .count) [] [] (ownersIn (s .args .state .now)) (offsetsIn (s .args .state .now))) (s .args .positions .now) (carried s)
+abbrev Aimed : tie.Start → ℕ → Type 0
+Aimed s = Aims (slots (s .args .frames .now) (startsIn (s .args .state .now)) (s .args .count) [] [] (ownersIn (s .args .state .now)) (offsetsIn (s .args .state .now))) (s .args .positions .now)
+
+aims : (s : tie.Start) → isTarget (form s) (s .args .j) ≡ true → Aimed s (carried s)
 aims s q =
     let sound = s .pre .0 .sound in
     let w = sound .carried (s .args .at .0) (s .pre .1) (s .pre .2) (and-true (isTransfer (form s)) (eqb _ (s .args .j)) q .0) in
@@ -80,7 +82,8 @@ target-worth-requires : tie.Need-target-worth-requires
 target-worth-requires c κs =
     let i = c .before in
     let s = i .before .before .before .before in
-    rw (c .carried .ensures) (aims s (target-if (i .before) true (i .if1 .taken)), s .pre .0 .says .full)
+    let wrote : Aimed s (c .carry-at .result .0) = rw (c .carry-at .ensures) (aims s (target-if (i .before) true (i .if1 .taken))) in
+    (wrote, s .pre .0 .says .full)
 
 -- the target means in the context of its own frame what it means here
 carried-linked : (s : tie.Start) → isTarget (form s) (s .args .j) ≡ true
@@ -101,8 +104,8 @@ returns c =
     let s = i .before .before .before .before in
     let target = targetOf (here s) in
     let q = target-if (i .before) true (i .if1 .taken) in
-    c .target-worth .ensures (seen s) (context s) (rw (w .carried .ensures) (carried-linked s q)) (formsIn (s .args .state .now)) (carryIn (s .args .state .now))
-    ∙ ap (λ n. worthIn (seen s) (s .args .positions .now) (context s) (target n)) (w .carried .ensures)
+    c .target-worth .ensures (seen s) (context s) (rw (w .carry-at .ensures) (carried-linked s q)) (formsIn (s .args .state .now)) (carryIn (s .args .state .now))
+    ∙ ap (λ n. worthIn (seen s) (s .args .positions .now) (context s) (target n)) (w .carry-at .ensures)
     ∙ sym
     (ap (worthIn (seen s) (s .args .positions .now) (context s))
     (operand-target (here s) (s .pre .0 .sound .held) (s .args .at .0) (s .pre .1) (s .pre .2) (agrees s) (s .args .j) q))
@@ -153,7 +156,7 @@ argument-worth-spec =
     (tie.spec
     form-in-requires
     (λ c κs. search needs)
-    carried-requires
+    carry-at-requires
     target-worth-requires
     returns
     frame-at-requires

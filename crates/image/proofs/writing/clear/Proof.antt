@@ -12,16 +12,16 @@ use Rattle.image.proofs.writing.clear.Statement.{statement}
 use Rattle.image.proofs.writing.clear.Tie as tie
 
 abbrev Inv-loop : tie.InvT-loop
-Inv-loop image₀ q n i₀ image i = (i ≤ n) × (length image ≡ length image₀) × (image ≡ paste image₀ q (replicate n 0) i)
+Inv-loop image₀ n from i₀ image i = (i ≤ n) × (length image ≡ length image₀) × (image ≡ paste image₀ from (replicate n 0) i)
 
 abbrev μ-loop : tie.MeasureT-loop
-μ-loop image₀ q n i₀ image i = n - i
+μ-loop image₀ n from i₀ image i = n - i
 
 loop-holds : tie.Need-loop-holds Inv-loop μ-loop
-loop-holds c = (omega arith, refl, paste-zero (c .args .image .now) (c .args .q) (replicate (c .args .n) 0))
+loop-holds c = (omega arith, refl, paste-zero (c .args .image .now) (c .args .q .0) (replicate (c .args .n) 0))
 
 -- the byte's address is within the room
-inside : (c : tie.In-loop Inv-loop μ-loop) → let s = c .before .before in s .args .q + c .before .loop .i < length (s .args .image .now)
+inside : (c : tie.In-loop Inv-loop μ-loop) → let s = c .before .before in s .args .q .0 + c .before .loop .i < length (s .args .image .now)
 inside c = let s = c .before .before in omega (arith, s .pre (omega (arith, c .loop-test .taken)), c .loop-test .taken)
 
 add-image : tie.Need-add-image Inv-loop μ-loop
@@ -43,7 +43,7 @@ loop-again c =
     let s = c .before .before in (
       omega arith,
       simp length-set (l .inv .1),
-      rw (l .inv .2) (zero-more (s .args .image .now) (s .args .q) (s .args .n) (l .i) (inside c) (c .loop-test .taken)),
+      rw (l .inv .2) (zero-more (s .args .image .now) (s .args .q .0) (s .args .n) (l .i) (inside c) (c .loop-test .taken)),
     )
 
 -- all of them
@@ -58,7 +58,7 @@ returns c =
     let l = c .before .loop in
     let s = c .before .before in
     let e : l .i ≡ s .args .n = omega arith in
-    l .inv .2 ∙ ap (paste (s .args .image .now) (s .args .q) (replicate (s .args .n) 0)) e ∙ all-zeros (s .args .image .now) (s .args .q) (s .args .n)
+    l .inv .2 ∙ ap (paste (s .args .image .now) (s .args .q .0) (replicate (s .args .n) 0)) e ∙ all-zeros (s .args .image .now) (s .args .q .0) (s .args .n)
 
 pub clear-spec : {M : Type 1} → statement M
 clear-spec =

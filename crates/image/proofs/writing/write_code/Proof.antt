@@ -11,19 +11,19 @@ use Rattle.image.proofs.writing.write_code.Statement.{statement}
 use Rattle.image.proofs.writing.write_code.Tie as tie
 
 abbrev Inv-loop : tie.InvT-loop
-Inv-loop image₀ q bytes n k₀ image k = (k ≤ n) × (length image ≡ length image₀) × (image ≡ paste image₀ q bytes k)
+Inv-loop image₀ from bytes n k₀ image k = (k ≤ n) × (length image ≡ length image₀) × (image ≡ paste image₀ from bytes k)
 
 abbrev μ-loop : tie.MeasureT-loop
-μ-loop image₀ q bytes n k₀ image k = n - k
+μ-loop image₀ from bytes n k₀ image k = n - k
 
 abbrev three : tie.Start Inv-loop μ-loop → List ℕ
 three s = let e = s .args .code in e .b0 ∷ e .b1 ∷ e .b2 ∷ []
 
 loop-holds : tie.Need-loop-holds Inv-loop μ-loop
-loop-holds c = (omega arith, refl, paste-zero (c .args .image .now) (c .args .q) (three c))
+loop-holds c = (omega arith, refl, paste-zero (c .args .image .now) (c .args .q .0) (three c))
 
 -- the byte's address is within the room
-inside : (c : tie.In-loop Inv-loop μ-loop) → let s = c .before .before in (s .args .q + c .before .loop .k < length (s .args .image .now)) × (c .before .loop .k < 3)
+inside : (c : tie.In-loop Inv-loop μ-loop) → let s = c .before .before in (s .args .q .0 + c .before .loop .k < length (s .args .image .now)) × (c .before .loop .k < 3)
 inside c =
     let s = c .before .before in
     let some : 0 < s .args .code .len = omega (arith, c .loop-test .taken) in
@@ -45,7 +45,7 @@ loop-again c =
     let old = s .args .image .now in (
       omega arith,
       simp length-set (l .inv .1),
-      rw (l .inv .2) (paste-suc old (s .args .q) (three s) (l .k) 0 (inside c .0) (inside c .1) ∙ ap (paste old (s .args .q) (three s)) (sym (add-one (l .k)))),
+      rw (l .inv .2) (paste-suc old (s .args .q .0) (three s) (l .k) 0 (inside c .0) (inside c .1) ∙ ap (paste old (s .args .q .0) (three s)) (sym (add-one (l .k)))),
     )
 
 returns : tie.Need-returns Inv-loop μ-loop
@@ -55,8 +55,8 @@ returns c =
     let old = s .args .image .now in
     let n = s .args .code .len in
     let e : l .k ≡ n = omega arith in
-    l .inv .2 ∙ ap (paste old (s .args .q) (three s)) e
-    ∙ ap (λ m. take (s .args .q) old ++ take n (three s) ++ drop (s .args .q + m) old) (sym (length-take-le n (three s) (s .pre .0)))
+    l .inv .2 ∙ ap (paste old (s .args .q .0) (three s)) e
+    ∙ ap (λ m. take (s .args .q .0) old ++ take n (three s) ++ drop (s .args .q .0 + m) old) (sym (length-take-le n (three s) (s .pre .0)))
 
 pub write-code-spec : {M : Type 1} → statement M
 write-code-spec =

@@ -1,7 +1,7 @@
 -- `writing::write_image` meets its contract. The invariant: zeros, then the image from slot i on, then the room as it was.
 use mathlib.Core.Path.{_≡_, refl, sym, ap, _∙_}
 use mathlib.Core.List.{List, [], _++_}
-use Prim.Native.Nat.{ℕ, suc, _+_, _-_, _<_, _≤_}
+use Prim.Native.Nat.{ℕ, suc, _-_, _<_, _≤_}
 use native.Mathlib.Omega.{arith}
 use lib.ListN.{length, drop, getD, replicate, length-append, length-replicate}
 use lib.Seq.{drop-at}
@@ -18,13 +18,13 @@ use Rattle.image.proofs.writing.write_image.Statement.{statement}
 use Rattle.image.proofs.writing.write_image.Tie as tie
 
 abbrev Inv-loop : tie.InvT-loop
-Inv-loop frames state count links values positions image₀ i₀ image i =
+Inv-loop frames state count links values positions image₀ m i₀ image i =
     let d = tablesOf frames state count links values positions in
     let n = length (imageOf d) in
     (i ≤ count) × (length image ≡ length image₀) × ((rest : List ℕ) × (fromSlot d i ≡ ok rest) × (image ≡ roomOf n rest (drop n image₀)))
 
 abbrev μ-loop : tie.MeasureT-loop
-μ-loop frames state count links values positions image₀ i₀ image i = i
+μ-loop frames state count links values positions image₀ m i₀ image i = i
 
 module _ (s : tie.Start Inv-loop μ-loop) where
   abbrev here : Tables
@@ -39,15 +39,15 @@ module _ (s : tie.Start Inv-loop μ-loop) where
   whole = image-is here (s .pre .1)
 
 image-length-requires : tie.Need-image-length-requires Inv-loop μ-loop
-image-length-requires c κs = c .before .before .before .pre .0 .sound .held
+image-length-requires c κs = c .before .before .pre .0 .sound .held
 
-size-is : (c : tie.After-image-length Inv-loop μ-loop) → c .image-length .result ≡ size (c .before .before .before .before)
+size-is : (c : tie.After-image-length Inv-loop μ-loop) → c .image-length .result ≡ size (c .before .before .before)
 size-is c =
-    let s = c .before .before .before .before in
+    let s = c .before .before .before in
     c .image-length .ensures (carryIn (s .args .state .now)) (ownersIn (s .args .state .now)) (offsetsIn (s .args .state .now)) (s .args .links .now) (s .args .values .now) (s .pre .0) (s .pre .1)
 
 clear-requires : tie.Need-clear-requires Inv-loop μ-loop
-clear-requires c κs = λ some. omega (arith, size-is c, c .before .before .before .before .pre .2)
+clear-requires c κs = λ some. omega (arith, size-is (c .before), c .before .before .before .before .pre .2)
 
 -- the cleared room: zeros, and behind them what was there
 module _ (c : tie.After-clear Inv-loop μ-loop) where
@@ -62,7 +62,7 @@ module _ (c : tie.After-clear Inv-loop μ-loop) where
 
   cleared-is : cleared ≡ replicate (size start) 0 ++ behind
   cleared-is =
-      c .clear .ensures ∙ ap (λ n. put (start .args .image .now) 0 (replicate n 0)) (size-is (c .before))
+      c .clear .ensures ∙ ap (λ n. put (start .args .image .now) 0 (replicate n 0)) (size-is (c .before .before))
       ∙ put-first (start .args .image .now) (size start)
 
   behind-is : drop (size start) cleared ≡ behind

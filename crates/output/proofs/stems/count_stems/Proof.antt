@@ -4,6 +4,7 @@ use mathlib.Core.Logic.{⊎-elim}
 use Prim.Native.Nat.{ℕ, _+_, _-_, _≤_, _<_}
 use native.Mathlib.Omega.{arith}
 use lib.ListN.{length}
+use borrow.Author.Tests.{leb-true, leb-false, not-true, not-false}
 use Rattle.laws.specs.Counts.{tab}
 use Rattle.laws.specs.Lists.{each}
 use Rattle.slots.specs.State.{formsIn}
@@ -23,8 +24,8 @@ loop-holds : tie.Need-loop-holds Inv-loop μ-loop
 unfolding keptTo each tab
 loop-holds c = (omega arith, refl)
 
-form-in-requires : tie.Need-form-in-requires Inv-loop μ-loop
-form-in-requires c κs = omega (arith, c .before .before .pre)
+is-gone-requires : tie.Need-is-gone-requires Inv-loop μ-loop
+is-gone-requires c κs = omega (arith, c .before .before .pre)
 
 add-n : tie.Need-add-n Inv-loop μ-loop
 add-n c =
@@ -42,8 +43,8 @@ loop-again : tie.Need-loop-again Inv-loop μ-loop
 loop-again c =
     let l = c .before .before .before .loop in
     let f = formsIn (c .before .before .before .before .args .state .now) in
-    ⊎-elim (λ w. (omega arith, w .1 ∙ omega (arith, l .inv .1, counts-one f (l .i) (λ e. w .0 .taken (c .before .form-in .ensures ∙ e)))))
-    (λ w. (omega arith, w .1 ∙ l .inv .1 ∙ ap length (sym (kept-none f (l .i) (sym (c .before .form-in .ensures) ∙ w .0 .left)))))
+    ⊎-elim (λ w. (omega arith, w .1 ∙ omega (arith, l .inv .1, counts-one f (l .i) (leb-false _ _ (sym (c .before .is-gone .ensures) ∙ not-true _ (w .0 .taken))))))
+    (λ w. (omega arith, w .1 ∙ l .inv .1 ∙ ap length (sym (kept-none f (l .i) (leb-true _ _ (sym (c .before .is-gone .ensures) ∙ not-false _ (w .0 .left)))))))
     (c .if1 .came)
 
 returns : tie.Need-returns Inv-loop μ-loop
@@ -60,7 +61,7 @@ count-stems-spec =
     Inv-loop
     μ-loop
     loop-holds
-    form-in-requires
+    is-gone-requires
     add-n
     add-i
     loop-less

@@ -6,6 +6,7 @@ use Prim.Native.Nat.{ℕ, _+_, _-_, _*_, _≤_, _<_}
 use native.Mathlib.Omega.{arith}
 use lib.ListN.{length, getD}
 use borrow.Author.Needs.{needs}
+use borrow.Author.Tests.{leb-true, leb-false, not-true, not-false}
 use Rattle.laws.specs.Counts.{tab}
 use Rattle.laws.specs.Lists.{each}
 use Rattle.rules.specs.Expressions.{pair}
@@ -30,11 +31,11 @@ loop-holds : tie.Need-loop-holds Inv-loop μ-loop
 unfolding keptTo listOf each tab
 loop-holds c = (omega arith, refl, sym (laid-nothing _ 0), refl)
 
-form-in-requires : tie.Need-form-in-requires Inv-loop μ-loop
-form-in-requires c κs = omega (arith, c .before .before .before .pre .0)
+is-gone-requires : tie.Need-is-gone-requires Inv-loop μ-loop
+is-gone-requires c κs = omega (arith, c .before .before .before .pre .0)
 
 -- one more entry fits
-module _ (count : ℕ) (forms list : List ℕ) (i n : ℕ) (l : i < count) (e : n ≡ length (keptTo forms i)) (k : getD forms i 0 ≡ goneForm → ⊥) where
+module _ (count : ℕ) (forms list : List ℕ) (i n : ℕ) (l : i < count) (e : n ≡ length (keptTo forms i)) (k : getD forms i 0 < goneForm) where
   entry-fits : 2 * length (keptTo forms count) ≤ length list → 2 * n + 2 ≤ length list
   entry-fits h = omega (arith, counts-one forms i k, kept-within forms (i + 1) count (omega arith))
 
@@ -57,7 +58,7 @@ put-entry-requires : tie.Need-put-entry-requires Inv-loop μ-loop
 put-entry-requires c κs =
     let l = c .before .before .before .before .loop in
     let s = c .before .before .before .before .before .before in
-    let h = entry-fits (s .args .count) (formsIn (s .args .state .now)) (s .args .list .now) (l .i) (l .n) (c .before .before .before .loop-test .taken) (l .inv .1) (λ e. c .before .if1 .taken (c .before .before .form-in .ensures ∙ e)) (s .pre .1) in
+    let h = entry-fits (s .args .count) (formsIn (s .args .state .now)) (s .args .list .now) (l .i) (l .n) (c .before .before .before .loop-test .taken) (l .inv .1) (leb-false _ _ (sym (c .before .before .is-gone .ensures) ∙ not-true _ (c .before .if1 .taken))) (s .pre .1) in
     (omega (arith, h, l .inv .3), omega (arith, s .pre .0))
 
 add-n : tie.Need-add-n Inv-loop μ-loop
@@ -79,17 +80,17 @@ loop-again c =
     let f = formsIn (s .args .state .now) in
     let d = s .args .list .now in
     let less = c .before .before .loop-test .taken in
-    let form = c .before .form-in .ensures in
+    let form = c .before .is-gone .ensures in
     ⊎-elim
     (λ w.
-    let h = entry-fits (s .args .count) f d (l .i) (l .n) less (l .inv .1) (λ e. w .0 .taken (form ∙ e)) (s .pre .1) in (
+    let h = entry-fits (s .args .count) f d (l .i) (l .n) less (l .inv .1) (leb-false _ _ (sym form ∙ not-true _ (w .0 .taken))) (s .pre .1) in (
       omega arith,
-      w .6 ∙ omega (arith, l .inv .1, counts-one f (l .i) (λ e. w .0 .taken (form ∙ e))),
-      w .5 ∙ entry-more (s .args .count) f d (l .i) (l .n) less (l .inv .1) (λ e. w .0 .taken (form ∙ e)) (l .list) _ (s .pre .1) (l .inv .2) (w .2 .ensures),
+      w .6 ∙ omega (arith, l .inv .1, counts-one f (l .i) (leb-false _ _ (sym form ∙ not-true _ (w .0 .taken)))),
+      w .5 ∙ entry-more (s .args .count) f d (l .i) (l .n) less (l .inv .1) (leb-false _ _ (sym form ∙ not-true _ (w .0 .taken))) (l .list) _ (s .pre .1) (l .inv .2) (w .2 .ensures),
       ap length (w .5 ∙ w .2 .ensures) ∙ length-laid (l .list) (2 * l .n) (pair (l .i)) (omega (arith, h, l .inv .3)) ∙ l .inv .3,
     ))
     (λ w.
-    let q = kept-none f (l .i) (sym form ∙ w .0 .left) in (
+    let q = kept-none f (l .i) (leb-true _ _ (sym form ∙ not-false _ (w .0 .left))) in (
       omega arith,
       w .2 ∙ l .inv .1 ∙ ap length (sym q),
       w .1 ∙ l .inv .2 ∙ ap (λ is. laid d 0 (listOf is)) (sym q),
@@ -117,7 +118,7 @@ write-stems-spec =
     Inv-loop
     μ-loop
     loop-holds
-    form-in-requires
+    is-gone-requires
     mul-put-entry
     put-entry-requires
     add-n

@@ -1,16 +1,19 @@
 -- `output::text::put_line` meets its contract: nothing, or the bytes, the source line behind the kind, and the line feed.
 use mathlib.Core.Path.{_≡_, sym, ap, _∙_, subst}
 use mathlib.Core.List.{List, [], _∷_}
-use Prim.Native.Nat.{ℕ, _+_, _*_, _≤_}
+use Prim.Native.Nat.{ℕ, suc, _+_, _-_, _*_, _≤_, _<_}
 use native.Mathlib.Omega.{arith}
 use lib.ListN.{length, getD}
 use borrow.Author.Needs.{needs}
+use borrow.Author.Tests.{leb-true, leb-false}
 use Rattle.rules.specs.Listing.{ListingForm, lineBytes}
 use Rattle.rules.specs.Output.{lineOf}
 use Rattle.rules.specs.Programs.{kindOf}
 use Rattle.listing.specs.Form.{formOf}
 use Rattle.slots.specs.Slots.{Slots, slotAt, programOf}
+use Rattle.laws.proofs.Stores.{get-in}
 use Rattle.slots.proofs.Slots.{slot-gone}
+use Rattle.slots.proofs.Stands.{first-is}
 use Rattle.digits.specs.Digits.{laid}
 use Rattle.output.specs.Digits.{Put}
 use Rattle.output.specs.Lines.{lineAt, bytesAt, bytesIn, sourced}
@@ -18,7 +21,7 @@ use Rattle.digits.proofs.Rooms.{laid-nothing, length-line}
 use Rattle.output.proofs.Rooms.{put-line, put-source}
 use Rattle.output.proofs.Sizes.{length-bytes-in}
 use Rattle.output.proofs.Slots.{line-gone, line-kept, kept-form, kind-kept-first}
-use Rattle.slots.specs.State.{carryIn, ownersIn, offsetsIn, tableOf}
+use Rattle.slots.specs.State.{tableOf}
 use Rattle.output.proofs.text.put_line.Statement.{statement}
 use Rattle.output.proofs.text.put_line.Tie as tie
 
@@ -39,14 +42,14 @@ module _ (s : tie.Start) where
   abbrev whole : List ℕ
   whole = bytesAt over (s .args .positions .now) place
 
-form-in-requires : tie.Need-form-in-requires
-form-in-requires c κs = let s = c .before .before in omega (arith, s .pre .2, s .pre .0 .held .few)
+is-gone-requires : tie.Need-is-gone-requires
+is-gone-requires c κs = let s = c .before .before in omega (arith, s .pre .2, s .pre .0 .held .few)
 
 returns : tie.Need-returns
 returns c =
     let s = c .before .before .before .before in
     let none : lineAt (form s) (s .args .lines .now) (over s) (place s) ≡ [] =
-    line-gone (form s) (source s) (programOf (over s)) (slotAt (over s) (place s)) (ap kindOf (slot-gone (over s) (place s) (sym (c .before .form-in .ensures) ∙ c .if1 .taken))) in
+    line-gone (form s) (source s) (programOf (over s)) (slotAt (over s) (place s)) (ap kindOf (slot-gone (over s) (place s) (leb-true _ _ (sym (c .before .is-gone .ensures) ∙ c .if1 .taken)))) in
     (sym (laid-nothing (s .args .out .now) (s .args .at)) ∙ ap (laid (s .args .out .now) (s .args .at)) (sym none), omega (arith, ap length none))
 
 -- the line of a slot that is not gone
@@ -55,7 +58,7 @@ module _ (c : tie.Else1) where
   start = c .before .before .before .before
 
   kept : 1 ≤ kindOf (slotAt (over start) (place start))
-  kept = kept-form (over start) (start .pre .0 .held) (place start) (start .pre .2) (λ e. c .if1 .left (c .before .form-in .ensures ∙ e))
+  kept = kept-form (over start) (start .pre .0 .held) (place start) (start .pre .2) (leb-false _ _ (sym (c .before .is-gone .ensures) ∙ c .if1 .left))
 
   line-is : lineAt (form start) (start .args .lines .now) (over start) (place start) ≡ lineOf (bytesIn (form start) (source start) (whole start))
   line-is =
@@ -83,16 +86,26 @@ add-put-statement c = omega (arith, c .before .line-bytes .ensures .0, room (c .
 put-statement-requires : tie.Need-put-statement-requires
 put-statement-requires c κs = let s = c .before .before .before .before .before .before in (s .pre .0, s .pre .1, s .pre .2, omega (arith, c .before .line-bytes .ensures .0, room (c .before .before)))
 
-kind-at-requires : tie.Need-kind-at-requires
-kind-at-requires c κs = let s = c .before .before .before .before .before .before .before .before .before in (s .pre .0 .held, s .pre .2)
+frame-at-requires : tie.Need-frame-at-requires
+frame-at-requires c κs = let s = c .before .before .before .before .before .before .before .before .before in (s .pre .0 .held, s .pre .2)
+
+-- a frame begins with its statement's kind
+begins : (c : tie.After-frame-at) → let s = c .before .before .before .before .before .before .before .before .before .before in (getD (c .frame-at .result .now) 0 0 ≡ kindOf (slotAt (over s) (place s))) × (0 < length (c .frame-at .result .now))
+begins c =
+    let s = c .before .before .before .before .before .before .before .before .before .before in
+    let k = kindOf (slotAt (over s) (place s)) in
+    let one = kept (c .before .before .before .before .before .before) in
+    let up : k ≡ suc (k - 1) = omega arith in
+    let first-byte = ap (λ l. getD l 0 0) (c .frame-at .ensures) ∙ first-is (over s) (s .pre .0 .held) (place s) (s .pre .2) (k - 1) up ∙ sym up in
+    (first-byte, get-in (c .frame-at .result .now) 0 0 (λ e. omega (arith, first-byte)))
 
 put-source-requires : tie.Need-put-source-requires
 put-source-requires c κs =
-    omega (arith, room (c .before .before .before .before .before .before .before .before), some (c .before .before .before .before .before .before .before .before), c .before .before .before .before .before .put-statement .kept .1 .1 .1 .1 .1 .0)
+    omega (arith, room (c .before .before .before .before .before .before .before .before .before), some (c .before .before .before .before .before .before .before .before .before), c .before .before .before .before .before .before .put-statement .kept .1 .1 .1 .1 .1 .0)
 
 end-line-requires : tie.Need-end-line-requires
 end-line-requires c κs =
-    omega (arith, room (c .before .before .before .before .before .before .before .before .before .before .before .before), c .before .before .before .before .before .before .before .before .before .put-statement .ensures .ends, c .before .before .before .before .before .before .before .before .before .before .before .line-bytes .ensures .0, c .before .before .before .before .before .before .before .before .before .put-statement .kept .1 .1 .1 .1 .1 .0, c .before .before .before .put-source .kept .1 .1 .1 .0)
+    omega (arith, room (c .before .before .before .before .before .before .before .before .before .before .before .before .before), c .before .before .before .before .before .before .before .before .before .before .put-statement .ensures .ends, c .before .before .before .before .before .before .before .before .before .before .before .before .line-bytes .ensures .0, c .before .before .before .before .before .before .before .before .before .before .put-statement .kept .1 .1 .1 .1 .1 .0, c .before .before .before .put-source .kept .1 .1 .1 .0)
 
 -- what was put, with the kind and the source line before it
 sourced-is : (s : tie.Start) (k b : ℕ) (r d₁ d₂ : List ℕ) (e : ℕ) → b ≡ lineBytes (form s) → whole s ≡ k ∷ r → Put (s .args .out .now) (s .args .at + 2 * b) (whole s) d₁ e
@@ -103,14 +116,15 @@ sourced-is s k b r d₁ d₂ e n w p h z =
 
 returns-2 : tie.Need-returns-2
 returns-2 c =
-    let i = c .before .before .before .before .before .before .before .before .before .before .before .before .before .before .before in
-    let s = c .before .before .before .before .before .before .before .before .before .before .before .before .before .before .before .before .before .before .before in
-    let p = c .before .before .before .before .before .before .before .before .before .before .before .before .put-statement in
+    let i = c .before .before .before .before .before .before .before .before .before .before .before .before .before .before .before .before in
+    let s = c .before .before .before .before .before .before .before .before .before .before .before .before .before .before .before .before .before .before .before .before in
+    let p = c .before .before .before .before .before .before .before .before .before .before .before .before .before .put-statement in
+    let b = c .before .before .before .before .before .before .before .before .before .before .before .before .before .before .before .line-bytes in
     let q = c .before .before .before .before .before .before .put-source in
     let e = c .before .before .end-line in
-    let kind = c .before .before .before .before .before .before .before .before .before .kind-at .ensures (carryIn (s .args .state .now)) (ownersIn (s .args .state .now)) (offsetsIn (s .args .state .now)) in
-    let put = sourced-is s (kindOf (slotAt (over s) (place s))) (c .before .before .before .before .before .before .before .before .before .before .before .before .before .before .line-bytes .result) (first i .0) (p .last .1 .1 .1 .1 .1 .0) (q .last .1 .1 .1 .0) (p .result)
-    (c .before .before .before .before .before .before .before .before .before .before .before .before .before .before .line-bytes .ensures .0) (first i .1) (p .ensures) (omega (arith, room i)) (q .ensures ∙ ap (λ (k : ℕ). sourced (form s) k (source s) (p .last .1 .1 .1 .1 .1 .0) (s .args .at)) kind) in
+    let kind = begins (c .before .before .before .before .before .before .before .before .before .before) .0 in
+    let put = sourced-is s (kindOf (slotAt (over s) (place s))) (b .result) (first i .0) (p .last .1 .1 .1 .1 .1 .0) (q .last .1 .1 .1 .0) (p .result)
+    (b .ensures .0) (first i .1) (p .ensures) (omega (arith, room i)) (q .ensures ∙ ap (λ (k : ℕ). sourced (form s) k (source s) (p .last .1 .1 .1 .1 .1 .0) (s .args .at)) kind) in
     put-line (s .args .out .now) (s .args .at) (bytesIn (form s) (source s) (whole s)) (q .last .1 .1 .1 .0) (p .result) (e .last .0) (e .result)
     (lineAt (form s) (s .args .lines .now) (over s) (place s)) put (e .ensures .0) (e .ensures .1) (line-is i) (s .pre .3)
 
@@ -130,13 +144,14 @@ pub put-line-spec : {M : Type 1} → statement M
 put-line-spec =
     tie.close
     (tie.spec
-    form-in-requires
+    is-gone-requires
     returns
     line-bytes-requires
     mul-put-statement
     add-put-statement
     put-statement-requires
-    kind-at-requires
+    frame-at-requires
+    (λ c. begins (c .before) .1)
     mul-put-source
     element-copy-out-put-source
     put-source-requires

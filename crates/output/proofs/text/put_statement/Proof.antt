@@ -1,4 +1,4 @@
--- `output::text::put_statement` meets its contract, kind by kind.
+-- `output::text::put_statement` meets its contract: an instruction, or the frame as it stands.
 use mathlib.Core.Path.{_≡_, refl, sym, ap, _∙_}
 use mathlib.Core.List.{List}
 use Prim.Native.Nat.{ℕ, _+_, _*_, _≤_}
@@ -7,10 +7,12 @@ use lib.ListN.{length, getD}
 use borrow.Author.Needs.{needs}
 use Rattle.rules.specs.Programs.{kindOf}
 use Rattle.slots.specs.Slots.{Slots, slotAt}
+use Rattle.slots.specs.State.{carryIn, ownersIn, offsetsIn, tableOf}
+use Rattle.slots.specs.Meaning.{Stands}
+use Rattle.slots.proofs.Stands.{form-stands, no-instr}
 use Rattle.output.specs.Lines.{instrBytes, bytesAt}
 use Rattle.output.proofs.Sizes.{drawn}
 use Rattle.output.proofs.Slots.{bytes-instr, bytes-other}
-use Rattle.slots.specs.State.{carryIn, ownersIn, offsetsIn, tableOf}
 use Rattle.output.proofs.text.put_statement.Statement.{statement}
 use Rattle.output.proofs.text.put_statement.Tie as tie
 
@@ -25,70 +27,75 @@ module _ (s : tie.Start) where
   abbrev whole : List ℕ
   whole = bytesAt over (s .args .positions .now) place
 
-kind-at-requires : tie.Need-kind-at-requires
-kind-at-requires c κs = let s = c .before .before in (s .pre .0 .held, s .pre .2)
+slot-at-requires : tie.Need-slot-at-requires
+slot-at-requires c κs = let s = c .before .before in (s .pre .0 .held, s .pre .2)
 
-kind-is : (c : tie.After-kind-at) → let s = c .before .before .before in c .kind-at .result ≡ kindOf (slotAt (over s) (place s))
-kind-is c = let s = c .before .before .before in c .kind-at .ensures (carryIn (s .args .state .now)) (ownersIn (s .args .state .now)) (offsetsIn (s .args .state .now))
-
--- an instruction's bytes
-instruction : (c : tie.Then1) → let s = c .before .before .before .before in whole s ≡ instrBytes (over s) (s .args .positions .now) (place s)
-instruction c = let s = c .before .before .before .before in bytes-instr (over s) (s .args .positions .now) (place s) (sym (kind-is (c .before)) ∙ c .if1 .taken)
-
-put-instruction-requires : tie.Need-put-instruction-requires
-put-instruction-requires c κs =
-    let s = c .before .before .before .before .before in
-    let one = sym (kind-is (c .before .before)) ∙ c .before .if1 .taken in
-    let from = getD (carryIn (s .args .state .now)) (place s) 0 in (
-      drawn (over s) (s .pre .0) (place s) (s .pre .2) one,
-      λ t h. s .pre .1 .low (getD (ownersIn (s .args .state .now)) from 0) (s .pre .0 .owned from (s .pre .0 .carried (place s) (s .pre .2) one t .inside) h),
-      omega (arith, s .pre .3, ap length (instruction (c .before))),
-    )
-
-same-length : tie.Need-same-length
-same-length c = search needs
-
-returns : tie.Need-returns
-returns c = let i = c .before .before .before .before in rw (instruction i) (c .before .before .put-instruction .ensures)
+stands : (c : tie.After-slot-at) → let s = c .before .before .before in Stands (over s) (place s) (c .slot-at .result)
+stands c = let s = c .before .before .before in c .slot-at .ensures (carryIn (s .args .state .now)) (ownersIn (s .args .state .now)) (offsetsIn (s .args .state .now))
 
 frame-at-requires : tie.Need-frame-at-requires
 frame-at-requires c κs = let s = c .before .before .before .before in (s .pre .0 .held, s .pre .2)
 
--- any other statement's: its frame
-frame : (c : tie.After-frame-at) → whole (c .before .before .before .before .before) ≡ c .frame-at .result .now
-frame c =
-    let s = c .before .before .before .before .before in
-    bytes-other (over s) (s .args .positions .now) (place s) (λ e. c .before .if1 .left (kind-is (c .before .before) ∙ e)) ∙ sym (c .frame-at .ensures)
+-- a statement that is no instruction: its frame
+module _ (c : tie.After-frame-at) where
+  abbrev start : tie.Start
+  start = c .before .before .before .before .before
 
-room : (c : tie.After-frame-at) → let s = c .before .before .before .before .before in s .args .at + 2 * length (c .frame-at .result .now) ≤ length (s .args .out .now)
-room c = let s = c .before .before .before .before .before in omega (arith, s .pre .3, ap length (frame c))
+  frame : whole start ≡ c .frame-at .result .now
+  frame =
+      bytes-other (over start) (start .args .positions .now) (place start)
+      (no-instr (over start) (place start) (c .before .before .slot-at .result) (stands (c .before .before)) (c .before .match .keys2)) ∙ sym (c .frame-at .ensures)
+
+  room : start .args .at + 2 * length (c .frame-at .result .now) ≤ length (start .args .out .now)
+  room = omega (arith, start .pre .3, ap length frame)
 
 put-bytes-requires : tie.Need-put-bytes-requires
 put-bytes-requires c κs = room (c .before)
 
-mul-result : tie.Need-mul-result
-mul-result c = search needs
-
 add-result : tie.Need-add-result
 add-result c = record { fits = omega (arith, room (c .before .before .before .before), c .before .before .before .before .before .before .before .before .before .good) }
 
-same-length-2 : tie.Need-same-length-2
-same-length-2 c = search needs
+returns : tie.Need-returns
+returns c = rw (frame (c .before .before .before .before)) (record { is = c .before .before .put-bytes .ensures; ends = refl })
+
+-- an instruction's bytes
+module _ (c : tie.After-enum-told) where
+  abbrev begin : tie.Start
+  begin = c .before .before .before .before .before
+
+  one : kindOf (slotAt (over begin) (place begin)) ≡ 1
+  one =
+      let f = c .enum-told .given in
+      form-stands (over begin) (place begin) (c .before .before .slot-at .result) (stands (c .before .before)) (f .0 .0) (f .1)
+
+  instruction : whole begin ≡ instrBytes (over begin) (begin .args .positions .now) (place begin)
+  instruction = bytes-instr (over begin) (begin .args .positions .now) (place begin) one
+
+put-instruction-requires : tie.Need-put-instruction-requires
+put-instruction-requires c κs =
+    let s = begin (c .before) in
+    let is = one (c .before) in
+    let from = getD (carryIn (s .args .state .now)) (place s) 0 in (
+      drawn (over s) (s .pre .0) (place s) (s .pre .2) is,
+      λ t h. s .pre .1 .low (getD (ownersIn (s .args .state .now)) from 0) (s .pre .0 .owned from (s .pre .0 .carried (place s) (s .pre .2) is t .inside) h),
+      omega (arith, s .pre .3, ap length (instruction (c .before))),
+    )
 
 returns-2 : tie.Need-returns-2
-returns-2 c = rw (frame (c .before .before .before .before)) (record { is = c .before .before .put-bytes .ensures; ends = refl })
+returns-2 c = rw (instruction (c .before .before .before .before)) (c .before .before .put-instruction .ensures)
 
 pub put-statement-spec : {M : Type 1} → statement M
 put-statement-spec =
     tie.close
     (tie.spec
-    kind-at-requires
-    put-instruction-requires
-    same-length
-    returns
+    slot-at-requires
+    (λ c. search needs)
     frame-at-requires
     put-bytes-requires
-    mul-result
+    (λ c. search needs)
     add-result
-    same-length-2
+    (λ c. search needs)
+    returns
+    put-instruction-requires
+    (λ c. search needs)
     returns-2)

@@ -18,7 +18,7 @@ use Rattle.patterns.proofs.counting.in_arguments.Tie as tie
 abbrev Inv-loop : tie.InvT-loop
 Inv-loop frame links state at m place found₀ j₀ found j =
     (j ≤ m) × (found ≤ 120 * j)
-    × ((f : ℕ → Bool) → Referred f frame links place → found ≡ total (inOperand (mentions f)) (take j (argsOf (readAs (at .0) frame))))
+    × ((f : ℕ → Bool) → Referred f frame links (place .0) → found ≡ total (inOperand (mentions f)) (take j (argsOf (readAs (at .0) frame))))
 
 abbrev μ-loop : tie.MeasureT-loop
 μ-loop frame links state at m place found₀ j₀ found j = m - j

@@ -90,8 +90,8 @@ module _ (c : tie.After-operand-count) where
         start .pre .2 [] .0 .held .noted (start .args .at .0) (start .pre .0),
       )
 
-  told : (f : ℕ → Bool) → Referred f (frame start) (beside start) (start .args .place) → Referred f (framed .frame-at .result .now) (linked .links-at .result .now) (start .args .place)
-  told f r = subst₂ (λ (s b : List ℕ). Referred f s b (start .args .place)) (sym (framed .frame-at .ensures)) (sym (linked .links-at .ensures)) r
+  told : (f : ℕ → Bool) → Referred f (frame start) (beside start) (start .args .place .0) → Referred f (framed .frame-at .result .now) (linked .links-at .result .now) (start .args .place .0)
+  told f r = subst₂ (λ (s b : List ℕ). Referred f s b (start .args .place .0)) (sym (framed .frame-at .ensures)) (sym (linked .links-at .ensures)) r
 
 form-in-requires : tie.Need-form-in-requires
 form-in-requires c κs = let s = start c in omega (arith, s .pre .0, s .pre .2 [] .0 .held .few)

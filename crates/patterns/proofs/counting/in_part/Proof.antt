@@ -26,7 +26,7 @@ returns c =
     let s = c .before .before .before .before .before in
     let b = s .args .frame .now in (
       omega (arith, c .count-links .ensures .0, ap length (rest-is (s .args .a) b), length-drop (s .args .a) b, s .pre .1 .1),
-      λ f l e k r. c .count-links .ensures .1 f (part-referred f b (s .args .links .now) (s .args .place) (s .args .a) l) e k (ap readExpr (rest-is (s .args .a) b) ∙ r),
+      λ f l e k r. c .count-links .ensures .1 f (part-referred f b (s .args .links .now) (s .args .place .0) (s .args .a) l) e k (ap readExpr (rest-is (s .args .a) b) ∙ r),
     )
 
 pub in-part-spec : {M : Type 1} → statement M

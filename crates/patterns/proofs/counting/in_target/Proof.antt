@@ -63,7 +63,7 @@ returns-2 c =
     let e = target-reads _ _ _ (s .pre .0) (s .args .at .0) (s .pre .1) in (
       omega (arith, c .count-links .ensures .0, ap length (d .target-in .ensures), last-short (frame s), short s .1),
       λ f l forms carry offsets.
-          c .count-links .ensures .1 f (rw (d .target-in .ensures, b .target-links .ensures) (last-referred f (frame s) (beside s) (s .args .place) l)) (e .0) (e .1 .width)
+          c .count-links .ensures .1 f (rw (d .target-in .ensures, b .target-links .ensures) (last-referred f (frame s) (beside s) (s .args .place .0) l)) (e .0) (e .1 .width)
           (ap readExpr (d .target-in .ensures) ∙ e .1 .reads)
           ∙ sym (ap (inOperand (mentions f)) (target-written (over s forms carry offsets) (s .args .at .0) (omega (arith, k .owner-at .ensures, d .before .if1 .left)) ∙ e .2)),
     )

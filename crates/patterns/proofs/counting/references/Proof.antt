@@ -21,7 +21,7 @@ adds F t j = overExprs (mentions (F j)) (slotAt t j)
 abbrev Inv-loop : tie.InvT-loop
 Inv-loop frames state count links place found₀ j₀ found j =
     (j ≤ count) × (found ≤ 2048 * j)
-    × ((F : ℕ → ℕ → Bool) (offsets : List ℕ) → RefersAll F (slots frames (startsIn state) count (formsIn state) (carryIn state) (ownersIn state) offsets) links place
+    × ((F : ℕ → ℕ → Bool) (offsets : List ℕ) → RefersAll F (slots frames (startsIn state) count (formsIn state) (carryIn state) (ownersIn state) offsets) links (place .0)
     → found ≡ sumTo (adds F (slots frames (startsIn state) count (formsIn state) (carryIn state) (ownersIn state) offsets)) j)
 
 abbrev μ-loop : tie.MeasureT-loop

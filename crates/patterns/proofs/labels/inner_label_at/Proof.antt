@@ -50,10 +50,10 @@ module _ (c : tie.After-carry-at) where
   target : TargetIn (start .args .frames .now) (startsIn (start .args .state .now)) (start .args .count) (getD (carryIn (start .args .state .now)) (start .args .at .0) 0)
   target = label-target (over start) (start .pre .0) (start .args .at .0) (start .pre .1) moves
 
-  inside : c .carry-at .result < start .args .count
+  inside : c .carry-at .result .0 < start .args .count
   inside = omega (arith, target .inside, c .carry-at .ensures)
 
-  small : c .carry-at .result < 1024
+  small : c .carry-at .result .0 < 1024
   small = omega (arith, inside, start .pre .0 .held .few)
 
 owner-at-requires : tie.Need-owner-at-requires

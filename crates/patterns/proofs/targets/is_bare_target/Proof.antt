@@ -47,7 +47,7 @@ returns-2 c n l forms carry offsets =
     let k = d .before .before in
     let s = k .before .before in
     let r = target-reads _ _ _ (s .pre .0) (s .args .at .0) (s .pre .1) in
-    c .is-bare .ensures n (rw (d .target-in .ensures, b .target-links .ensures) (last-referred (λ m. eqb m n) _ _ (s .args .place) l)) (r .0) (r .1 .width) (ap readExpr (d .target-in .ensures) ∙ r .1 .reads)
+    c .is-bare .ensures n (rw (d .target-in .ensures, b .target-links .ensures) (last-referred (λ m. eqb m n) _ _ (s .args .place .0) l)) (r .0) (r .1 .width) (ap readExpr (d .target-in .ensures) ∙ r .1 .reads)
     ∙ sym (ap (bareIn n) (target-written (over s forms carry offsets) (s .args .at .0) (omega (arith, k .owner-at .ensures, d .before .if1 .left)) ∙ r .2))
 
 pub is-bare-target-spec : {M : Type 1} → statement M

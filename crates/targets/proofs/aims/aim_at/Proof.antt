@@ -33,8 +33,8 @@ argument-worth-requires c κs =
     let s = c .before .before .before in
     (s .pre .0, s .pre .1, stands-there (here s) (s .pre .0) (s .args .at .0) (s .pre .1) (s .pre .2) .0, omega (arith, counted c, some c))
 
-byte-of-requires : tie.Need-byte-of-requires
-byte-of-requires c κs =
+value-origin-requires : tie.Need-value-origin-requires
+value-origin-requires c κs =
     let s = c .before .before .before .before in
     let z = s .args .state .now in (
       s .pre .0 .sound .held,
@@ -46,14 +46,14 @@ place-of-requires c κs =
     let b = c .before in
     let s = b .before .before .before .before .before in
     let z = s .args .state .now in
-    small-in (here s .slots) (b .byte-of .result) (s .pre .0 .sound .held .few) (b .byte-of .ensures (carryIn z) (ownersIn z) (offsetsIn z) .inside)
+    small-in (here s .slots) (b .value-origin .result) (s .pre .0 .sound .held .few) (b .value-origin .ensures (carryIn z) (ownersIn z) (offsetsIn z) .inside)
 
 offset-of-requires : tie.Need-offset-of-requires
 offset-of-requires c κs =
     let b = c .before .before in
     let s = b .before .before .before .before .before in
     let z = s .args .state .now in
-    small-in (here s .slots) (b .byte-of .result) (s .pre .0 .sound .held .few) (b .byte-of .ensures (carryIn z) (ownersIn z) (offsetsIn z) .inside)
+    small-in (here s .slots) (b .value-origin .result) (s .pre .0 .sound .held .few) (b .value-origin .ensures (carryIn z) (ownersIn z) (offsetsIn z) .inside)
 
 returns : tie.Need-returns
 returns c =
@@ -70,9 +70,9 @@ returns c =
     let worth =
     w .argument-worth .ensures
     ∙ ap (λ (k : ℕ). worthIn (d .entries) (d .positions) (getD (d .contexts) i 0) (operandAt (d .slots) i (k - 1))) (counted n) in
-    aim-is (d .slots) i (w .argument-worth .result) (b .byte-of .result) _ _ _ _ (s .pre .0 .sound .held .few)
+    aim-is (d .slots) i (w .argument-worth .result) (b .value-origin .result) _ _ _ _ (s .pre .0 .sound .held .few)
     (worth-is d (s .pre .0) i (s .pre .1) (s .pre .2) refl _ worth)
-    (b .byte-of .ensures (carryIn z) (ownersIn z) (offsetsIn z)) (v .value-bits .ensures) (p .place-of .ensures .0) (o .offset-of .ensures .0) (c .eight-bytes .ensures)
+    (b .value-origin .ensures (carryIn z) (ownersIn z) (offsetsIn z)) (v .value-bits .ensures) (p .place-of .ensures .0) (o .offset-of .ensures .0) (c .eight-bytes .ensures)
 
 pub aim-at-spec : {M : Type 1} → statement M
 aim-at-spec =
@@ -82,7 +82,7 @@ aim-at-spec =
     (λ c κs. search needs)
     sub-last
     argument-worth-requires
-    byte-of-requires
+    value-origin-requires
     (λ c κs. search needs)
     place-of-requires
     offset-of-requires

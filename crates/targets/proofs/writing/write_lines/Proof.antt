@@ -121,11 +121,11 @@ carry-at-requires c κs = omega (arith, inside c, few c)
 mul-put-target : tie.Need-mul-put-target Inv-loop μ-loop
 mul-put-target c = let e = c .before .before in omega (arith, room e)
 
-carry-low : (c : tie.After-carry-at Inv-loop μ-loop) → c .carry-at .result < 1024
+carry-low : (c : tie.After-carry-at Inv-loop μ-loop) → c .carry-at .result .0 < 1024
 carry-low c = omega (arith, c .carry-at .ensures, carry-inside (c .before), few (c .before))
 
 -- as it is read from the table
-came-by : (c : tie.After-carry-at Inv-loop μ-loop) → AimIs (read (start (c .before))) (c .carry-at .result) (getD (start (c .before) .args .before .now) (c .carry-at .result) [])
+came-by : (c : tie.After-carry-at Inv-loop μ-loop) → AimIs (read (start (c .before))) (c .carry-at .result .0) (getD (start (c .before) .args .before .now) (c .carry-at .result .0) [])
 came-by c =
     let s = start (c .before) in
     subst (λ (k : ℕ). AimIs (read s) k (getD (s .args .before .now) k [])) (sym (c .carry-at .ensures)) (came-to (c .before))
@@ -156,15 +156,15 @@ module _ (w : tie.After-put-target Inv-loop μ-loop) where
   abbrev from : tie.Else1 Inv-loop μ-loop
   from = carried .before
 
-  put : (w .put-target .last .0 ≡ laid (at-loop from .loop .out) (45 * at-loop from .loop .n) (targetLine (targetAt (read (start from)) (end (start from)) (place from) (carried .carry-at .result))))
-      × (w .put-target .result ≡ markOf (targetAt (read (start from)) (end (start from)) (place from) (carried .carry-at .result)))
+  put : (w .put-target .last .0 ≡ laid (at-loop from .loop .out) (45 * at-loop from .loop .n) (targetLine (targetAt (read (start from)) (end (start from)) (place from) (carried .carry-at .result .0))))
+      × (w .put-target .result ≡ markOf (targetAt (read (start from)) (end (start from)) (place from) (carried .carry-at .result .0)))
   put = w .put-target .ensures (read (start from)) (end (start from)) (came-by carried) (comes-to from)
 
 add-marked : tie.Need-add-marked Inv-loop μ-loop
 add-marked c =
     let w = c .before .before in
     let e = from w in
-    omega (arith, put w .1, mark-low (isSame (targetAt (read (start e)) (end (start e)) (place e) (carried w .carry-at .result))), at-loop e .loop .inv .0 .marked-few, inside e, few e)
+    omega (arith, put w .1, mark-low (isSame (targetAt (read (start e)) (end (start e)) (place e) (carried w .carry-at .result .0))), at-loop e .loop .inv .0 .marked-few, inside e, few e)
 
 add-n : tie.Need-add-n Inv-loop μ-loop
 add-n c = let e = c .before .before .before .before .before .before .before in omega (arith, at-loop e .loop .inv .0 .few, inside e, few e)
@@ -182,7 +182,7 @@ loop-again-2 c =
     let l = at-loop e in
     let s = start e in (
       written-one (read s) (end s) (s .args .out .now) (place e) (l .loop .n) (l .loop .marked) (l .loop .out) (l .loop .inv .0) (s .args .count) (omega (arith, inside e)) (s .pre .3)
-          (inside e) (transfers e) (carried w .carry-at .result) (w .put-target .result) _
+          (inside e) (transfers e) (carried w .carry-at .result .0) (w .put-target .result) _
           (carried w .carry-at .ensures ∙ carried-is (here s) (s .pre .0) (place e) (inside e) (transfers e)) (put w .0) (put w .1),
       omega (arith, inside e),
     )
