@@ -1,4 +1,4 @@
-"""Writes the listings of the program `edges` (crates/edges/stdin) from the tables of computed runs in crates/rules/proofs,
+"""Writes the listings of the program `edges` (crates/edges/stdin) from the tables of computed runs in crates/runs/proofs,
 and holds the program's stored output (crates/edges/stdout) against what those tables say.
 
     python3 tools/edges/make.py write     # writes crates/edges/stdin
@@ -19,7 +19,7 @@ def rows():
     seen = set()
     for table in TABLES:
         called = ""
-        for line in (ROOT / "crates/rules/proofs" / f"{table}.antt").read_text().splitlines():
+        for line in (ROOT / "crates/runs/proofs" / f"{table}.antt").read_text().splitlines():
             if line.strip().startswith("--"):
                 called = line.strip()[3:]
             match = ROW.match(line)

@@ -1,0 +1,9 @@
+pub mod Points
+pub mod RunsReading
+pub mod RunsJudging
+pub mod RunsRules
+pub mod RunsFolds
+pub mod RunsSettings
+pub mod RunsPads
+pub mod RunsLines
+pub mod Tables
