@@ -1,2 +1,3 @@
 -- What holds of a program under rewriting.
+pub mod Branches
 pub mod Optimized
