@@ -2,14 +2,14 @@
 use mathlib.Core.Path.{_≡_, refl, sym, ap, _∙_}
 use mathlib.Core.List.{List, [], _∷_}
 use mathlib.Core.Option.{Option, none, some}
-use mathlib.Core.Bool.{Bool, true, false}
+use mathlib.Core.Bool.{Bool, true, false, cond}
 use Prim.Native.Nat.{ℕ, zero, suc, _+_, _-_, _≤_, _<_}
 use native.Mathlib.Omega.{arith}
-use lib.Dec.{ltb, eqb}
+use lib.Dec.{eqb}
 use lib.IntN.{ℤ, pos}
-use lib.ListN.{length, getD, set, replicate, getD-replicate}
+use lib.ListN.{length, getD, set}
 use lib.Seq.{getD-set-same}
-use borrow.Author.Tests.{ltb-true}
+use borrow.Author.Tests.{le-ltb}
 use Rattle.laws.specs.Options.{given}
 use Rattle.laws.proofs.Tests.{clash, true-false, and-both}
 use Rattle.laws.proofs.Options.{given-false}
@@ -24,16 +24,16 @@ use Rattle.rules.specs.Answers.{Judged, ok, no, isOk, orD}
 use Rattle.rules.specs.Expressions.{Expr, num, name, two, one, with1, with2, evalTree}
 use Rattle.rules.specs.Values.{inRange}
 use Rattle.rules.specs.Forms.{operandsAt, isTransfer, sizeAt}
-use Rattle.rules.specs.Programs.{Placeℕ, Addressℕ, Operand, register, value, inner, Stmt, gone, instr, argsOf, Program, kindOf}
+use Rattle.rules.specs.Programs.{Placeℕ, Addressℕ, register, Stmt, gone, instr, argsOf, Program, kindOf}
 use Rattle.rules.specs.Layout.{positionFrom, position, after}
-use Rattle.rules.specs.Names.{Entry, keyOf, lookup, contextAt, placed}
+use Rattle.rules.specs.Names.{Entry, contextAt, placed}
 use Rattle.rules.specs.Encoding.{field}
-use Rattle.rules.specs.Judging.{worthOf, encodeAll, judge, namesOf, noNameTwice, positionsFit, defineAll, assembles}
+use Rattle.rules.specs.Judging.{encodeAll, judge, namesOf, noNameTwice, positionsFit, defineAll, assembles}
 use Rattle.rules.specs.Rewriting.{candidate, acceptable, noInteriorLabelAt}
 use Rattle.rules.proofs.Laws.{then-ok, next-ok}
-use Rattle.expression.specs.Linked.{Linked, standsAt, unlessGone}
+use Rattle.expression.specs.Linked.{Linked, unlessGone}
 use Rattle.encoding.specs.Operands.{held}
-use Rattle.slots.specs.Slots.{Slots, slots, slotAt, targetOf, programOf, worthIn, Agree}
+use Rattle.slots.specs.Slots.{Slots, slots, slotAt, targetOf, programOf, Agree}
 use Rattle.listing.specs.Tables.{frameAt}
 use Rattle.image.specs.Tables.{Tables}
 use Rattle.image.specs.Encoding.{fieldOf, encodeAt, encodeSlots}
@@ -61,7 +61,7 @@ two-fixed o (Is a) Nothing x′ y′ z f g h = clash (cc)
 two-fixed o Unknown y x′ y′ z f g h = clash (cc)
 two-fixed o Nothing y x′ y′ z f g h = clash (cc)
 
-tree-fixed : (env : ℕ → Outcome) (e : Expr) (z : ℤ) → evalTree (λ n. Unknown) e ≡ Is z → evalTree env e ≡ Is z
+pub tree-fixed : (env : ℕ → Outcome) (e : Expr) (z : ℤ) → evalTree (λ n. Unknown) e ≡ Is z → evalTree env e ≡ Is z
 unfolding evalTree
 tree-fixed env (num a) z h = h
 tree-fixed env (name n) z h = clash (cc)
@@ -69,23 +69,10 @@ tree-fixed env (two o e d) z h =
     two-fixed o (evalTree (λ n. Unknown) e) (evalTree (λ n. Unknown) d) (evalTree env e) (evalTree env d) z (tree-fixed env e) (tree-fixed env d) h
 tree-fixed env (one o e) z h = one-fixed o (evalTree (λ n. Unknown) e) (evalTree env e) z (tree-fixed env e) h
 
-pub operand-fixed : (x : Operand) (z : ℤ) → ((positions : List ℕ) → worthIn [] positions 0 x ≡ Is z)
-    → (names : List Entry) (p : Program) (k : ℕ) → worthOf names p k x ≡ Is z
-unfolding lookup
-operand-fixed (register r) z h names p k = h []
-operand-fixed (value e) z h names p k = tree-fixed (λ n. lookup names (keyOf k n)) e z (h [])
-operand-fixed (inner i o) z h names p k =
-    ap (λ q. Is (pos (q + o))) (sym (getD-replicate (suc i) i (position p i) 0 (omega arith))) ∙ h (replicate (suc i) (position p i))
-
--- links with no value behind any of them say of every name that it is not known
-pub unnamed-linked : (s links : List ℕ) (limit : ℕ) → limit ≤ 1024
-    → Linked (λ m. lookup [] (keyOf 0 m)) s links (replicate 1024 (pos 2147483648)) limit
-unfolding lookup
-unnamed-linked s links limit few = record { name = λ j l q. at (getD links j 0) (ltb (getD links j 0) limit) refl }
-  where
-    at : (l : ℕ) (b : Bool) → ltb l limit ≡ b → standsAt (replicate 1024 (pos 2147483648)) limit l ≡ Unknown
-    at l false e = rw e
-    at l true e = rw e (ap (λ z. unlessGone (inRange z)) (getD-replicate 1024 l (pos 2147483648) (pos 0) (omega (arith, ltb-true l limit e))))
+-- by no place below 0 is any name known
+pub none-linked : (s links : List ℕ) (values : List ℤ) → Linked (λ m. Unknown) s links values 0
+none-linked s links values =
+    record { name = λ j l q. ap (λ (b : Bool). cond b (unlessGone (inRange (getD values (getD links j 0) (pos 0)))) Unknown) (le-ltb (getD links j 0) 0 (omega arith)) }
 
 -- ---- a field that is refused
 

@@ -2,20 +2,19 @@
 // what stands before a changed place keeps its position.
 use encoding::operands::Field;
 use encoding::operands::field_of;
-use image::own_worth;
+use expression::linked_worth;
 use instruction::tables::Operand;
-use instruction::tables::operand_count;
 use instruction::tables::operand_kind;
 use instruction::tables::size;
+use patterns::targets::target_in;
+use patterns::targets::target_links;
 use rules::Address;
 use rules::Outcome;
 use rules::Place;
 use slots::CARRY;
 use slots::NO_OWNER;
-use slots::OWNER;
 use slots::State;
-use slots::frame_at;
-use slots::links_at;
+use slots::owner_at;
 use slots::wide;
 ghost use mathlib.Core.Path.{_≡_};
 ghost use mathlib.Core.Bool.{true, false};
@@ -32,15 +31,14 @@ ghost use Rattle.slots.specs.Slots.{slots, WroteTarget};
 ghost use Rattle.attempts.specs.Reach.{FixedAt, OutOfReach};
 ghost use Rattle.slots.specs.State.{startsIn, carryIn, ownersIn};
 
-// No value: what a name stands for that is not known.
-const NO_VALUE: i64 = 2147483648;
-
-// The value of the target that was written at place c, where it is the same whatever names stand for and wherever statements lie.
+// The value of the target that was written at place c, where it is the same whatever names stand for and wherever statements lie: by no place below 0
+// is any name known, and so `values` is not looked at.
 fn fixed_target(
     frames: &[u8],
     state: &State,
     count: usize,
     links: &[u16; 28672],
+    values: &[i64; 1024],
     c: Place,
 ) -> Outcome
     requires { ⌜ Held (now frames) (startsIn (now state)) count × WroteTarget (slots (now frames) (startsIn (now state)) count [] []
@@ -50,15 +48,15 @@ fn fixed_target(
         → FixedAt (slots (now (frames .entry)) (startsIn (now (state .entry))) count forms carry (ownersIn
         (now (state .entry))) offsets) (c .0) z) ⌝ }
 {
-    let i = c.0;
-    if wide(state[OWNER][i]) < NO_OWNER {
+    if owner_at(state, c) < NO_OWNER {
         return Outcome::Unknown;
     }
-    let unnamed = [NO_VALUE; 1024];
-    let frame = frame_at(frames, state, count, c);
-    let beside = links_at(links, state, c);
-    let last = operand_count(frame[1]) - 1;
-    own_worth(frame, state, c, last, beside, &unnamed, count)
+    linked_worth(
+        target_in(frames, state, count, c),
+        target_links(frames, state, count, links, c),
+        values,
+        0,
+    )
 }
 
 // Whether a form at this position refuses the value as its first operand.
@@ -85,6 +83,7 @@ pub fn misses(
     state: &State,
     count: usize,
     links: &[u16; 28672],
+    values: &[i64; 1024],
     positions: &[u32; 1025],
     form: u8,
     at: Place,
@@ -99,7 +98,8 @@ pub fn misses(
         (getD (now (positions .entry)) (at .0) 0) form (at .0)) ⌝ }
 {
     let i = at.0;
-    match fixed_target(frames, state, count, links, Place(wide(state[CARRY][i]))) {
+    let written = Place(wide(state[CARRY][i]));
+    match fixed_target(frames, state, count, links, values, written) {
         Outcome::Is(v) => refuses(at, positions[i], form, v),
         Outcome::Unknown => false,
         Outcome::Nothing => false,

@@ -25,6 +25,7 @@ pub fn try_form(
     state: &mut State,
     count: usize,
     links: &[u16; 28672],
+    values: &[i64; 1024],
     positions: &[u32; 1025],
     deepest: &[u32; 1024],
     form: u8,
@@ -43,7 +44,7 @@ pub fn try_form(
     if 1 < deepest[i] {
         return false;
     }
-    if misses(frames, state, count, links, positions, form, at) {
+    if misses(frames, state, count, links, values, positions, form, at) {
         return false;
     }
     let old = form_in(state, at);

@@ -38,6 +38,7 @@ fn try_br_then_jmp(
     state: &mut State,
     count: usize,
     links: &[u16; 28672],
+    values: &[i64; 1024],
     positions: &[u32; 1025],
     deepest: &[u32; 1024],
     at: Place,
@@ -50,10 +51,30 @@ fn try_br_then_jmp(
         let u : Slots = tableOf (now (frames .entry)) (now (state .exit)) count in
         ⌜ Tried (orElse (shrunk t (at .0) br) (shrunk t (at .0) jmp)) t u r ⌝ }
 {
-    if try_form(frames, state, count, links, positions, deepest, BR, at) {
+    if try_form(
+        frames,
+        state,
+        count,
+        links,
+        values,
+        positions,
+        deepest,
+        BR,
+        at,
+    ) {
         return true;
     }
-    try_form(frames, state, count, links, positions, deepest, JMP, at)
+    try_form(
+        frames,
+        state,
+        count,
+        links,
+        values,
+        positions,
+        deepest,
+        JMP,
+        at,
+    )
 }
 
 // "Jmpf not a change jump"
@@ -79,7 +100,7 @@ fn shrink_jump(
     if is_change_jump(frames, state, count, links, values, positions, at) {
         return false;
     }
-    try_br_then_jmp(frames, state, count, links, positions, deepest, at)
+    try_br_then_jmp(frames, state, count, links, values, positions, deepest, at)
 }
 
 // The shorter forms of the instruction at a place.
@@ -112,7 +133,17 @@ fn shrink_at(
         if !asked.callf {
             return false;
         }
-        return try_form(frames, state, count, links, positions, deepest, CALL, at);
+        return try_form(
+            frames,
+            state,
+            count,
+            links,
+            values,
+            positions,
+            deepest,
+            CALL,
+            at,
+        );
     }
     false
 }
