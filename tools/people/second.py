@@ -93,8 +93,20 @@ def operand(t):
     return bytes([1]) + (0x8000 + five(t)).to_bytes(2, 'big')
 
 
+def lead(t):
+    """Spaces where an expression begins: a prefix operator follows, and a minus that touches a digit is none."""
+    while t.look() == ' ':
+        t.i += 1
+    sign = t.take(''.join(CODE1))
+    if sign == '-' and t.look() and t.look() in '0123456789':
+        t.stop()
+    t.i -= 1
+
+
 def expression(t):
     """Operands and operators in order, then grouped by level to the left: another way than the proved one, which goes by levels."""
+    if t.look() == ' ':
+        lead(t)
     items = [operand(t)]
     while True:
         start = t.i

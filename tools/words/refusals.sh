@@ -100,7 +100,7 @@ unread() {
     grep -q "^bad.txt:[0-9]*: refused $1, " err || wrong "not refused $1 with its file and line"
     grep -q "^7E$(printf '%02X' "$1")[0-9A-F]\{14\}$" out || wrong "no 7E line"
 }
-unread 15 'bad.txt:2:6: what may stand here: ( - . 0-9 < > g' 'nop\nadd #x\n'
+unread 15 'bad.txt:2:6: what may stand here: ( - . 0-9 < > g a space' 'nop\nadd #x\n'
 wrote '7E0F00010000000005\n'
 grep -q '^  add #x$' err || wrong "the line is not shown"
 grep -q '^       ^$' err || wrong "the caret does not stand under the column"

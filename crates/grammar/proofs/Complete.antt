@@ -10,7 +10,7 @@ use native.Mathlib.Omega.{arith}
 use lib.Dec.{leb, eqb}
 use lib.IntN.{pos, negℤ}
 use lib.ListN.{length, drop}
-use borrow.Author.Tests.{leb-true}
+use borrow.Author.Tests.{leb-true, eqb-true}
 use Rattle.laws.proofs.Tests.{clash, and-true}
 use Rattle.rules.specs.declared.Op1.{Op1}
 use Rattle.rules.specs.declared.Op1.the-variants.{Negate, Upper, Lower}
@@ -21,10 +21,10 @@ use Rattle.text.specs.Text.{sign1, sign2}
 use Rattle.grammar.specs.Reading as reading
 use Rattle.grammar.specs.Reading.{isDecimal, worth, look, spaces, touches, levelOf, Decimal, Exp, number, named, signed, parens, tighter, joined}
 use Rattle.grammar.specs.Going as going
-use Rattle.grammar.specs.Going.{Read, got, stuck, onGot, digits, fixed, classOf, leaf, start, skip, infixOf, opAt, isSome, gap, close, Mode, alone, whole, rest, Goes, leafs, opens, signs, ends, firsts, stops, agains}
+use Rattle.grammar.specs.Going.{Read, got, stuck, onGot, digits, fixed, classOf, leaf, paren, led, start, skip, infixOf, opAt, isSome, gap, close, Mode, alone, whole, rest, Goes, leafs, opens, signs, nones, ends, fails, firsts, sinks, stops, agains, breaks}
 use Rattle.grammar.proofs.Digits.{AllDigits, first-digit, digits-all, fixed-all}
-use Rattle.grammar.proofs.Starts.{class-digit, sign-starts, paren-starts, start-global, start-local}
-use Rattle.grammar.proofs.Spaces.{skip-spaces, infix-sign, op-at, op-other, head-look, head-clear}
+use Rattle.grammar.proofs.Starts.{class-digit, FineLed, fine-led, sign-starts, start-sign, paren-starts, start-paren, start-global, start-local}
+use Rattle.grammar.proofs.Spaces.{skip-clear, skip-spaces, skip-over, sign-clear, infix-sign, op-at, op-other, head-look}
 use Rattle.grammar.proofs.Goings.{HasOp, touch-look}
 use Rattle.grammar.proofs.Determined.{determined}
 
@@ -44,6 +44,51 @@ abbrev pub Complete : ℕ → Expr → List ℕ → Type 0
 Complete zero e w = (v : List ℕ) → isDecimal (look v) ≡ false → Goes alone (w ++ v) (got e v)
 Complete (suc l) e w =
     (n : ℕ) (v : List ℕ) (o : Read Expr) → Below (suc l) v → Clear n v → Goes (rest l e) v o → Goes (whole (suc l)) (w ++ (spaces n ++ v)) o
+
+-- ---- spaces before an expression that is read: without them it is read alike
+
+abbrev Bared : Mode → List ℕ → Read Expr → Type 0
+Bared alone t (got e r) = Goes alone (skip t) (got e r)
+Bared alone t (stuck r) = Unit
+Bared (whole l) t (got e r) = Goes (whole l) (skip t) (got e r)
+Bared (whole l) t (stuck r) = Unit
+Bared (rest l d) t o = Unit
+
+bared-alone : (t : List ℕ) (o : Read Expr) → Goes alone (skip t) o → Bared alone t o
+bared-alone t (got e r) g = g
+bared-alone t (stuck r) g = tt
+
+bared-whole : (l : ℕ) (t : List ℕ) (o : Read Expr) → Goes (whole l) (skip t) o → Bared (whole l) t o
+bared-whole l t (got e r) g = g
+bared-whole l t (stuck r) g = tt
+
+leaf-skip : (t : List ℕ) (o : Read Expr) → start t ≡ leaf o → skip t ≡ t
+unfolding start classOf
+leaf-skip [] o e = skip-clear [] refl
+leaf-skip (c ∷ t) o e = on (eqb c 32) refl
+  where
+    on : (b : Bool) → eqb c 32 ≡ b → skip (c ∷ t) ≡ c ∷ t
+    on true q = absurd (subst (λ x. FineLed (skip t) x) (subst (λ y. start (y ∷ t) ≡ leaf o) (eqb-true c 32 q) e) (fine-led (skip t)))
+    on false q = skip-clear (c ∷ t) q
+
+bared : {m : Mode} {t : List ℕ} {o : Read Expr} → Goes m t o → Bared m t o
+bared (leafs {t = t} {o = o} e) = bared-alone t o (leafs (ap start (leaf-skip t o e) ∙ e))
+bared (opens {t = t} {o = o} e g) =
+    let p = start-paren t e in
+    let s : skip t ≡ t = subst (λ y. skip y ≡ y) (sym (p .1)) (skip-clear (40 ∷ p .0) refl) in
+    bared-alone t (close o) (subst (λ y. Goes alone y (close o)) (sym s) (opens e g))
+bared (signs {t = t} {r = r} {o = o} s e g) =
+    let p = start-sign s r t e in
+    let q : skip t ≡ sign1 s ∷ r = ap skip (p .is) ∙ skip-spaces (p .n) (sign1 s ∷ r) (sign-clear s) in
+    bared-alone t (onGot (one s) o) (signs s (ap start q ∙ sign-starts s 0 r (p .apart)) g)
+bared (nones e) = tt
+bared (ends {t = t} {r = r} {e = e} g) = bared-whole 0 t (gap e r) (ends (bared g))
+bared (fails g) = tt
+bared (firsts {t = t} {o = o} {l = l} g h) = bared-whole (suc l) t o (firsts (bared g) h)
+bared (sinks g) = tt
+bared (stops q) = tt
+bared (agains p z g h) = tt
+bared (breaks p z g) = tt
 
 -- ---- operands
 
@@ -69,11 +114,13 @@ minus-read n w d v e =
 name-read : (n : ℕ) (w v : List ℕ) → length w ≡ 5 → Decimal 32767 n w → fixed 32767 5 0 (w ++ v) ≡ got n v
 name-read n w v l d = fixed-all 32767 5 0 w v (d .digits) (omega (arith, d .is, d .within)) l ∙ ap (λ x. got x v) (d .is)
 
-sign-read : (o : Op1) (n : ℕ) (e : Expr) (t : List ℕ) → touches o (spaces n ++ t) ≡ false → Exp 0 e t → Complete 0 e t → Complete 0 (one o e) (sign1 o ∷ (spaces n ++ t))
-sign-read o n e t q x ih v k =
+sign-read : (o : Op1) (m n : ℕ) (e : Expr) (t : List ℕ) → touches o (spaces n ++ t) ≡ false → Exp 0 e t → Complete 0 e t
+    → Complete 0 (one o e) (spaces m ++ (sign1 o ∷ (spaces n ++ t)))
+sign-read o m n e t q x ih v k =
     let y : List ℕ = (spaces n ++ t) ++ v in
-    let s : skip y ≡ t ++ v = ap skip (append-assoc (spaces n) t v) ∙ skip-spaces n (t ++ v) (ap (λ c. eqb c 32) (head-look x v) ∙ head-clear x) in
-    signs {o = got e v} o (sign-starts o y (touch-look o (spaces n ++ t) y (same n) q)) (subst (λ z. Goes alone z (got e v)) (sym s) (ih v k))
+    let s : skip y ≡ skip (t ++ v) = ap skip (append-assoc (spaces n) t v) ∙ skip-over n (t ++ v) in
+    subst (λ z. Goes alone z (got (one o e) v)) (sym (append-assoc (spaces m) (sign1 o ∷ (spaces n ++ t)) v))
+    (signs {o = got e v} o (sign-starts o m y (touch-look o (spaces n ++ t) y (same n) q)) (subst (λ z. Goes alone z (got e v)) (sym s) (bared (ih v k))))
   where
     same : (n : ℕ) → look (spaces n ++ t) ≡ look ((spaces n ++ t) ++ v)
     same zero = sym (head-look x v)
@@ -128,15 +175,15 @@ sign-space Xor = refl
 sign-space And = refl
 sign-space Or = refl
 
-joined-read : (l : ℕ) (o : Op2) (m n : ℕ) (e d : Expr) (s t : List ℕ) → levelOf o ≡ suc l → Complete (suc l) e s → Exp l d t → Complete l d t
+joined-read : (l : ℕ) (o : Op2) (m n : ℕ) (e d : Expr) (s t : List ℕ) → levelOf o ≡ suc l → Complete (suc l) e s → Complete l d t
     → Complete (suc l) (two o e d) (s ++ (spaces m ++ (sign2 o ∷ (spaces n ++ t))))
-joined-read l o m n e d s t h ih x jh k v out b c g =
+joined-read l o m n e d s t h ih jh k v out b c g =
     let y : List ℕ = t ++ (spaces k ++ v) in
-    let z : skip (spaces n ++ y) ≡ y = skip-spaces n y (ap (λ c. eqb c 32) (head-look x (spaces k ++ v)) ∙ head-clear x) in
+    let z : skip (spaces n ++ y) ≡ skip y = skip-over n y in
     subst (λ y. Goes (whole (suc l)) y out) (sym (four s (spaces m) (spaces n) t (spaces k ++ v)))
     (ih m (sign2 o ∷ (spaces n ++ y)) out (λ j q. op-other j o (λ p. omega arith))
     (record { digit = sign-digit o; space = sign-space o; follows = inr (ap isSome (infix-sign o)) })
-    (agains {q = v} {d = d} o (op-at (suc l) o h) (subst (λ y. Goes (whole l) y (got d v)) (sym z) (to-whole l d t jh k v b c)) g))
+    (agains {q = v} {d = d} o (op-at (suc l) o h) (subst (λ y. Goes (whole l) y (got d v)) (sym z) (bared (to-whole l d t jh k v b c))) g))
   where
     four : (s a b c v : List ℕ) → (s ++ (a ++ (sign2 o ∷ (b ++ c)))) ++ v ≡ s ++ (a ++ (sign2 o ∷ (b ++ (c ++ v))))
     four s a b c v = simp append-assoc
@@ -147,10 +194,10 @@ complete (number (reading.minus {v = n} {t = t} d)) = minus-read n t d
 complete (named (reading.global {n = n} {t = t} l d)) = λ v k. leafs (start-global (t ++ v) ∙ ap (λ x. leaf (onGot (λ n. name n) x)) (name-read n t v l d))
 complete (named (reading.local {n = n} {t = t} l d)) =
     λ v k. leafs (start-local (t ++ v) ∙ ap (λ x. leaf (onGot (λ n. name (0x8000 + n)) x)) (name-read n t v l d))
-complete (signed {e = e} {t = t} o n q x) = sign-read o n e t q x (complete x)
+complete (signed {e = e} {t = t} o m n q x) = sign-read o m n e t q x (complete x)
 complete (parens {e = e} {t = t} x) = paren-read e t (complete x)
 complete (tighter {l = l} {e = e} {t = t} x) = λ n v o b c g. firsts (to-whole l e t (complete x) n v b c) g
-complete (joined {l = l} {e = e} {d = d} {s = s} {t = t} o m n h x y) = joined-read l o m n e d s t h (complete x) y (complete y)
+complete (joined {l = l} {e = e} {d = d} {s = s} {t = t} o m n h x y) = joined-read l o m n e d s t h (complete x) (complete y)
 
 -- ---- a whole expression, where something follows that is no digit, no space and no operator
 

@@ -26,8 +26,8 @@ made f (some x) = some (f x)
 abbrev byStart : (Mode → List ℕ → Option (Read Expr)) → Start → List ℕ → Option (Read Expr)
 byStart g (leaf o) t = some o
 byStart g paren t = made close (g (whole 5) (drop 1 t))
-byStart g (sign s) t = made (onGot (one s)) (g alone (skip (drop 1 t)))
-byStart g nothing t = some (stuck t)
+byStart g (sign s r) t = made (onGot (one s)) (g alone (skip r))
+byStart g (nothing r) t = some (stuck r)
 
 abbrev byOp : (Mode → List ℕ → Option (Read Expr)) → Option Op2 → ℕ → Expr → List ℕ → Option (Read Expr)
 byOp g none l e r = some (got e r)
@@ -54,12 +54,12 @@ module _ (g : Mode → List ℕ → Option (Read Expr)) (sound : (m : Mode) (t :
       on : (a : Option (Read Expr)) → g (whole 5) (drop 1 t) ≡ a → made close a ≡ some o → Goes alone t o
       on none z e = clash (cc)
       on (some y) z e = subst (λ x. Goes alone t x) (some-is (close y) o e) (opens q (sound (whole 5) (drop 1 t) y z))
-  by-start (sign s) t o q e = on (g alone (skip (drop 1 t))) refl e
+  by-start (sign s r) t o q e = on (g alone (skip r)) refl e
     where
-      on : (a : Option (Read Expr)) → g alone (skip (drop 1 t)) ≡ a → made (onGot (one s)) a ≡ some o → Goes alone t o
+      on : (a : Option (Read Expr)) → g alone (skip r) ≡ a → made (onGot (one s)) a ≡ some o → Goes alone t o
       on none z e = clash (cc)
-      on (some y) z e = subst (λ x. Goes alone t x) (some-is (onGot (one s) y) o e) (signs s q (sound alone (skip (drop 1 t)) y z))
-  by-start nothing t o q e = subst (λ x. Goes alone t x) (some-is (stuck t) o e) (nones q)
+      on (some y) z e = subst (λ x. Goes alone t x) (some-is (onGot (one s) y) o e) (signs s q (sound alone (skip r) y z))
+  by-start (nothing r) t o q e = subst (λ x. Goes alone t x) (some-is (stuck r) o e) (nones q)
 
   by-op : (x : Option Op2) (l : ℕ) (e : Expr) (r : List ℕ) (o : Read Expr) → opAt (suc l) (look r) ≡ x → byOp g x l e r ≡ some o → Goes (rest l e) r o
   by-op none l e r o q h = subst (λ x. Goes (rest l e) r x) (some-is (got e r) o h) (stops q)

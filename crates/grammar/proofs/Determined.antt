@@ -16,8 +16,8 @@ use Rattle.grammar.specs.Going.{Read, got, stuck, onGot, Start, leaf, pa
 abbrev ByStart : Start → List ℕ → Read Expr → Type 0
 ByStart (leaf x) t o = o ≡ x
 ByStart paren t o = (x : Read Expr) × (Goes (whole 5) (drop 1 t) x × (o ≡ close x))
-ByStart (sign s) t o = (x : Read Expr) × (Goes alone (skip (drop 1 t)) x × (o ≡ onGot (one s) x))
-ByStart nothing t o = o ≡ stuck t
+ByStart (sign s r) t o = (x : Read Expr) × (Goes alone (skip r) x × (o ≡ onGot (one s) x))
+ByStart (nothing r) t o = o ≡ stuck r
 
 -- o is what `on` makes of an expression and the text behind it, where the mode m reads them; else o is stuck where m is
 Then : Mode → List ℕ → (Expr → List ℕ → Type 0) → Read Expr → Type 0
@@ -39,7 +39,7 @@ unfolding Then
 inv (leafs {t = t} {o = o} q) = subst (λ x. ByStart x t o) (sym q) refl
 inv (opens {t = t} {o = o} q g) = subst (λ x. ByStart x t (close o)) (sym q) (o, (g, refl))
 inv (signs {t = t} {o = o} s q g) = subst (λ x. ByStart x t (onGot (one s) o)) (sym q) (o, (g, refl))
-inv (nones {t = t} q) = subst (λ x. ByStart x t (stuck t)) (sym q) refl
+inv (nones {t = t} {r = r} q) = subst (λ x. ByStart x t (stuck r)) (sym q) refl
 inv (ends {r = r} {e = e} g) = inl (e, (r, (g, refl)))
 inv (fails {r = r} g) = inr (r, (g, refl))
 inv (firsts {r = r} {e = e} g h) = inl (e, (r, (g, h)))

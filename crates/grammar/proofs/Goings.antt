@@ -23,8 +23,8 @@ use Rattle.grammar.specs.Reading as reading
 use Rattle.grammar.specs.Reading.{look, spaces, touches, levelOf, Exp, number, signed, parens, tighter, joined, worth}
 use Rattle.grammar.specs.Going.{Read, got, stuck, onGot, leaf, paren, sign, nothing, start, skip, infixOf, opAt, isSome, gap, close, Mode, alone, whole, rest, Goes, leafs, opens, signs, nones, ends, fails, firsts, sinks, stops, agains, breaks}
 use Rattle.grammar.proofs.Takes.{Took, front, idle, push, pull, turn, after}
-use Rattle.grammar.proofs.Starts.{Can, FineLeaf, fine-leaf, Signed, sign-starts, start-sign, paren-starts, start-paren, start-nothing}
-use Rattle.grammar.proofs.Spaces.{skip-look, spaced, trailed, Operator, operator, op-at, head, head-look}
+use Rattle.grammar.proofs.Starts.{Can, FineLeaf, fine-leaf, Signed, sign-starts, start-sign, paren-starts, start-paren, Blank, start-nothing}
+use Rattle.grammar.proofs.Spaces.{skip-look, spaced, leading, trailed, Operator, operator, op-at, head-look}
 
 -- ---- what is meant
 
@@ -140,50 +140,68 @@ touch-look Negate x y k e = ap reading.isDecimal (sym k) ∙ e
 touch-look Upper x y k e = refl
 touch-look Lower x y k e = refl
 
-sign-goes : (s : Op1) (x y : List ℕ) (o : Read Expr) → touches s x ≡ false → look x ≡ look y → Goes alone (skip y) o → Goes alone (sign1 s ∷ y) (onGot (one s) o)
-sign-goes s x y o e k g = signs s (sign-starts s y (touch-look s x y k e)) g
+sign-goes : (s : Op1) (x y : List ℕ) (o : Read Expr) → touches s x ≡ false → look x ≡ look y → Goes alone (skip y) o → (m : ℕ)
+    → Goes alone (spaces m ++ (sign1 s ∷ y)) (onGot (one s) o)
+sign-goes s x y o e k g m = signs s (sign-starts s m y (touch-look s x y k e)) g
 
-sign-fine : (s : Op1) (x : List ℕ) → touches s x ≡ false → (o : Read Expr) → Fine alone (skip x) o → Fine alone (sign1 s ∷ x) (onGot (one s) o)
-sign-fine s x e (got d r) a =
-    push {G = λ y u. Goes alone (skip y) (got d u)} (sign1 s) x r
+sign-fine : (s : Op1) (m : ℕ) (x : List ℕ) → touches s x ≡ false → (o : Read Expr) → Fine alone (skip x) o
+    → Fine alone (spaces m ++ (sign1 s ∷ x)) (onGot (one s) o)
+sign-fine s m x e (got d r) a =
+    leading {P = λ w. Exp 0 (one s d) w} {G = λ y u. Goes alone y (got (one s d) u)} m (sign1 s ∷ x) r
+    (push {G = λ y u. Goes alone (skip y) (got d u)} (sign1 s) x r
     (spaced {Q = λ w. (n : ℕ) × ((v : List ℕ) × ((w ≡ spaces n ++ v) × Exp 0 d v))} {H = λ y u. Goes alone (skip y) (got d u)} x r a (λ n w q p. (n, (w, (refl, p)))) (λ y u k k′ g. g))
-    (λ w q m. means w (m .0) (m .1 .0) q (m .1 .1 .0) (m .1 .1 .1)) (λ y u k k′ g. sign-goes s x y (got d u) e k g)
+    (λ w q p. means w (p .0) (p .1 .0) q (p .1 .1 .0) (p .1 .1 .1)) (λ y u k k′ g. sign-goes s x y (got d u) e k g m))
   where
-    means : (w : List ℕ) (n : ℕ) (v : List ℕ) → x ≡ w ++ r → w ≡ spaces n ++ v → Exp 0 d v → Exp 0 (one s d) (sign1 s ∷ w)
+    means : (w : List ℕ) (n : ℕ) (v : List ℕ) → x ≡ w ++ r → w ≡ spaces n ++ v → Exp 0 d v → Exp 0 (one s d) (spaces m ++ (sign1 s ∷ w))
     means w n v q p g =
-        subst (λ y. Exp 0 (one s d) (sign1 s ∷ y)) (sym p)
-        (signed s n (touch-look s x (spaces n ++ v) (ap look (q ∙ ap (λ y. y ++ r) p) ∙ same n) e) g)
+        subst (λ y. Exp 0 (one s d) (spaces m ++ (sign1 s ∷ y))) (sym p)
+        (signed s m n (touch-look s x (spaces n ++ v) (ap look (q ∙ ap (λ y. y ++ r) p) ∙ same n) e) g)
       where
         same : (n : ℕ) → look ((spaces n ++ v) ++ r) ≡ look (spaces n ++ v)
         same zero = head-look g r
         same (suc m) = refl
-sign-fine s x e (stuck r) a =
-    push {G = λ y u. Goes alone (skip y) (stuck u)} (sign1 s) x r
+sign-fine s m x e (stuck r) a =
+    leading {P = λ w. Can 0 w} {G = λ y u. Goes alone y (stuck u)} m (sign1 s ∷ x) r
+    (push {G = λ y u. Goes alone (skip y) (stuck u)} (sign1 s) x r
     (spaced {Q = λ w. (n : ℕ) × ((v : List ℕ) × ((w ≡ spaces n ++ v) × Can 0 v))} {H = λ y u. Goes alone (skip y) (stuck u)} x r a (λ n w q p. (n, (w, (refl, p)))) (λ y u k k′ g. g))
-    (λ w q m. subst (λ y. Can 0 (sign1 s ∷ y)) (sym (m .1 .1 .0)) (means (m .0) (m .1 .0) (q ∙ ap (λ y. y ++ r) (m .1 .1 .0)) (m .1 .1 .1)))
-    (λ y u k k′ g. sign-goes s x y (stuck u) e k g)
+    (λ w q p. subst (λ y. Can 0 (spaces m ++ (sign1 s ∷ y))) (sym (p .1 .1 .0)) (means (p .0) (p .1 .0) (q ∙ ap (λ y. y ++ r) (p .1 .1 .0)) (p .1 .1 .1)))
+    (λ y u k k′ g. sign-goes s x y (stuck u) e k g m))
   where
     spared : (s : Op1) → touches s (40 ∷ (48 ∷ (41 ∷ []))) ≡ false
     spared Negate = refl
     spared Upper = refl
     spared Lower = refl
 
-    further : (n : ℕ) (v : List ℕ) → (c : Can 0 v) → touches s (spaces n ++ (v ++ c .more)) ≡ false → Can 0 (sign1 s ∷ (spaces n ++ v))
-    further n v c q =
+    grouped : (a b v c : List ℕ) (o : ℕ) → (a ++ (o ∷ (b ++ v))) ++ c ≡ a ++ (o ∷ (b ++ (v ++ c)))
+    grouped a b v c o = simp append-assoc
+
+    further : (n : ℕ) (v more : List ℕ) (tree : Expr) → Exp 0 tree (v ++ more) → touches s (spaces n ++ (v ++ more)) ≡ false
+        → Can 0 (spaces m ++ (sign1 s ∷ (spaces n ++ v)))
+    further n v more tree g q =
         record {
-          more = c .more;
-          tree = one s (c .tree);
-          good = subst (λ y. Exp 0 (one s (c .tree)) (sign1 s ∷ y)) (sym (append-assoc (spaces n) v (c .more))) (signed s n q (c .good));
+          more = more;
+          tree = one s tree;
+          good = subst (λ y. Exp 0 (one s tree) y) (sym (grouped (spaces m) (spaces n) v more (sign1 s))) (signed s m n q g);
         }
 
-    means : (n : ℕ) (v : List ℕ) → x ≡ (spaces n ++ v) ++ r → Can 0 v → Can 0 (sign1 s ∷ (spaces n ++ v))
-    means zero [] q c = record { more = 40 ∷ (48 ∷ (41 ∷ [])); tree = one s (num (pos 0)); good = signed s 0 (spared s) bracketed }
-    means zero (b ∷ v) q c = further 0 (b ∷ v) c (touch-look s x (b ∷ (v ++ c .more)) (ap look q) e)
-    means (suc n) v q c = further (suc n) v c (touch-look s x (spaces (suc n) ++ (v ++ c .more)) (ap look q) e)
+    means : (n : ℕ) (v : List ℕ) → x ≡ (spaces n ++ v) ++ r → Can 0 v → Can 0 (spaces m ++ (sign1 s ∷ (spaces n ++ v)))
+    means zero [] q c = further 0 [] (40 ∷ (48 ∷ (41 ∷ []))) (num (pos 0)) bracketed (spared s)
+    means zero (b ∷ v) q c = further 0 (b ∷ v) (c .more) (c .tree) (c .good) (touch-look s x (b ∷ (v ++ c .more)) (ap look q) e)
+    means (suc n) v q c = further (suc n) v (c .more) (c .tree) (c .good) (touch-look s x (spaces (suc n) ++ (v ++ c .more)) (ap look q) e)
 
--- nothing that an operand begins with
-none-fine : (t : List ℕ) → start t ≡ nothing → Fine alone t (stuck t)
-none-fine t e = idle t (record { more = 48 ∷ []; tree = num (pos 0); good = nought }) (λ u k. nones (start-nothing t u e k))
+-- nothing that an operand begins with: behind spaces a sign could stand, and behind them and a minus a space
+blank-can : (w : List ℕ) (n : ℕ) → (w ≡ spaces n) ⊎ (w ≡ spaces n ++ (45 ∷ [])) → Can 0 w
+blank-can w n (inl p) = subst (λ y. Can 0 y) (sym p) (record { more = 62 ∷ (48 ∷ []); tree = one Upper (num (pos 0)); good = signed Upper n 0 refl nought })
+blank-can w n (inr p) =
+    subst (λ y. Can 0 y) (sym p)
+    (record {
+      more = 32 ∷ (48 ∷ []);
+      tree = one Negate (num (pos 0));
+      good = subst (λ y. Exp 0 (one Negate (num (pos 0))) y) (sym (append-assoc (spaces n) (45 ∷ []) (32 ∷ (48 ∷ [])))) (signed Negate n 1 refl nought);
+    })
+
+none-fine : (t r : List ℕ) → start t ≡ nothing r → Fine alone t (stuck r)
+none-fine t r e = turn t r (start-nothing t r e) (λ w s p. blank-can w (p .0) (p .1)) (λ w u s k g. nones g)
 
 -- ---- the spaces behind an operand
 
@@ -291,10 +309,10 @@ fine (leafs {t = t} {o = o} e) = leaf-fine t o (fine-leaf t o e)
 fine (opens {t = t} {o = o} e g) =
     let p = start-paren t e in
     subst (λ y. Fine alone y (close o)) (sym (p .1)) (open-fine (p .0) o (subst (λ y. Fine (whole 5) (drop 1 y) o) (p .1) (fine g)))
-fine (signs {t = t} {o = o} s e g) =
-    let p = start-sign s t e in
-    subst (λ y. Fine alone y (onGot (one s) o)) (sym (p .is)) (sign-fine s (p .tail) (p .apart) o (subst (λ y. Fine alone (skip (drop 1 y)) o) (p .is) (fine g)))
-fine (nones {t = t} e) = none-fine t e
+fine (signs {t = t} {r = r} {o = o} s e g) =
+    let p = start-sign s r t e in
+    subst (λ y. Fine alone y (onGot (one s) o)) (sym (p .is)) (sign-fine s (p .n) r (p .apart) o (fine g))
+fine (nones {t = t} {r = r} e) = none-fine t r e
 fine (ends {t = t} {r = r} {e = e} g) = gap-fine t e r (fine g) (tested r (skip r)) refl
 fine (fails {t = t} {r = r} g) = turn t r (fine g) (λ w s c. inside c) (λ w u s k g. fails g)
 fine (firsts {t = t} {r = r} {e = e} {o = o} {l = l} g h) = chain-fine l t e r o (fine g) (fine h)

@@ -170,7 +170,7 @@ reads-back (num (negsuc n)) s = lift5 (number (reading.minus (decimal-is 2147483
 reads-back (name n) s = lift5 (named (name-is n s))
 reads-back (two o e d) s =
     whole-two o e d (closed e (exprText e)) (closed d (exprText d)) (as-operand e (s .0) (reads-back e (s .0))) (as-operand d (s .1) (reads-back d (s .1)))
-reads-back (one o e) s = lift5 (signed o 0 (apart o (exprText e ++ (41 ∷ []))) (parens (reads-back e s)))
+reads-back (one o e) s = lift5 (signed o 0 0 (apart o (exprText e ++ (41 ∷ []))) (parens (reads-back e s)))
 
 -- two different trees have different texts
 pub distinct : (e d : Expr) → Fine e → Fine d → exprText e ≡ exprText d → e ≡ d

@@ -44,7 +44,13 @@ skip-look (c ∷ t) = on (eqb c 32) refl (skip-look t)
     on true p h = h
     on false p h = p
 
-blanks : (t : List ℕ) → (n : ℕ) × (t ≡ spaces n ++ skip t)
+-- however many stand before
+pub skip-over : (n : ℕ) (u : List ℕ) → skip (spaces n ++ u) ≡ skip u
+unfolding skip
+skip-over zero u = refl
+skip-over (suc n) u = skip-over n u
+
+pub blanks : (t : List ℕ) → (n : ℕ) × (t ≡ spaces n ++ skip t)
 unfolding skip
 blanks [] = (0, refl)
 blanks (c ∷ t) = on (eqb c 32) refl (blanks t)
@@ -72,6 +78,16 @@ spaced {G = G} {H = H} t r a f g =
           let same : look t ≡ look y = ap look (s .1) ∙ front (spaces n) (skip t) (a .w ++ u) m in
           let skips : skip y ≡ a .w ++ u = skip-spaces n (a .w ++ u) (ap (λ c. eqb c 32) (sym m) ∙ skip-look t) in
           subst (λ x. H x u) (sym (append-assoc (spaces n) (a .w) u)) (g y u same k (subst (λ x. G x u) (sym skips) (a .alike u k)));
+    }
+
+pub leading : {P : List ℕ → Type 0} {G : List ℕ → List ℕ → Type 0} (n : ℕ) (t r : List ℕ) → Took t r (λ w. P (spaces n ++ w)) (λ x u. G (spaces n ++ x) u)
+    → Took (spaces n ++ t) r P G
+leading {G = G} n t r a =
+    record {
+      w = spaces n ++ a .w;
+      split = ap (λ x. spaces n ++ x) (a .split) ∙ sym (append-assoc (spaces n) (a .w) r);
+      means = a .means;
+      alike = λ u k. subst (λ x. G x u) (sym (append-assoc (spaces n) (a .w) u)) (a .alike u k);
     }
 
 -- spaces behind what is taken
@@ -166,41 +182,39 @@ operator l o r e = on (infixOf (look r)) refl (op-is (look r)) e
         let s = seen p (eqb (levelOf p) l) refl e in
         at r (i ∙ ap sign2 (s .0)) (ap levelOf (sym (s .0)) ∙ s .1)
 
+pub sign-clear : (o : Op1) → eqb (sign1 o) 32 ≡ false
+sign-clear Negate = refl
+sign-clear Upper = refl
+sign-clear Lower = refl
+
 -- ---- the first byte of an expression
 
-pub record Head (w : List ℕ) : Type 0 where
-  pub first : ℕ
-  pub tail : List ℕ
-  pub is : w ≡ first ∷ tail
-  pub clear : eqb first 32 ≡ false
+record Head (w : List ℕ) : Type 0 where
+  first : ℕ
+  tail : List ℕ
+  is : w ≡ first ∷ tail
 
-pub number-head : (most v : ℕ) (t : List ℕ) → Decimal most v t → Head t
+number-head : (most v : ℕ) (t : List ℕ) → Decimal most v t → Head t
 number-head most v [] d = absurd (omega (arith, d .some))
-number-head most v (c ∷ t) d =
-    let q = and-true (leb 48 c) (leb c 57) (first-digit c t (d .digits) .0) in
-    record { first = c; tail = t; is = refl; clear = ne-eqb c 32 (λ e. omega (arith, leb-true 48 c (q .0))) }
+number-head most v (c ∷ t) d = record { first = c; tail = t; is = refl }
 
-pub head : {l : ℕ} {e : Expr} {w : List ℕ} → Exp l e w → Head w
+head : {l : ℕ} {e : Expr} {w : List ℕ} → Exp l e w → Head w
 head (number (reading.plain {v = v} {t = t} d)) = number-head 2147483647 v t d
-head (number (reading.minus {t = t} d)) = record { first = 45; tail = t; is = refl; clear = refl }
-head (named (reading.global {t = t} l d)) = record { first = 103; tail = t; is = refl; clear = refl }
-head (named (reading.local {t = t} l d)) = record { first = 46; tail = 108 ∷ t; is = refl; clear = refl }
-head (signed {t = t} o n q x) = record { first = sign1 o; tail = spaces n ++ t; is = refl; clear = apart o }
+head (number (reading.minus {t = t} d)) = record { first = 45; tail = t; is = refl }
+head (named (reading.global {t = t} l d)) = record { first = 103; tail = t; is = refl }
+head (named (reading.local {t = t} l d)) = record { first = 46; tail = 108 ∷ t; is = refl }
+head (signed {t = t} o m n q x) = on m
   where
-    apart : (o : Op1) → eqb (sign1 o) 32 ≡ false
-    apart Negate = refl
-    apart Upper = refl
-    apart Lower = refl
-head (parens {t = t} x) = record { first = 40; tail = t ++ (41 ∷ []); is = refl; clear = refl }
+    on : (m : ℕ) → Head (spaces m ++ (sign1 o ∷ (spaces n ++ t)))
+    on zero = record { first = sign1 o; tail = spaces n ++ t; is = refl }
+    on (suc m) = record { first = 32; tail = spaces m ++ (sign1 o ∷ (spaces n ++ t)); is = refl }
+head (parens {t = t} x) = record { first = 40; tail = t ++ (41 ∷ []); is = refl }
 head (tighter x) = head x
 head (joined {s = s} {t = t} o m n q x y) =
     let h = head x in
     let z : List ℕ = spaces m ++ (sign2 o ∷ (spaces n ++ t)) in
-    record { first = h .first; tail = h .tail ++ z; is = ap (λ y. y ++ z) (h .is); clear = h .clear }
+    record { first = h .first; tail = h .tail ++ z; is = ap (λ y. y ++ z) (h .is) }
 
 -- what follows an expression does not change its first byte
 pub head-look : {l : ℕ} {e : Expr} {w : List ℕ} (x : Exp l e w) (u : List ℕ) → look (w ++ u) ≡ look w
 head-look {w = w} x u = let h = head x in ap (λ y. look (y ++ u)) (h .is) ∙ sym (ap look (h .is))
-
-pub head-clear : {l : ℕ} {e : Expr} {w : List ℕ} (x : Exp l e w) → eqb (look w) 32 ≡ false
-head-clear x = let h = head x in ap (λ y. eqb (look y) 32) (h .is) ∙ h .clear

@@ -1,5 +1,6 @@
 -- What an operand begins with, and the operands that are numbers and names. Assumes nothing.
 use mathlib.Core.Path.{_≡_, refl, sym, ap, _∙_, subst}
+use mathlib.Core.Logic.{_⊎_, inl, inr}
 use mathlib.Core.List.{List, [], _∷_, _++_, append-assoc, append-nil}
 use mathlib.Core.Bool.{Bool, true, false, _&&_, cond}
 use Prim.Native.Nat.{ℕ, zero, suc, _+_, _-_, _*_, _≤_, _<_}
@@ -12,12 +13,13 @@ use Rattle.laws.proofs.Tests.{clash, false-true, true-false, and-true, and-both
 use Rattle.rules.specs.declared.Op1.{Op1}
 use Rattle.rules.specs.declared.Op1.the-variants.{Negate, Upper, Lower}
 use Rattle.rules.specs.Expressions.{Expr, num, name}
-use Rattle.grammar.specs.Reading.{isDecimal, worth, look, Decimal, Number, plain, minus, Name, global, local, touches, Exp, number, named}
+use Rattle.grammar.specs.Reading.{isDecimal, worth, look, Decimal, Number, plain, minus, Name, global, local, touches, spaces, Exp, number, named}
 use Rattle.text.specs.Text.{sign1}
 use Rattle.grammar.specs.Going as going
-use Rattle.grammar.specs.Going.{Read, got, stuck, onGot, digits, fixed, Class, classOf, Start, leaf, paren, sign, nothing, startBy, start}
-use Rattle.grammar.proofs.Takes.{Took, idle}
+use Rattle.grammar.specs.Going.{Read, got, stuck, onGot, digits, fixed, Class, classOf, Start, leaf, paren, sign, nothing, ledBy, led, startBy, start, skip}
+use Rattle.grammar.proofs.Takes.{Took, idle, push}
 use Rattle.grammar.proofs.Digits.{AllDigits, more-digits, digits-step, FineDigits, fine-digits, Full, Part, FineFixed, fine-fixed, zeros-digits, zeros-worth}
+use Rattle.grammar.proofs.Spaces.{skip-spaces, blanks, spaced, sign-clear}
 
 -- ---- the class of a byte
 
@@ -29,6 +31,7 @@ Is c going.dot = c ≡ 46
 Is c going.bracket = c ≡ 40
 Is c going.upper = c ≡ 62
 Is c going.lower = c ≡ 60
+Is c going.space = c ≡ 32
 Is c going.other = Unit
 
 branch : (c : ℕ) (b : Bool) (x y : Class) → (b ≡ true → Is c x) → Is c y → Is c (cond b x y)
@@ -38,7 +41,8 @@ branch c false x y f g = g
 pub class-is : (c : ℕ) → Is c (classOf c)
 unfolding classOf
 class-is c =
-    let k7 : Class = cond (eqb c 60) going.lower going.other in
+    let k8 : Class = cond (eqb c 32) going.space going.other in
+    let k7 : Class = cond (eqb c 60) going.lower k8 in
     let k6 : Class = cond (eqb c 62) going.upper k7 in
     let k5 : Class = cond (eqb c 40) going.bracket k6 in
     let k4 : Class = cond (eqb c 46) going.dot k5 in
@@ -49,11 +53,58 @@ class-is c =
     (branch c (eqb c 103) going.global k4 (eqb-true c 103)
     (branch c (eqb c 46) going.dot k5 (eqb-true c 46)
     (branch c (eqb c 40) going.bracket k6 (eqb-true c 40)
-    (branch c (eqb c 62) going.upper k7 (eqb-true c 62) (branch c (eqb c 60) going.lower going.other (eqb-true c 60) tt))))))
+    (branch c (eqb c 62) going.upper k7 (eqb-true c 62) (branch c (eqb c 60) going.lower k8 (eqb-true c 60)
+    (branch c (eqb c 32) going.space going.other (eqb-true c 32) tt)))))))
 
 pub class-digit : (c : ℕ) → isDecimal c ≡ true → classOf c ≡ going.digit
 unfolding classOf
 class-digit c e = rw e
+
+-- ---- behind spaces
+
+-- a sign; or nothing was taken, or a minus
+abbrev pub FineLed : List ℕ → Start → Type 0
+FineLed t (leaf o) = ⊥
+FineLed t paren = ⊥
+FineLed t (sign s r) = (t ≡ sign1 s ∷ r) × (touches s r ≡ false)
+FineLed t (nothing r) = Took t r (λ w. (w ≡ []) ⊎ (w ≡ 45 ∷ [])) (λ x u. led x ≡ nothing u)
+
+pub fine-led : (t : List ℕ) → FineLed t (led t)
+unfolding led classOf
+fine-led [] = idle [] (inl refl) (λ u k. at u k)
+  where
+    at : (u : List ℕ) → 0 ≡ look u → led u ≡ nothing u
+    at [] e = refl
+    at (d ∷ x) e = ap (λ y. ledBy (classOf y) d x) (sym e)
+fine-led (c ∷ t) = by (classOf c) refl (class-is c)
+  where
+    idles : (k : Class) → classOf c ≡ k → ((d : ℕ) (x : List ℕ) → ledBy k d x ≡ nothing (d ∷ x)) → FineLed (c ∷ t) (nothing (c ∷ t))
+    idles k p f = idle (c ∷ t) (inl refl) (λ u e. at u e)
+      where
+        at : (u : List ℕ) → c ≡ look u → led u ≡ nothing u
+        at [] e = refl
+        at (d ∷ x) e = ap (λ y. ledBy y d x) (ap classOf (sym e) ∙ p) ∙ f d x
+
+    by : (k : Class) → classOf c ≡ k → Is c k → FineLed (c ∷ t) (ledBy k c t)
+    by going.digit p i = idles going.digit p (λ d x. refl)
+    by going.minus p i = on (isDecimal (look t)) refl
+      where
+        on : (b : Bool) → isDecimal (look t) ≡ b → FineLed (c ∷ t) (cond b (nothing t) (sign Negate t))
+        on true q =
+            record {
+              w = c ∷ [];
+              split = refl;
+              means = inr (ap (λ y. y ∷ []) i);
+              alike = λ u k. ap (λ y. ledBy y c u) p ∙ ap (λ b. cond b (nothing u) (sign Negate u)) (ap isDecimal (sym k) ∙ q);
+            }
+        on false q = (ap (λ y. y ∷ t) i, q)
+    by going.global p i = idles going.global p (λ d x. refl)
+    by going.dot p i = idles going.dot p (λ d x. refl)
+    by going.bracket p i = idles going.bracket p (λ d x. refl)
+    by going.upper p i = (ap (λ y. y ∷ t) i, refl)
+    by going.lower p i = (ap (λ y. y ∷ t) i, refl)
+    by going.space p i = idles going.space p (λ d x. refl)
+    by going.other p i = idles going.other p (λ d x. refl)
 
 -- ---- leaves
 
@@ -185,7 +236,7 @@ fine-leaf (c ∷ t) o e = by (classOf c) (class-is c) e
             f : ℕ → Expr
             f v = num (negℤ (pos v))
 
-            on : (b : Bool) → isDecimal d ≡ b → cond b (leaf (onGot f (digits 2147483648 0 (d ∷ x)))) (sign Negate) ≡ leaf o → FineLeaf (45 ∷ (d ∷ x)) o
+            on : (b : Bool) → isDecimal d ≡ b → cond b (leaf (onGot f (digits 2147483648 0 (d ∷ x)))) (sign Negate (d ∷ x)) ≡ leaf o → FineLeaf (45 ∷ (d ∷ x)) o
             on true q e =
                 let s = digits-step 2147483648 0 d x q (le-leb (next 0 d) 2147483648 (omega (arith, digit-small d q))) in
                 subst (λ y. FineLeaf (45 ∷ (d ∷ x)) y) (ap (λ y. onGot f y) (sym s) ∙ leaf-of (onGot f (digits 2147483648 0 (d ∷ x))) o e)
@@ -223,38 +274,51 @@ fine-leaf (c ∷ t) o e = by (classOf c) (class-is c) e
     by going.bracket p e = clash (cc)
     by going.upper p e = clash (cc)
     by going.lower p e = clash (cc)
+    by going.space p e = absurd (subst (λ x. FineLed (skip t) x) e (fine-led (skip t)))
     by going.other p e = clash (cc)
 
 -- ---- signs, parentheses, and what is no operand
 
-pub record Signed (s : Op1) (t : List ℕ) : Type 0 where
-  pub tail : List ℕ
-  pub is : t ≡ sign1 s ∷ tail
-  pub apart : touches s tail ≡ false
+pub record Signed (s : Op1) (r t : List ℕ) : Type 0 where
+  pub n : ℕ
+  pub is : t ≡ spaces n ++ (sign1 s ∷ r)
+  pub apart : touches s r ≡ false
 
-pub sign-starts : (s : Op1) (x : List ℕ) → touches s x ≡ false → start (sign1 s ∷ x) ≡ sign s
+pub led-sign : (s : Op1) (x : List ℕ) → touches s x ≡ false → led (sign1 s ∷ x) ≡ sign s x
+unfolding led classOf
+led-sign Negate x e = rw e
+led-sign Upper x e = refl
+led-sign Lower x e = refl
+
+pub sign-starts : (s : Op1) (n : ℕ) (x : List ℕ) → touches s x ≡ false → start (spaces n ++ (sign1 s ∷ x)) ≡ sign s x
 unfolding start classOf
-sign-starts Negate x e = rw e
-sign-starts Upper x e = refl
-sign-starts Lower x e = refl
+sign-starts s (suc n) x e = ap led (skip-spaces n (sign1 s ∷ x) (sign-clear s)) ∙ led-sign s x e
+sign-starts Negate zero x e = rw e
+sign-starts Upper zero x e = refl
+sign-starts Lower zero x e = refl
 
-pub start-sign : (s : Op1) (t : List ℕ) → start t ≡ sign s → Signed s t
+pub start-sign : (s : Op1) (r t : List ℕ) → start t ≡ sign s r → Signed s r t
 unfolding start
-start-sign s [] e = clash (cc)
-start-sign s (c ∷ t) e = by (classOf c) (class-is c) e
+start-sign s r [] e = clash (cc)
+start-sign s r (c ∷ t) e = by (classOf c) (class-is c) e
   where
-    sign-of : (o : Op1) → sign o ≡ sign s → o ≡ s
+    sign-of : (o : Op1) → sign o t ≡ sign s r → o ≡ s
     sign-of o e = cc
 
-    is : (o : Op1) → sign o ≡ sign s → c ≡ sign1 o → touches o t ≡ false → Signed s (c ∷ t)
-    is o e p q =
-        subst (λ y. Signed y (c ∷ t)) (sign-of o e) (record { tail = t; is = ap (λ y. y ∷ t) p; apart = q })
+    text-of : (o : Op1) → sign o t ≡ sign s r → t ≡ r
+    text-of o e = cc
 
-    by : (k : Class) → Is c k → startBy k c t ≡ sign s → Signed s (c ∷ t)
+    is : (o : Op1) → sign o t ≡ sign s r → c ≡ sign1 o → touches o t ≡ false → Signed s r (c ∷ t)
+    is o e p q =
+        subst (λ y. Signed y r (c ∷ t)) (sign-of o e)
+        (subst (λ y. Signed o y (c ∷ t)) (text-of o e) (record { n = 0; is = ap (λ y. y ∷ t) p; apart = q }))
+
+    by : (k : Class) → Is c k → startBy k c t ≡ sign s r → Signed s r (c ∷ t)
     by going.digit p e = clash (cc)
     by going.minus p e = on (isDecimal (look t)) refl e
       where
-        on : (b : Bool) → isDecimal (look t) ≡ b → cond b (leaf (onGot (λ v. num (negℤ (pos v))) (digits 2147483648 0 t))) (sign Negate) ≡ sign s → Signed s (c ∷ t)
+        on : (b : Bool) → isDecimal (look t) ≡ b → cond b (leaf (onGot (λ v. num (negℤ (pos v))) (digits 2147483648 0 t))) (sign Negate t) ≡ sign s r
+            → Signed s r (c ∷ t)
         on true q e = clash (cc)
         on false q e = is Negate e p q
     by going.global p e = clash (cc)
@@ -262,6 +326,14 @@ start-sign s (c ∷ t) e = by (classOf c) (class-is c) e
     by going.bracket p e = clash (cc)
     by going.upper p e = is Upper e p refl
     by going.lower p e = is Lower e p refl
+    by going.space p e =
+        let f = subst (λ x. FineLed (skip t) x) e (fine-led (skip t)) in
+        let b = blanks t in
+        record {
+          n = suc (b .0);
+          is = ap (λ y. y ∷ t) p ∙ ap (λ x. 32 ∷ x) (b .1 ∙ ap (λ x. spaces (b .0) ++ x) (f .0));
+          apart = f .1;
+        }
     by going.other p e = clash (cc)
 
 pub paren-starts : (x : List ℕ) → start (40 ∷ x) ≡ paren
@@ -277,7 +349,7 @@ start-paren (c ∷ t) e = by (classOf c) (class-is c) e
     by going.digit p e = clash (cc)
     by going.minus p e = on (isDecimal (look t)) e
       where
-        on : (b : Bool) → cond b (leaf (onGot (λ v. num (negℤ (pos v))) (digits 2147483648 0 t))) (sign Negate) ≡ paren → (x : List ℕ) × (c ∷ t ≡ 40 ∷ x)
+        on : (b : Bool) → cond b (leaf (onGot (λ v. num (negℤ (pos v))) (digits 2147483648 0 t))) (sign Negate t) ≡ paren → (x : List ℕ) × (c ∷ t ≡ 40 ∷ x)
         on true e = clash (cc)
         on false e = clash (cc)
     by going.global p e = clash (cc)
@@ -285,25 +357,56 @@ start-paren (c ∷ t) e = by (classOf c) (class-is c) e
     by going.bracket p e = (t, ap (λ y. y ∷ t) p)
     by going.upper p e = clash (cc)
     by going.lower p e = clash (cc)
+    by going.space p e = absurd (subst (λ x. FineLed (skip t) x) e (fine-led (skip t)))
     by going.other p e = clash (cc)
 
--- where nothing starts, nothing starts that looks alike
-pub start-nothing : (t u : List ℕ) → start t ≡ nothing → look t ≡ look u → start u ≡ nothing
+-- where no operand starts: spaces were taken, or spaces and a minus
+abbrev pub Blank : List ℕ → Type 0
+Blank w = (n : ℕ) × ((w ≡ spaces n) ⊎ (w ≡ spaces n ++ (45 ∷ [])))
+
+pub start-nothing : (t r : List ℕ) → start t ≡ nothing r → Took t r (λ w. Blank w) (λ x u. start x ≡ nothing u)
 unfolding start classOf
-start-nothing t [] e k = refl
-start-nothing [] (c ∷ u) e k = ap (λ x. startBy (classOf x) x u) (sym k)
-start-nothing (c ∷ t) (d ∷ u) e k = subst (λ x. startBy (classOf x) x u ≡ nothing) k (by (classOf c) e)
+start-nothing [] r e = subst (λ y. Took [] y (λ w. Blank w) (λ x u. start x ≡ nothing u)) (text-of e) (idle [] (0, inl refl) (λ u k. at u k))
   where
-    by : (k : Class) → startBy k c t ≡ nothing → startBy k c u ≡ nothing
-    by going.digit e = clash (cc)
-    by going.minus e = on (isDecimal (look t)) e
+    text-of : nothing [] ≡ nothing r → [] ≡ r
+    text-of e = cc
+
+    at : (u : List ℕ) → 0 ≡ look u → start u ≡ nothing u
+    at [] e = refl
+    at (d ∷ x) e = ap (λ y. startBy (classOf y) d x) (sym e)
+start-nothing (c ∷ t) r e = by (classOf c) refl (class-is c) e
+  where
+    by : (k : Class) → classOf c ≡ k → Is c k → startBy k c t ≡ nothing r → Took (c ∷ t) r (λ w. Blank w) (λ x u. start x ≡ nothing u)
+    by going.digit p i e = clash (cc)
+    by going.minus p i e = on (isDecimal (look t)) e
       where
-        on : (b : Bool) → cond b (leaf (onGot (λ v. num (negℤ (pos v))) (digits 2147483648 0 t))) (sign Negate) ≡ nothing → startBy going.minus c u ≡ nothing
+        on : (b : Bool) → cond b (leaf (onGot (λ v. num (negℤ (pos v))) (digits 2147483648 0 t))) (sign Negate t) ≡ nothing r
+            → Took (c ∷ t) r (λ w. Blank w) (λ x u. start x ≡ nothing u)
         on true e = clash (cc)
         on false e = clash (cc)
-    by going.global e = clash (cc)
-    by going.dot e = clash (cc)
-    by going.bracket e = clash (cc)
-    by going.upper e = clash (cc)
-    by going.lower e = clash (cc)
-    by going.other e = refl
+    by going.global p i e = clash (cc)
+    by going.dot p i e = clash (cc)
+    by going.bracket p i e = clash (cc)
+    by going.upper p i e = clash (cc)
+    by going.lower p i e = clash (cc)
+    by going.space p i e =
+        subst (λ y. Took (y ∷ t) r (λ w. Blank w) (λ x u. start x ≡ nothing u)) (sym i)
+        (push {Q = λ w. Blank w} {G = λ y u. led (skip y) ≡ nothing u} {H = λ x u. start x ≡ nothing u} 32 t r
+        (spaced {Q = λ w. Blank w} {H = λ y u. led (skip y) ≡ nothing u} t r (subst (λ x. FineLed (skip t) x) e (fine-led (skip t))) (λ n w q m. blank n w m) (λ y u k k′ g. g))
+        (λ w q m. further w (m .0) (m .1)) (λ y u k k′ g. g))
+      where
+        blank : (n : ℕ) (w : List ℕ) → (w ≡ []) ⊎ (w ≡ 45 ∷ []) → Blank (spaces n ++ w)
+        blank n w (inl q) = (n, inl (ap (λ x. spaces n ++ x) q ∙ append-nil (spaces n)))
+        blank n w (inr q) = (n, inr (ap (λ x. spaces n ++ x) q))
+
+        further : (w : List ℕ) (n : ℕ) → (w ≡ spaces n) ⊎ (w ≡ spaces n ++ (45 ∷ [])) → Blank (32 ∷ w)
+        further w n (inl q) = (suc n, inl (ap (λ x. 32 ∷ x) q))
+        further w n (inr q) = (suc n, inr (ap (λ x. 32 ∷ x) q))
+    by going.other p i e = subst (λ y. Took (c ∷ t) y (λ w. Blank w) (λ x u. start x ≡ nothing u)) (text-of e) (idle (c ∷ t) (0, inl refl) (λ u k. at u k))
+      where
+        text-of : nothing (c ∷ t) ≡ nothing r → c ∷ t ≡ r
+        text-of e = cc
+
+        at : (u : List ℕ) → c ≡ look u → start u ≡ nothing u
+        at [] e = refl
+        at (d ∷ x) e = ap (λ y. startBy y d x) (ap classOf (sym e) ∙ p)

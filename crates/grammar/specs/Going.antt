@@ -47,6 +47,10 @@ local (c ∷ t) = cond (eqb c 108) (onGot (λ n. name (0x8000 + n)) (fixed 32767
 
 -- ---- what an operand begins with
 
+unfoldable pub skip : List ℕ → List ℕ
+skip [] = []
+skip (c ∷ t) = cond (eqb c 32) (skip t) (c ∷ t)
+
 pub data Class : Type 0 where
   digit : Class
   minus : Class
@@ -55,6 +59,7 @@ pub data Class : Type 0 where
   bracket : Class
   upper : Class
   lower : Class
+  space : Class
   other : Class
 
 unfoldable pub classOf : ℕ → Class
@@ -66,33 +71,48 @@ classOf c =
     (cond (eqb c 40) bracket
     (cond (eqb c 62) upper
     (cond (eqb c 60) lower
-    other))))))
+    (cond (eqb c 32) space
+    other)))))))
 
+-- a number or a name; a parenthesis; a sign and the text behind it; or the text from the byte on that no operand could have there
 pub data Start : Type 0 where
   leaf : Read Expr → Start
   paren : Start
-  sign : Op1 → Start
-  nothing : Start
+  sign : Op1 → List ℕ → Start
+  nothing : List ℕ → Start
+
+-- behind spaces: only a prefix sign. A minus that touches a digit is none, and the digit is the byte
+abbrev pub ledBy : Class → ℕ → List ℕ → Start
+ledBy digit c t = nothing (c ∷ t)
+ledBy minus c t = cond (isDecimal (look t)) (nothing t) (sign Negate t)
+ledBy global c t = nothing (c ∷ t)
+ledBy dot c t = nothing (c ∷ t)
+ledBy bracket c t = nothing (c ∷ t)
+ledBy upper c t = sign Upper t
+ledBy lower c t = sign Lower t
+ledBy space c t = nothing (c ∷ t)
+ledBy other c t = nothing (c ∷ t)
+
+unfoldable pub led : List ℕ → Start
+led [] = nothing []
+led (c ∷ t) = ledBy (classOf c) c t
 
 abbrev pub startBy : Class → ℕ → List ℕ → Start
 startBy digit c t = leaf (onGot (λ v. num (pos v)) (digits 2147483647 0 (c ∷ t)))
-startBy minus c t = cond (isDecimal (look t)) (leaf (onGot (λ v. num (negℤ (pos v))) (digits 2147483648 0 t))) (sign Negate)
+startBy minus c t = cond (isDecimal (look t)) (leaf (onGot (λ v. num (negℤ (pos v))) (digits 2147483648 0 t))) (sign Negate t)
 startBy global c t = leaf (onGot (λ n. name n) (fixed 32767 5 0 t))
 startBy dot c t = leaf (local t)
 startBy bracket c t = paren
-startBy upper c t = sign Upper
-startBy lower c t = sign Lower
-startBy other c t = nothing
+startBy upper c t = sign Upper t
+startBy lower c t = sign Lower t
+startBy space c t = led (skip t)
+startBy other c t = nothing (c ∷ t)
 
 unfoldable pub start : List ℕ → Start
-start [] = nothing
+start [] = nothing []
 start (c ∷ t) = startBy (classOf c) c t
 
--- ---- spaces and operators
-
-unfoldable pub skip : List ℕ → List ℕ
-skip [] = []
-skip (c ∷ t) = cond (eqb c 32) (skip t) (c ∷ t)
+-- ---- operators
 
 -- the infix operator that a byte is, and the one of level l
 unfoldable pub infixOf : ℕ → Option Op2
@@ -135,8 +155,8 @@ pub data Mode : Type 0 where
 pub data Goes : Mode → List ℕ → Read Expr → Type 0 where
   leafs : {t : List ℕ} {o : Read Expr} → start t ≡ leaf o → Goes alone t o
   opens : {t : List ℕ} {o : Read Expr} → start t ≡ paren → Goes (whole 5) (drop 1 t) o → Goes alone t (close o)
-  signs : {t : List ℕ} {o : Read Expr} (s : Op1) → start t ≡ sign s → Goes alone (skip (drop 1 t)) o → Goes alone t (onGot (one s) o)
-  nones : {t : List ℕ} → start t ≡ nothing → Goes alone t (stuck t)
+  signs : {t r : List ℕ} {o : Read Expr} (s : Op1) → start t ≡ sign s r → Goes alone (skip r) o → Goes alone t (onGot (one s) o)
+  nones : {t r : List ℕ} → start t ≡ nothing r → Goes alone t (stuck r)
   ends : {t r : List ℕ} {e : Expr} → Goes alone t (got e r) → Goes (whole 0) t (gap e r)
   fails : {t r : List ℕ} → Goes alone t (stuck r) → Goes (whole 0) t (stuck r)
   firsts : {t r : List ℕ} {e : Expr} {o : Read Expr} {l : ℕ} → Goes (whole l) t (got e r) → Goes (rest l e) r o → Goes (whole (suc l)) t o

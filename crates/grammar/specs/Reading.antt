@@ -74,12 +74,12 @@ abbrev pub spaces : ℕ → List ℕ
 spaces n = replicate n 32
 
 -- "A sum is made of products, a product of operands, and an operand may be a parenthesised sum or any other expression; .. all grouped to
--- the left; prefix signs bind tightest"; "spaces beside operators only": on either side of an infix one, after a prefix one
+-- the left; prefix signs bind tightest"; "spaces beside operators only": on either side of each, infix or prefix
 pub data Exp : ℕ → Expr → List ℕ → Type 0 where
   number : {z : ℤ} {t : List ℕ} → Number z t → Exp 0 (num z) t
   named : {n : ℕ} {t : List ℕ} → Name n t → Exp 0 (name n) t
-  signed : {e : Expr} {t : List ℕ} (o : Op1) (n : ℕ) → touches o (spaces n ++ t) ≡ false → Exp 0 e t
-      → Exp 0 (one o e) (sign1 o ∷ (spaces n ++ t))
+  signed : {e : Expr} {t : List ℕ} (o : Op1) (m n : ℕ) → touches o (spaces n ++ t) ≡ false → Exp 0 e t
+      → Exp 0 (one o e) (spaces m ++ (sign1 o ∷ (spaces n ++ t)))
   parens : {e : Expr} {t : List ℕ} → Exp 5 e t → Exp 0 e (40 ∷ (t ++ (41 ∷ [])))
   tighter : {l : ℕ} {e : Expr} {t : List ℕ} → Exp l e t → Exp (suc l) e t
   joined : {l : ℕ} {e d : Expr} {s t : List ℕ} (o : Op2) (m n : ℕ) → levelOf o ≡ suc l → Exp (suc l) e s → Exp l d t

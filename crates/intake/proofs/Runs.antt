@@ -14,7 +14,7 @@ use Rattle.rules.specs.Programs.{Stmt}
 use Rattle.rules.specs.Listing.{unhex}
 use Rattle.rules.specs.Output.{frameOf}
 use Rattle.text.specs.Text.{mnemonic}
-use Rattle.grammar.specs.Going.{Read, got, stuck, digits, fixed, local, classOf, start, skip, infixOf}
+use Rattle.grammar.specs.Going.{Read, got, stuck, digits, fixed, local, classOf, led, start, skip, infixOf}
 use Rattle.grammar.proofs.Computing.{goes}
 use Rattle.plans.specs.Words.{advance, endOf, trie}
 use Rattle.plans.specs.Families.{narrow, argsPlan, family, heads, mnemonics}
@@ -55,16 +55,20 @@ pub names-and-numbers : T (all (
     reads ".align 255,256" "08FF0100" ∷ stops ".align 256,1" 9 ∷ stops ".align 0,257" 11 ∷
     reads ".align 0,001" "08000001" ∷ stops ".align 0,0" 10 ∷
     []))
-unfolding all reads stops walks goes start classOf digits fixed local skip infixOf same unhex frameOf each bytesOf linePlan wordList trie advance endOf globalPlan localPlan orgPlan alignPlan itemsPlan multiples hexes comments mnemonics family heads narrow argsPlan mnemonic formAt
+unfolding all reads stops walks goes start led classOf digits fixed local skip infixOf same unhex frameOf each bytesOf linePlan wordList trie advance endOf globalPlan localPlan orgPlan alignPlan itemsPlan multiples hexes comments mnemonics family heads narrow argsPlan mnemonic formAt
 names-and-numbers = tt
 
--- "spaces beside operators only"; "( 1)" and a space behind a comma, `#` or the last operand stand beside what no operator is
+-- "spaces beside operators only"; "( 1)" and a space behind a comma or `#` stand beside what no operator is, which the next byte tells: a prefix
+-- sign could have followed. A minus touching a digit is none
 pub spaces : T (all (
     reads "g00000=1  -  2" "0300001100000000010000000002" ∷ reads "g00000=> 5" "030000210000000005" ∷
-    stops "g00000= 1" 7 ∷ stops "g00000=1 " 9 ∷ stops "g00000=( 1)" 8 ∷ stops "g00000=(1 )" 10 ∷ stops "g00000=1+ " 10 ∷
-    stops "add # 5" 5 ∷ stops "mov #1, 2" 7 ∷ stops "add  #5" 4 ∷ stops " nop" 0 ∷ stops "nop " 3 ∷
+    reads "g00000= -(5)" "030000200000000005" ∷ reads "add # -(5)" "0100200000000005" ∷ reads "add  -(5)" "0101200000000005" ∷
+    reads "add ( >5)" "0101210000000005" ∷ reads ".byte 1, - 5" "06020000000001200000000005" ∷
+    stops "g00000= 1" 8 ∷ stops "g00000=1 " 9 ∷ stops "g00000=( 1)" 9 ∷ stops "g00000=(1 )" 10 ∷ stops "g00000=1+ " 10 ∷
+    stops "add # 5" 6 ∷ stops "mov #1, 2" 8 ∷ stops "add  #5" 5 ∷ stops " nop" 0 ∷ stops "nop " 3 ∷
+    stops ".byte 1, -5" 10 ∷ stops "add (  " 7 ∷ stops "be @R1, #2,3" 7 ∷
     []))
-unfolding all reads stops walks goes start classOf digits fixed local skip infixOf same unhex frameOf each bytesOf linePlan wordList trie advance endOf globalPlan localPlan orgPlan alignPlan itemsPlan multiples hexes comments mnemonics family heads narrow argsPlan mnemonic formAt
+unfolding all reads stops walks goes start led classOf digits fixed local skip infixOf same unhex frameOf each bytesOf linePlan wordList trie advance endOf globalPlan localPlan orgPlan alignPlan itemsPlan multiples hexes comments mnemonics family heads narrow argsPlan mnemonic formAt
 spaces = tt
 
 -- "all grouped to the left; prefix signs bind tightest", with fewer parentheses than are written and with more
@@ -78,7 +82,7 @@ pub grouping : T (all (
     reads "g00000=-g00002*2" "03000012200100020000000002" ∷
     reads "g00000=((5))" "0300000000000005" ∷ stops "g00000=((5)" 11 ∷ stops "g00000=(5))" 10 ∷
     []))
-unfolding all reads stops walks goes start classOf digits fixed local skip infixOf same unhex frameOf each bytesOf linePlan wordList trie advance endOf globalPlan localPlan orgPlan alignPlan itemsPlan multiples hexes comments mnemonics family heads narrow argsPlan mnemonic formAt
+unfolding all reads stops walks goes start led classOf digits fixed local skip infixOf same unhex frameOf each bytesOf linePlan wordList trie advance endOf globalPlan localPlan orgPlan alignPlan itemsPlan multiples hexes comments mnemonics family heads narrow argsPlan mnemonic formAt
 grouping = tt
 
 -- words, arguments, comments and items
@@ -92,7 +96,7 @@ pub words-and-arguments : T (all (
     reads ".comment" "04" ∷ reads ".comment 0AFF" "040AFF" ∷ stops ".comment " 9 ∷ stops ".comment 0" 10 ∷ stops ".comment 0a" 10 ∷
     reads ".byte 1" "06010000000001" ∷ stops ".byte" 5 ∷ stops ".byte " 6 ∷ stops ".byte 1," 8 ∷ stops ".word #1" 6 ∷
     []))
-unfolding all reads stops walks goes start classOf digits fixed local skip infixOf same unhex frameOf each bytesOf linePlan wordList trie advance endOf globalPlan localPlan orgPlan alignPlan itemsPlan multiples hexes comments mnemonics family heads narrow argsPlan mnemonic formAt
+unfolding all reads stops walks goes start led classOf digits fixed local skip infixOf same unhex frameOf each bytesOf linePlan wordList trie advance endOf globalPlan localPlan orgPlan alignPlan itemsPlan multiples hexes comments mnemonics family heads narrow argsPlan mnemonic formAt
 words-and-arguments = tt
 
 -- a line of so many items: 16 are good, and "a seventeenth item is 15 at its comma"
@@ -101,5 +105,5 @@ pub items : T (all (
     "0610010000010000010000010000010000010000010000010000010000010000010000010000010000010000010000010000" ∷
     stops ".byte g00000,g00000,g00000,g00000,g00000,g00000,g00000,g00000,g00000,g00000,g00000,g00000,g00000,g00000,g00000,g00000,g00000" 117 ∷
     []))
-unfolding all reads stops walks goes start classOf digits fixed local skip infixOf same unhex frameOf each bytesOf linePlan wordList trie advance endOf globalPlan localPlan orgPlan alignPlan itemsPlan multiples hexes comments mnemonics family heads narrow argsPlan mnemonic formAt
+unfolding all reads stops walks goes start led classOf digits fixed local skip infixOf same unhex frameOf each bytesOf linePlan wordList trie advance endOf globalPlan localPlan orgPlan alignPlan itemsPlan multiples hexes comments mnemonics family heads narrow argsPlan mnemonic formAt
 items = tt

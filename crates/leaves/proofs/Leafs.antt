@@ -11,7 +11,7 @@ use lib.ListN.{length, take, drop, length-drop}
 use lib.Seq.{drop-drop, take-all}
 use mir.Syntax.{w32}
 use mir.Val.{ofZ}
-use borrow.Author.Tests.{ne-eqb, eqb-true}
+use borrow.Author.Tests.{ne-eqb, eq-eqb, eqb-true}
 use Rattle.laws.proofs.Tests.{clash, both-ways}
 use Rattle.rules.specs.declared.Op1.the-variants.{Negate, Upper, Lower}
 use Rattle.rules.specs.declared.Op2.{Op2}
@@ -23,11 +23,11 @@ use Rattle.leaves.specs.declared.Value.{Value}
 use Rattle.leaves.specs.declared.Value.the-variants.{Is, Not}
 use Rattle.grammar.specs.Reading.{isDecimal, look, levelOf}
 use Rattle.grammar.specs.Going as going
-use Rattle.grammar.specs.Going.{Read, got, stuck, onGot, digits, fixed, Class, classOf, leaf, sign, nothing, startBy, start, infixOf, opAt, alone, Goes, leafs, nones}
+use Rattle.grammar.specs.Going.{Read, got, stuck, onGot, digits, fixed, Class, classOf, leaf, sign, nothing, ledBy, led, startBy, start, skip, infixOf, opAt, alone, Goes, leafs, nones}
 use Rattle.leaves.specs.Answering.{Valued, Put, Answered, codeOf, signCode}
 use Rattle.grammar.proofs.Starts as starts
 use Rattle.grammar.proofs.Starts.{class-is, class-digit, start-global, start-local, start-dot}
-use Rattle.grammar.proofs.Spaces.{op-at, op-other, infix-sign}
+use Rattle.grammar.proofs.Spaces.{skip-clear, op-at, op-other, infix-sign}
 
 -- ---- parts of a text
 
@@ -74,36 +74,28 @@ dot-starts (c ∷ t) e d = ap (λ x. start (x ∷ t)) e ∙ start-dot t (ne-eqb 
 
 -- the byte of a sign
 
-pub sign-upper : (s : List ℕ) → look s ≡ 62 → signCode (start s) ≡ 0x21
-unfolding start classOf
+pub sign-upper : (s : List ℕ) → look s ≡ 62 → signCode (led s) ≡ 0x21
+unfolding led classOf
 sign-upper [] e = absurd (omega arith)
-sign-upper (c ∷ t) e = ap (λ x. signCode (start (x ∷ t))) e
+sign-upper (c ∷ t) e = ap (λ x. signCode (led (x ∷ t))) e
 
-pub sign-lower : (s : List ℕ) → look s ≡ 60 → signCode (start s) ≡ 0x22
-unfolding start classOf
+pub sign-lower : (s : List ℕ) → look s ≡ 60 → signCode (led s) ≡ 0x22
+unfolding led classOf
 sign-lower [] e = absurd (omega arith)
-sign-lower (c ∷ t) e = ap (λ x. signCode (start (x ∷ t))) e
+sign-lower (c ∷ t) e = ap (λ x. signCode (led (x ∷ t))) e
 
-pub sign-minus : (s : List ℕ) (b : Bool) → look s ≡ 45 → isDecimal (look (drop 1 s)) ≡ b → signCode (start s) ≡ cond b 0 0x20
-unfolding start classOf
+pub sign-minus : (s : List ℕ) (b : Bool) → look s ≡ 45 → isDecimal (look (drop 1 s)) ≡ b → signCode (led s) ≡ cond b 0 0x20
+unfolding led classOf
 sign-minus [] b e d = absurd (omega arith)
-sign-minus (c ∷ t) true e d = ap (λ x. signCode (start (x ∷ t))) e ∙ rw d
-sign-minus (c ∷ t) false e d = ap (λ x. signCode (start (x ∷ t))) e ∙ rw d
+sign-minus (c ∷ t) true e d = ap (λ x. signCode (led (x ∷ t))) e ∙ rw d
+sign-minus (c ∷ t) false e d = ap (λ x. signCode (led (x ∷ t))) e ∙ rw d
 
--- a minus that is no sign touches a digit
-pub digit-next : (s : List ℕ) → look s ≡ 45 → signCode (start s) ≡ 0 → isDecimal (look (drop 1 s)) ≡ true
-digit-next s e z = on (isDecimal (look (drop 1 s))) refl
-  where
-    on : (b : Bool) → isDecimal (look (drop 1 s)) ≡ b → b ≡ true
-    on true d = refl
-    on false d = absurd (omega (arith, sign-minus s false e d))
-
-pub sign-none : (s : List ℕ) → (look s ≡ 62 → ⊥) → (look s ≡ 60 → ⊥) → (look s ≡ 45 → ⊥) → signCode (start s) ≡ 0
-unfolding start
+pub sign-none : (s : List ℕ) → (look s ≡ 62 → ⊥) → (look s ≡ 60 → ⊥) → (look s ≡ 45 → ⊥) → signCode (led s) ≡ 0
+unfolding led
 sign-none [] e f g = refl
 sign-none (c ∷ t) e f g = by (classOf c) (class-is c)
   where
-    by : (k : Class) → starts.Is c k → signCode (startBy k c t) ≡ 0
+    by : (k : Class) → starts.Is c k → signCode (ledBy k c t) ≡ 0
     by going.digit p = refl
     by going.minus p = absurd (g p)
     by going.global p = refl
@@ -111,15 +103,95 @@ sign-none (c ∷ t) e f g = by (classOf c) (class-is c)
     by going.bracket p = refl
     by going.upper p = absurd (e p)
     by going.lower p = absurd (f p)
+    by going.space p = refl
     by going.other p = refl
 
-pub none-starts : (s : List ℕ) → isDecimal (look s) ≡ false → (look s ≡ 45 → ⊥) → (look s ≡ 103 → ⊥) → (look s ≡ 46 → ⊥) → (look s ≡ 40 → ⊥)
-    → signCode (start s) ≡ 0 → start s ≡ nothing
-unfolding start
-none-starts [] d m g o b z = refl
-none-starts (c ∷ t) d m g o b z = by (classOf c) (class-is c) z
+-- with spaces before it
+pub space-led : (s : List ℕ) → look s ≡ 32 → start s ≡ led (skip s)
+unfolding start classOf skip
+space-led [] e = absurd (omega arith)
+space-led (c ∷ t) e = subst (λ x. start (x ∷ t) ≡ led (skip (x ∷ t))) (sym e) refl
+
+pub sign-led : (s : List ℕ) → signCode (start s) ≡ signCode (led (skip s))
+unfolding start led skip
+sign-led [] = refl
+sign-led (c ∷ t) = on (eqb c 32) refl
   where
-    by : (k : Class) → starts.Is c k → signCode (startBy k c t) ≡ 0 → startBy k c t ≡ nothing
+    on : (b : Bool) → eqb c 32 ≡ b → signCode (start (c ∷ t)) ≡ signCode (led (skip (c ∷ t)))
+    on true q = ap signCode (space-led (c ∷ t) (eqb-true c 32 q))
+    on false q = by (classOf c) (class-is c) ∙ ap (λ x. signCode (led x)) (sym (skip-clear (c ∷ t) q))
+      where
+        by : (k : Class) → starts.Is c k → signCode (startBy k c t) ≡ signCode (ledBy k c t)
+        by going.digit p = refl
+        by going.minus p = at (isDecimal (look t))
+          where
+            at : (b : Bool) → signCode (cond b (leaf (onGot (λ v. num (negℤ (pos v))) (digits 2147483648 0 t))) (sign Negate t)) ≡ signCode (cond b (nothing t) (sign Negate t))
+            at true = refl
+            at false = refl
+        by going.global p = refl
+        by going.dot p = refl
+        by going.bracket p = refl
+        by going.upper p = refl
+        by going.lower p = refl
+        by going.space p = both-ways (eqb c 32) (eq-eqb c 32 p) q
+        by going.other p = refl
+
+-- a minus that is no sign touches a digit
+led-digit : (s : List ℕ) → look s ≡ 45 → signCode (led s) ≡ 0 → isDecimal (look (drop 1 s)) ≡ true
+led-digit s e z = on (isDecimal (look (drop 1 s))) refl
+  where
+    on : (b : Bool) → isDecimal (look (drop 1 s)) ≡ b → b ≡ true
+    on true d = refl
+    on false d = absurd (omega (arith, sign-minus s false e d))
+
+pub digit-next : (s : List ℕ) → look s ≡ 45 → signCode (start s) ≡ 0 → isDecimal (look (drop 1 s)) ≡ true
+digit-next s e z =
+    let k : skip s ≡ s = skip-clear s (ap (λ c. eqb c 32) e) in
+    led-digit s e (ap (λ x. signCode (led x)) (sym k) ∙ sym (sign-led s) ∙ z)
+
+-- behind spaces that no sign follows
+pub led-minus : (s : List ℕ) → look s ≡ 45 → signCode (led s) ≡ 0 → led s ≡ nothing (drop 1 s)
+unfolding led classOf
+led-minus [] e z = absurd (omega arith)
+led-minus (c ∷ t) e z =
+    ap (λ x. led (x ∷ t)) e ∙ ap (λ b. cond b (nothing t) (sign Negate t)) (led-digit (c ∷ t) e z)
+
+pub led-other : (s : List ℕ) → (look s ≡ 45 → ⊥) → signCode (led s) ≡ 0 → led s ≡ nothing s
+unfolding led
+led-other [] m z = refl
+led-other (c ∷ t) m z = by (classOf c) (class-is c) z
+  where
+    by : (k : Class) → starts.Is c k → signCode (ledBy k c t) ≡ 0 → ledBy k c t ≡ nothing (c ∷ t)
+    by going.digit p z = refl
+    by going.minus p z = absurd (m p)
+    by going.global p z = refl
+    by going.dot p z = refl
+    by going.bracket p z = refl
+    by going.upper p z = absurd (omega arith)
+    by going.lower p z = absurd (omega arith)
+    by going.space p z = refl
+    by going.other p z = refl
+
+module _ (s : List ℕ) (j : ℕ) (p : look s ≡ 32) (z : signCode (start s) ≡ 0) (h : j ≤ length s) (d : drop j s ≡ skip s) where
+  no-sign : signCode (led (drop j s)) ≡ 0
+  no-sign = ap (λ x. signCode (led x)) d ∙ sym (sign-led s) ∙ z
+
+  pub blank-minus : look (drop j s) ≡ 45 → (start s ≡ nothing (drop (j + 1) s)) × (j + 1 ≤ length s)
+  blank-minus m = (
+    space-led s p ∙ ap led (sym d) ∙ led-minus (drop j s) m no-sign ∙ ap (λ x. nothing x) (drop-drop 1 j s),
+    omega (arith, length-drop j s, some-byte (drop j s) 44 m),
+  )
+
+  pub blank-other : (look (drop j s) ≡ 45 → ⊥) → start s ≡ nothing (drop j s)
+  blank-other m = space-led s p ∙ ap led (sym d) ∙ led-other (drop j s) m no-sign
+
+pub none-starts : (s : List ℕ) → isDecimal (look s) ≡ false → (look s ≡ 45 → ⊥) → (look s ≡ 103 → ⊥) → (look s ≡ 46 → ⊥) → (look s ≡ 40 → ⊥) → (look s ≡ 32 → ⊥)
+    → signCode (start s) ≡ 0 → start s ≡ nothing s
+unfolding start
+none-starts [] d m g o b l z = refl
+none-starts (c ∷ t) d m g o b l z = by (classOf c) (class-is c) z
+  where
+    by : (k : Class) → starts.Is c k → signCode (startBy k c t) ≡ 0 → startBy k c t ≡ nothing (c ∷ t)
     by going.digit p z = both-ways (isDecimal c) p d
     by going.minus p z = absurd (m p)
     by going.global p z = absurd (g p)
@@ -127,6 +199,7 @@ none-starts (c ∷ t) d m g o b z = by (classOf c) (class-is c) z
     by going.bracket p z = absurd (b p)
     by going.upper p z = absurd (omega arith)
     by going.lower p z = absurd (omega arith)
+    by going.space p z = absurd (l p)
     by going.other p z = refl
 
 -- ---- answers

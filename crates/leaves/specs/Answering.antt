@@ -47,8 +47,8 @@ pub record Inserted (b a : List ℕ) (at end code to : ℕ) : Type 0 where
 abbrev pub signCode : Start → ℕ
 signCode (leaf o) = 0
 signCode paren = 0
-signCode (sign s) = code1 s
-signCode nothing = 0
+signCode (sign s r) = code1 s
+signCode (nothing r) = 0
 
 -- what follows in a chain of level l + 1, for every left operand e whose bytes stand from `at` to `to`, the room before them being b's
 abbrev pub Continued : (l : ℕ) (t a₀ a₁ : List ℕ) (at to : ℕ) → Found → Type 0

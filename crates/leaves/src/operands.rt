@@ -5,6 +5,7 @@ use crate::lexing::digits;
 use crate::lexing::fixed;
 use crate::lexing::is_decimal;
 use crate::lexing::look;
+use crate::lexing::spaces;
 use crate::storing::put_name;
 use crate::storing::put_number;
 ghost use mathlib.Core.Path.{_≡_};
@@ -15,12 +16,12 @@ ghost use lib.IntN.{pos, negℤ};
 ghost use mir.Syntax.{w32};
 ghost use mir.Val.{ofZ};
 ghost use Rattle.grammar.specs.Reading.{isDecimal, look};
-ghost use Rattle.grammar.specs.Going.{start, alone};
+ghost use Rattle.grammar.specs.Going.{nothing, led, start, alone};
 ghost use Rattle.leaves.specs.Answering.{Answered, signCode};
 
 // The byte of the prefix sign that comes first; 0 where none does.
-pub fn sign_of(s: &[u8]) -> u8
-    ensures { λ r. ⌜ r ≡ signCode (start (now (s .entry))) ⌝ }
+fn sign_at(s: &[u8]) -> u8
+    ensures { λ r. ⌜ r ≡ signCode (led (now (s .entry))) ⌝ }
 {
     let c = look(s);
     if c == 62 {
@@ -36,6 +37,26 @@ pub fn sign_of(s: &[u8]) -> u8
         return 0;
     }
     0x20
+}
+
+// Spaces may stand before it.
+pub fn sign_of(s: &[u8]) -> u8
+    ensures { λ r. ⌜ r ≡ signCode (start (now (s .entry))) ⌝ }
+{
+    let j = spaces(s);
+    sign_at(&s[j..])
+}
+
+// Spaces that no sign follows, up to the byte that no good line could have there: a minus touches a digit, and that is the byte.
+fn blank(s: &[u8]) -> usize
+    requires { ⌜ (look (now s) ≡ 32) × (signCode (start (now s)) ≡ 0) ⌝ }
+    ensures { λ r. ⌜ (start (now (s .entry)) ≡ nothing (drop r (now (s .entry)))) × (r ≤ length (now (s .entry))) ⌝ }
+{
+    let j = spaces(s);
+    if look(&s[j..]) == 45 {
+        return j + 1;
+    }
+    j
 }
 
 fn plain(s: &[u8], out: &mut [u8; 32], at: usize) -> Found
@@ -111,6 +132,9 @@ pub fn leaf(s: &[u8], out: &mut [u8; 32], at: usize) -> Found
     }
     if c == 46 {
         return local(s, out, at);
+    }
+    if c == 32 {
+        return Found::Stuck(blank(s));
     }
     Found::Stuck(0)
 }

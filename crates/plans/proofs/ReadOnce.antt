@@ -2,7 +2,7 @@
 use mathlib.Core.Path.{_≡_, refl, sym, ap, _∙_, subst}
 use mathlib.Core.List.{List, [], _∷_, _++_, append-assoc}
 use mathlib.Core.Bool.{Bool, true, false}
-use Prim.Native.Nat.{ℕ, suc, _+_, _-_, _≤_, _<_}
+use Prim.Native.Nat.{ℕ, zero, suc, _+_, _-_, _≤_, _<_}
 use native.Mathlib.Omega.{arith}
 use lib.Dec.{leb}
 use lib.ListN.{length, take, drop, length-append, take-append-drop}
@@ -40,12 +40,13 @@ exp-class (reading.number (reading.plain {v = n} {t = t} d)) v q = let z = class
 exp-class (reading.number (reading.minus d)) v q = cc
 exp-class (reading.named (reading.global l d)) v q = cc
 exp-class (reading.named (reading.local l d)) v q = cc
-exp-class (reading.signed o n z x) v q = on o q
+exp-class (reading.signed {t = t} o m n z x) v q = on m o q
   where
-    on : (o : Op1) → going.classOf (sign1 o) ≡ going.other → _≡_ {A = ℕ} 0 1
-    on Negate q = cc
-    on Upper q = cc
-    on Lower q = cc
+    on : (m : ℕ) (o : Op1) → going.classOf (look ((spaces m ++ (sign1 o ∷ (spaces n ++ t))) ++ v)) ≡ going.other → _≡_ {A = ℕ} 0 1
+    on (suc m) o q = cc
+    on zero Negate q = cc
+    on zero Upper q = cc
+    on zero Lower q = cc
 exp-class (reading.parens x) v q = cc
 exp-class (reading.tighter x) v q = exp-class x v q
 exp-class (reading.joined {s = s} {t = t} o m n z x y) v q =

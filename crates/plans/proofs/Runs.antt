@@ -16,7 +16,7 @@ use Rattle.rules.specs.Forms.{formAt}
 use Rattle.rules.specs.Patterns.{codes}
 use Rattle.rules.specs.Programs.{Operand, register, value, Stmt, instr, label, variable, comment, org, bytes, words}
 use Rattle.text.specs.Text.{digitsOf, five, exprText, mnemonic, argsText, itemsText, lineText}
-use Rattle.grammar.specs.Going.{Read, got, stuck, digits, fixed, local, classOf, start, skip, infixOf, whole}
+use Rattle.grammar.specs.Going.{Read, got, stuck, digits, fixed, local, classOf, led, start, skip, infixOf, whole}
 use Rattle.grammar.proofs.Computing.{goes}
 
 unfoldable pub all : List Bool → Bool
@@ -80,11 +80,16 @@ pub trees : T (all (
     reads "1 - - 5" (two Minus (num (pos 1)) (one Negate (num (pos 5)))) ∷
     reads "-g00001*2" (two Times (one Negate (name 1)) (num (pos 2))) ∷
     reads ">-5" (one Upper (num (negsuc 4))) ∷
+    reads " -(5)" (one Negate (num (pos 5))) ∷
+    reads "  - 5" (one Negate (num (pos 5))) ∷
+    reads "( >5)" (one Upper (num (pos 5))) ∷
+    reads "1- -5" (two Minus (num (pos 1)) (num (negsuc 4))) ∷
+    reads "1- -(5)" (two Minus (num (pos 1)) (one Negate (num (pos 5)))) ∷
     reads "007" (num (pos 7)) ∷
     reads ".l00001+g32767" (two Plus (name 0x8001) (name 32767)) ∷
     reads "-2147483648" (num (negsuc 2147483647)) ∷
     []))
-unfolding all reads same bytesOf goes start classOf digits fixed local skip infixOf
+unfolding all reads same bytesOf goes start led classOf digits fixed local skip infixOf
 trees = tt
 
 pub columns : T (all (
@@ -94,7 +99,10 @@ pub columns : T (all (
     stops "1 )" 2 ∷
     stops "(1" 2 ∷
     stops "(1 2)" 3 ∷
-    stops "( 1)" 1 ∷
+    stops "( 1)" 2 ∷
+    stops "(  " 3 ∷
+    stops " -5" 2 ∷
+    stops " -" 2 ∷
     stops "2147483648" 9 ∷
     stops "-2147483649" 10 ∷
     stops "21474836470" 10 ∷
@@ -105,5 +113,5 @@ pub columns : T (all (
     stops "-" 1 ∷
     stops "1)" 1 ∷
     []))
-unfolding all stops goes start classOf digits fixed local skip infixOf
+unfolding all stops goes start led classOf digits fixed local skip infixOf
 columns = tt

@@ -13,14 +13,15 @@ use borrow.Author.Tests.{eq-eqb, ne-eqb, leb-true, leb-false}
 use Rattle.laws.proofs.Tests.{clash, both-ways}
 use Rattle.rules.specs.declared.Op1.{Op1}
 use Rattle.rules.specs.declared.Op2.{Op2}
+use Rattle.text.specs.Text.{sign1}
 use Rattle.rules.specs.Expressions.{Expr, two, one, bytesOf, code1, code2}
 use Rattle.leaves.specs.declared.Found.{Found}
 use Rattle.leaves.specs.declared.Found.the-variants.{Ends, Stuck}
 use Rattle.grammar.specs.Reading.{look}
 use Rattle.grammar.specs.Going.{Read, got, stuck, onGot, Start, leaf, paren, sign, nothing, start, skip, infixOf, opAt, isSome, gap, close, Mode, alone, whole, rest, Goes, opens, signs, ends, fails, firsts, sinks, stops, agains, breaks}
 use Rattle.leaves.specs.Answering.{Put, Inserted, Answered, Continued, Passed, takes, afterOf, codeOf, signCode}
-use Rattle.grammar.proofs.Starts.{paren-starts}
-use Rattle.grammar.proofs.Spaces.{skip-clear, skip-look}
+use Rattle.grammar.proofs.Starts.{paren-starts, start-sign}
+use Rattle.grammar.proofs.Spaces.{skip-clear, skip-look, skip-spaces, sign-clear}
 use Rattle.grammar.proofs.Lexes.{look-at, look-end}
 use Rattle.leaves.proofs.Puts.{put-two, put-none}
 use Rattle.leaves.proofs.Leafs.{rest-is, drop-plus, code-some}
@@ -33,6 +34,15 @@ past-is k r s h b e =
     let l : length (take (length s - k) (drop k s)) ≡ length s - k = ap length (rest-is k s) ∙ length-drop k s in
     let c : drop r (drop k s) ≡ skip (drop k s) = subst (λ x. drop r x ≡ skip x) (rest-is k s) e in
     (omega arith, sym (drop-drop r k s) ∙ c)
+
+-- a sign and the spaces beside it: j before it, r with it
+pub past-sign-is : (j r : ℕ) (s : List ℕ) → j ≤ length s → drop j s ≡ skip s → 1 ≤ r → r ≤ length (take (length s - j) (drop j s))
+    → drop r (take (length s - j) (drop j s)) ≡ skip (drop 1 (take (length s - j) (drop j s)))
+    → (1 ≤ j + r) × (j + r ≤ length s) × (drop (j + r) s ≡ skip (drop 1 (skip s)))
+past-sign-is j r s h d o b e =
+    let l : length (take (length s - j) (drop j s)) ≡ length s - j = ap length (rest-is j s) ∙ length-drop j s in
+    let c : drop r (drop j s) ≡ skip (drop 1 (skip s)) = subst (λ x. drop r x ≡ skip (drop 1 x)) (rest-is j s) e ∙ ap (λ x. skip (drop 1 x)) d in
+    (omega arith, omega arith, sym (drop-drop r j s) ∙ c)
 
 -- where spaces were passed over, the first byte is one
 pub spaced-look : (t : List ℕ) (r : ℕ) → 1 ≤ r → r ≤ length t → drop r t ≡ skip t → eqb (look t) 32 ≡ true
@@ -91,6 +101,25 @@ left m t b a at n to g =
     let p = g .1 .1 .1 in
     record { size = p .size; taken = g .1 .1 .0; within = p .within; above = λ h. omega (arith, p .ends h) }
 
+-- a text that begins with a sign, spaces before it or not
+record Sign (s : List ℕ) (code : ℕ) : Type 0 where
+  o : Op1
+  behind : List ℕ
+  starts : start s ≡ sign o behind
+  is : skip s ≡ sign1 o ∷ behind
+  codes : code ≡ code1 o
+
+sign-is : (s : List ℕ) (code : ℕ) → code ≡ signCode (start s) → 1 ≤ code → Sign s code
+sign-is s code q h = on (start s) refl q
+  where
+    on : (x : Start) → start s ≡ x → code ≡ signCode x → Sign s code
+    on (leaf y) p e = absurd (omega arith)
+    on paren p e = absurd (omega arith)
+    on (sign o r) p e =
+        let t = start-sign o r s p in
+        record { o = o; behind = r; starts = p; is = ap skip (t .is) ∙ skip-spaces (t .n) (sign1 o ∷ r) (sign-clear o); codes = e }
+    on (nothing r) p e = absurd (omega arith)
+
 module _ (s b : List ℕ) (at : ℕ) where
   -- parentheses
   starts-paren : look s ≡ 40 → start s ≡ paren
@@ -116,35 +145,29 @@ module _ (s b : List ℕ) (at : ℕ) where
   paren-stuck a n q l (g, h) = (subst (λ z. Goes alone s (stuck z)) (drop-plus 1 n s) (opens (starts-paren q) g), omega (arith, length-drop 1 s))
 
   -- signs
-  sign-is : (x : Start) (k : ℕ) → k ≡ signCode x → 1 ≤ k → (o : Op1) × ((x ≡ sign o) × (k ≡ code1 o))
-  sign-is (leaf y) k e h = absurd (omega arith)
-  sign-is paren k e h = absurd (omega arith)
-  sign-is (sign o) k e h = (o, (refl, e))
-  sign-is nothing k e h = absurd (omega arith)
-
-  pub sign-ends : (a₁ a₂ : List ℕ) (k n end code to : ℕ) → length b ≡ 32 → at ≤ 33 → code ≡ signCode (start s) → 1 ≤ code → k ≤ length s → drop k s ≡ skip (drop 1 s)
-      → Answered alone (drop k s) b a₁ at (Ends n end) → Inserted a₁ a₂ at end code to → Answered alone s b a₂ at (Ends (k + n) to)
+  pub sign-ends : (a₁ a₂ : List ℕ) (k n end code to : ℕ) → length b ≡ 32 → at ≤ 33 → code ≡ signCode (start s) → 1 ≤ code → k ≤ length s
+      → drop k s ≡ skip (drop 1 (skip s)) → Answered alone (drop k s) b a₁ at (Ends n end) → Inserted a₁ a₂ at end code to → Answered alone s b a₂ at (Ends (k + n) to)
   unfolding bytesOf
   sign-ends a₁ a₂ k n end code to lb h q c l d (e, (g, (z, p))) i =
-      let x = sign-is (start s) code q c in
-      let o = x .0 in (
+      let x = sign-is s code q c in
+      let o = x .o in (
         one o e,
         (
           subst (λ y. Goes alone s (got (one o e) y)) (drop-drop n k s)
-              (signs {o = got e (drop n (drop k s))} o (x .1 .0) (subst (λ y. Goes alone y (got e (drop n (drop k s)))) d g)),
+              (signs {o = got e (drop n (drop k s))} o (x .starts) (subst (λ y. Goes alone y (got e (drop n (drop k s)))) (d ∙ ap (λ y. skip (drop 1 y)) (x .is)) g)),
           (
             omega (arith, length-drop k s),
-            subst (λ y. Put b a₂ at (y ∷ bytesOf e) to) (x .1 .1) (put-two b b a₁ a₂ [] (bytesOf e) at at end code to lb (put-none b at lb h) p i),
+            subst (λ y. Put b a₂ at (y ∷ bytesOf e) to) (x .codes) (put-two b b a₁ a₂ [] (bytesOf e) at at end code to lb (put-none b at lb h) p i),
           ),
         ),
       )
 
-  pub sign-stuck : (a : List ℕ) (k n code : ℕ) → code ≡ signCode (start s) → 1 ≤ code → k ≤ length s → drop k s ≡ skip (drop 1 s)
+  pub sign-stuck : (a : List ℕ) (k n code : ℕ) → code ≡ signCode (start s) → 1 ≤ code → k ≤ length s → drop k s ≡ skip (drop 1 (skip s))
       → Answered alone (drop k s) b a at (Stuck n) → Answered alone s b a at (Stuck (k + n))
   sign-stuck a k n code q c l d (g, z) =
-      let x = sign-is (start s) code q c in (
+      let x = sign-is s code q c in (
         subst (λ y. Goes alone s (stuck y)) (drop-drop n k s)
-            (signs {o = stuck (drop n (drop k s))} (x .0) (x .1 .0) (subst (λ y. Goes alone y (stuck (drop n (drop k s)))) d g)),
+            (signs {o = stuck (drop n (drop k s))} (x .o) (x .starts) (subst (λ y. Goes alone y (stuck (drop n (drop k s)))) (d ∙ ap (λ y. skip (drop 1 y)) (x .is)) g)),
         omega (arith, length-drop k s),
       )
 
@@ -224,10 +247,8 @@ unfolding infixOf
 op-byte l [] code c h = absurd (omega arith)
 op-byte l (b ∷ s) code c h = omega arith
 
-pub sign-byte : (s : List ℕ) (code : ℕ) → code ≡ signCode (start s) → 1 ≤ code → 1 ≤ length s
-unfolding start
-sign-byte [] code c h = absurd (omega arith)
-sign-byte (b ∷ s) code c h = omega arith
+pub sign-byte : (s : List ℕ) (code : ℕ) → code ≡ signCode (start s) → 1 ≤ code → 1 ≤ length (skip s)
+sign-byte s code c h = omega (arith, ap length (sign-is s code c h .is))
 
 -- ---- for the calls
 

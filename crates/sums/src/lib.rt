@@ -83,6 +83,15 @@ fn past(s: &[u8]) -> usize
     1 + spaces(&s[1..])
 }
 
+// The sign that comes first, with the spaces before and behind it.
+fn past_sign(s: &[u8]) -> usize
+    requires { ⌜ 1 ≤ length (skip (now s)) ⌝ }
+    ensures { λ r. ⌜ (1 ≤ r) × (r ≤ length (now (s .entry))) × (drop r (now (s .entry)) ≡ skip (drop 1 (skip (now (s .entry))))) ⌝ }
+{
+    let j = spaces(s);
+    j + past(&s[j..])
+}
+
 // The spaces behind an operand that ends at n: an operator follows them.
 fn trail(s: &[u8], n: usize, to: usize) -> Found
     requires { ⌜ n ≤ length (now s) ⌝ }
@@ -131,7 +140,7 @@ fn atom(s: &[u8], out: &mut [u8; 32], at: usize) -> Found
     if code < 1 {
         return leaf(s, out, at);
     }
-    let k = past(s);
+    let k = past_sign(s);
     let r = atom(&s[k..], out, at);
     match r {
         Found::Ends(n, end) => {

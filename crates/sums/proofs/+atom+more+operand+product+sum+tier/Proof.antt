@@ -38,6 +38,7 @@ use Rattle.sums.proofs.after.Reads as after-reads
 use Rattle.sums.proofs.closing.Reads as closing-reads
 use Rattle.sums.proofs.op_at.Reads as op-at-reads
 use Rattle.sums.proofs.past.Reads as past-reads
+use Rattle.sums.proofs.past_sign.Reads as past-sign-reads
 use Rattle.sums.proofs.trail.Reads as trail-reads
 use Rattle.leaves.proofs.storing.insert.Reads as insert-reads
 use Rattle.sums.proofs.+atom+more+operand+product+sum+tier.{statement}
@@ -99,7 +100,7 @@ tier-below t = and 2 tier-kinds.ps (falls 2 tier-kinds.ps _<_ μ-tier t) tier.Pr
 
 -- what the calls ask and give, those of the cycle below t
 abbrev K-atom : ℕ → atom-lts.Claims
-K-atom t = (look-reads.Asked, look-reads.Learnt, tier-below t, tier.Post, closing-reads.Asked, closing-reads.Learnt, sign-of-reads.Asked, sign-of-reads.Learnt, leaf-reads.Asked, leaf-reads.Learnt, past-reads.Asked, past-reads.Learnt, atom-below t, atom.Post, insert-reads.Asked, insert-reads.Learnt)
+K-atom t = (look-reads.Asked, look-reads.Learnt, tier-below t, tier.Post, closing-reads.Asked, closing-reads.Learnt, sign-of-reads.Asked, sign-of-reads.Learnt, leaf-reads.Asked, leaf-reads.Learnt, past-sign-reads.Asked, past-sign-reads.Learnt, atom-below t, atom.Post, insert-reads.Asked, insert-reads.Learnt)
 
 abbrev K-more : ℕ → more-lts.Claims
 K-more t = (look-reads.Asked, look-reads.Learnt, op-at-reads.Asked, op-at-reads.Learnt, past-reads.Asked, past-reads.Learnt, tier-below t, tier.Post, insert-reads.Asked, insert-reads.Learnt, more-below t, more.Post, after-reads.Asked, after-reads.Learnt)
@@ -223,8 +224,8 @@ atom-leaf-requires t c κs =
 atom-returns-3 : (t : ℕ) → atom-lts.Need-returns-3 (K-atom t) (atom-at t) atom.Post
 atom-returns-3 t c = search needs
 
-atom-past-requires : (t : ℕ) → atom-lts.Need-past-requires (K-atom t) (atom-at t) atom.Post
-atom-past-requires t c κs =
+atom-past-sign-requires : (t : ℕ) → atom-lts.Need-past-sign-requires (K-atom t) (atom-at t) atom.Post
+atom-past-sign-requires t c κs =
     let a = c .before .before .before .before .before .args in
     let s = a .s .now in
     let o = a .out .now in
@@ -235,8 +236,8 @@ atom-sub-atom t c =
     let a = c .before .before .before .before .before .before .args in
     let s = a .s .now in
     let o = a .out .now in
-    let k = c .past .result in
-    let kp = c .past .ensures in
+    let k = c .past-sign .result in
+    let kp = c .past-sign .ensures in
     kp .1
 
 atom-part-atom-start : (t : ℕ) → atom-lts.Need-part-atom-start (K-atom t) (atom-at t) atom.Post
@@ -244,8 +245,8 @@ atom-part-atom-start t c =
     let a = c .before .before .before .before .before .before .args in
     let s = a .s .now in
     let o = a .out .now in
-    let k = c .past .result in
-    let kp = c .past .ensures in
+    let k = c .past-sign .result in
+    let kp = c .past-sign .ensures in
     kp .1
 
 atom-part-atom-end : (t : ℕ) → atom-lts.Need-part-atom-end (K-atom t) (atom-at t) atom.Post
@@ -256,8 +257,8 @@ atom-atom-requires t c κs =
     let a = c .before .before .before .before .before .before .before .before .args in
     let s = a .s .now in
     let o = a .out .now in
-    let k = c .before .before .past .result in
-    let kp = c .before .before .past .ensures in
+    let k = c .before .before .past-sign .result in
+    let kp = c .before .before .past-sign .ensures in
     (omega (arith, part-length k s, kp .0, kp .1, c .before .before .before .before .before .before .before .before .pre .0), (c .before .before .before .before .before .before .before .before .pre .1 .0, c .before .before .before .before .before .before .before .before .pre .1 .1))
 
 atom-enum-known-r-3 : (t : ℕ) → atom-lts.Need-enum-known-r-3 (K-atom t) (atom-at t) atom.Post
@@ -268,8 +269,8 @@ atom-insert-requires t c κs =
     let a = c .before .before .before .before .before .before .before .before .before .before .before .before .before .args in
     let s = a .s .now in
     let o = a .out .now in
-    let k = c .before .before .before .before .before .before .before .past .result in
-    let kp = c .before .before .before .before .before .before .before .past .ensures in
+    let k = c .before .before .before .before .before .before .before .past-sign .result in
+    let kp = c .before .before .before .before .before .before .before .past-sign .ensures in
     let g = subst (λ x. Answered alone (drop k s) (o) (c .before .before .before .before .atom .last .1 .0) (a .at) x) (c .before .before .r3 .given .1)
     (of-rest alone k s (o) (c .before .before .before .before .atom .last .1 .0) (a .at) (c .before .before .before .before .atom .result) (c .before .before .before .before .atom .ensures)) in
     let n = c .before .before .r3 .given .0 .0 in
@@ -282,8 +283,8 @@ atom-add-t32 t c =
     let a = c .before .before .before .before .before .before .before .before .before .before .before .before .before .before .args in
     let s = a .s .now in
     let o = a .out .now in
-    let k = c .before .before .before .before .before .before .before .before .past .result in
-    let kp = c .before .before .before .before .before .before .before .before .past .ensures in
+    let k = c .before .before .before .before .before .before .before .before .past-sign .result in
+    let kp = c .before .before .before .before .before .before .before .before .past-sign .ensures in
     let g = subst (λ x. Answered alone (drop k s) (o) (c .before .before .before .before .before .atom .last .1 .0) (a .at) x) (c .before .before .before .r3 .given .1)
     (of-rest alone k s (o) (c .before .before .before .before .before .atom .last .1 .0) (a .at) (c .before .before .before .before .before .atom .result) (c .before .before .before .before .before .atom .ensures)) in
     let n = c .before .before .before .r3 .given .0 .0 in
@@ -298,8 +299,8 @@ atom-add-t33 t c =
     let a = c .before .before .before .before .before .before .before .before .before .before .before .before .args in
     let s = a .s .now in
     let o = a .out .now in
-    let k = c .before .before .before .before .before .before .past .result in
-    let kp = c .before .before .before .before .before .before .past .ensures in
+    let k = c .before .before .before .before .before .before .past-sign .result in
+    let kp = c .before .before .before .before .before .before .past-sign .ensures in
     let g = subst (λ x. Answered alone (drop k s) (o) (c .before .before .before .atom .last .1 .0) (a .at) x) (c .before .r4 .given .1)
     (of-rest alone k s (o) (c .before .before .before .atom .last .1 .0) (a .at) (c .before .before .before .atom .result) (c .before .before .before .atom .ensures)) in
     let n = c .before .r4 .given .0 .0 in
@@ -310,8 +311,8 @@ atom-returns-4 t c =
     let a = c .before .before .before .before .before .before .before .before .before .before .before .before .before .before .args in
     let s = a .s .now in
     let o = a .out .now in
-    let k = c .before .before .before .before .before .before .before .before .past .result in
-    let kp = c .before .before .before .before .before .before .before .before .past .ensures in
+    let k = c .before .before .before .before .before .before .before .before .past-sign .result in
+    let kp = c .before .before .before .before .before .before .before .before .past-sign .ensures in
     let g = subst (λ x. Answered alone (drop k s) (o) (c .before .before .before .before .before .atom .last .1 .0) (a .at) x) (c .before .before .before .r3 .given .1)
     (of-rest alone k s (o) (c .before .before .before .before .before .atom .last .1 .0) (a .at) (c .before .before .before .before .before .atom .result) (c .before .before .before .before .before .atom .ensures)) in
     let n = c .before .before .before .r3 .given .0 .0 in
@@ -323,8 +324,8 @@ atom-returns-5 t c =
     let a = c .before .before .before .before .before .before .before .before .before .before .before .before .args in
     let s = a .s .now in
     let o = a .out .now in
-    let k = c .before .before .before .before .before .before .past .result in
-    let kp = c .before .before .before .before .before .before .past .ensures in
+    let k = c .before .before .before .before .before .before .past-sign .result in
+    let kp = c .before .before .before .before .before .before .past-sign .ensures in
     let g = subst (λ x. Answered alone (drop k s) (o) (c .before .before .before .atom .last .1 .0) (a .at) x) (c .before .r4 .given .1)
     (of-rest alone k s (o) (c .before .before .before .atom .last .1 .0) (a .at) (c .before .before .before .atom .result) (c .before .before .before .atom .ensures)) in
     let n = c .before .r4 .given .0 .0 in
@@ -865,7 +866,7 @@ pub +atom+more+operand+product+sum+tier-spec : {M : Type 1} → statement M
     (atom-sign-of-requires t)
     (atom-leaf-requires t)
     (atom-returns-3 t)
-    (atom-past-requires t)
+    (atom-past-sign-requires t)
     (atom-sub-atom t)
     (atom-part-atom-start t)
     (atom-part-atom-end t)

@@ -19,6 +19,7 @@ use Rattle.leaves.proofs.operands.leaf.Statement.{statement}
 use Rattle.leaves.proofs.operands.leaf.Tie as tie
 use Rattle.leaves.proofs.operands.leaf.Reads as reads
 use Rattle.leaves.proofs.operands.leaf.Lts as lts
+use Rattle.leaves.proofs.operands.blank.Reads as blank-reads
 use Rattle.leaves.proofs.operands.global.Reads as global-reads
 use Rattle.leaves.proofs.operands.local.Reads as local-reads
 use Rattle.leaves.proofs.operands.minus.Reads as minus-reads
@@ -59,11 +60,19 @@ local-requires c κs = search needs
 returns-4 : tie.Need-returns-4
 returns-4 c = search needs
 
+blank-requires : tie.Need-blank-requires
+blank-requires c κs =
+    (sym (c .before .before .before .before .before .before .look .ensures) ∙ c .if5 .taken, c .before .before .before .before .before .before .before .before .pre .2)
+
 returns-5 : tie.Need-returns-5
-returns-5 c =
-    let s = c .before .before .before .before .before .before .before .args .s .now in
-    let k = c .before .before .before .before .before .look .ensures in
-    (nones (none-starts s (ap isDecimal (sym k) ∙ sym (c .before .before .before .before .is-decimal .ensures) ∙ c .before .before .before .if1 .left) (λ e. c .before .before .if2 .left (k ∙ e)) (λ e. c .before .if3 .left (k ∙ e)) (λ e. c .if4 .left (k ∙ e)) (c .before .before .before .before .before .before .before .pre .3) (c .before .before .before .before .before .before .before .pre .2)), omega arith)
+returns-5 c = (nones (c .blank .ensures .0), c .blank .ensures .1)
+
+returns-6 : tie.Need-returns-6
+returns-6 c =
+    let s = c .before .before .before .before .before .before .before .before .args .s .now in
+    let k = c .before .before .before .before .before .before .look .ensures in
+    let pre = c .before .before .before .before .before .before .before .before .pre in
+    (nones (none-starts s (ap isDecimal (sym k) ∙ sym (c .before .before .before .before .before .is-decimal .ensures) ∙ c .before .before .before .before .if1 .left) (λ e. c .before .before .before .if2 .left (k ∙ e)) (λ e. c .before .before .if3 .left (k ∙ e)) (λ e. c .before .if4 .left (k ∙ e)) (pre .3) (λ e. c .if5 .left (k ∙ e)) (pre .2)), omega arith)
 
 pub leaf-spec : {M : Type 1} → statement M
 leaf-spec =
@@ -79,4 +88,6 @@ leaf-spec =
     returns-3
     local-requires
     returns-4
-    returns-5)
+    blank-requires
+    returns-5
+    returns-6)
