@@ -170,7 +170,7 @@ fit-compact i j k q (s ∷ p) e = on (view s) e (fit-compact (suc i) j (enter k 
         let z : settles j q s ≡ ok tt = settles-moved i j q s (h .1) in
         rw (compact-live s p l, z, _>>_) (later (h .2))
 
-define-compact : (above : List Entry) (i j k q : ℕ) (p : Program) (names : List Entry) → defineAll above (placedFrom i k q p) ≡ ok names → defineAll above (placedFrom j k q (compact p)) ≡ ok names
+pub define-compact : (above : List Entry) (i j k q : ℕ) (p : Program) (names : List Entry) → defineAll above (placedFrom i k q p) ≡ ok names → defineAll above (placedFrom j k q (compact p)) ≡ ok names
 unfolding defineAll placedFrom compact _>>=_
 define-compact above i j k q [] names e = e
 define-compact above i j k q (s ∷ p) names e =

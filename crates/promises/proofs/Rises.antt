@@ -159,7 +159,7 @@ by-sets P then one p q (bounce f) =
     (one p (f .i) (placed₂ f) (instr-shorter (at p (f .i)) _ _ _ _ _ _ (f .branch-at) (omega arith))))))
 by-sets P then one p q (shrink h) = rw (h .new) (one p (h .i) (instr (h .f) (h .x .args) (h .x .carried)) (instr-shorter (at p (h .i)) _ _ _ _ _ _ (h .far-at) (omega (arith, h .smaller))))
 
-step-lowers : (p q : Program) → Step p q → (j : Placeℕ) → position q j ≤ position p j
+pub step-lowers : (p q : Program) → Step p q → (j : Placeℕ) → position q j ≤ position p j
 step-lowers =
     by-sets (λ a b. (j : Placeℕ) → position a j ≤ position b j) (λ a b c x y j. omega (arith, x j, y j))
     (λ p i t x. set-lowers p i t (λ a. omega (arith, x .new a .0, x .old a .0, x .fewer)))

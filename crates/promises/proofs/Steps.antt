@@ -8,13 +8,13 @@ use lib.Dec.{eqb, ltb}
 use lib.ListN.{length, set, getD}
 use borrow.Author.Tests.{eqb-true, ltb-true, not-true}
 use Rattle.laws.specs.Options.{given, firstOf}
-use Rattle.laws.specs.Lists.{every}
+use Rattle.laws.specs.Lists.{every, isOneOf}
 use Rattle.laws.proofs.Tests.{and-true}
 use Rattle.laws.proofs.Lists.{every-at}
 use Rattle.laws.proofs.Options.{bind-some, given-some, orElse-either, firstOf-some, firstFrom-some}
 use Rattle.rules.specs.declared.Settings.{Settings}
 use Rattle.rules.specs.Expressions.{name}
-use Rattle.rules.specs.Forms.{sizeAt, formAt, isTransfer, isUnconditional, jmp, jmpf, br, call, callf, Pair, pairs}
+use Rattle.rules.specs.Forms.{sizeAt, formAt, isTransfer, isUnconditional, jmp, jmpf, br, call, callf, Pair, pairs, branches}
 use Rattle.rules.specs.Programs.{Placeℕ, value, instr, label, Program, at, Instruction, asInstr, lastOf}
 use Rattle.rules.specs.Names.{isLocal, contextAt, Entry}
 use Rattle.rules.specs.Judging.{namesOf}
@@ -73,6 +73,7 @@ pub record Trampoline (p q : Program) : Type 0 where
   pub last : Instruction
   pub t : ℕ
   pub s : ℕ
+  pub kind : isOneOf branches f ≡ true
   pub transfers : isTransfer f ≡ true
   pub conditional : isUnconditional f ≡ false
   pub j-is : j ≡ next p (suc i)
@@ -108,6 +109,8 @@ pub record Shrunk (p q : Program) : Type 0 where
   pub far-transfers : isTransfer (x .form) ≡ true
   pub transfers : isTransfer f ≡ true
   pub jump-or-call : (isUnconditional (x .form) && isUnconditional f) || eqb (x .form) callf ≡ true
+  pub as-call : not (eqb (x .form) callf) || eqb f call ≡ true
+  pub no-change-jump : not (eqb (x .form) jmpf) || not (isChangeJump (namesOf p) p i) ≡ true
   pub none-inside : noInteriorLabelAt p i ≡ true
   pub good : acceptable q ≡ true
   pub new : q ≡ set p i (instr f (x .args) (x .carried))
@@ -144,7 +147,7 @@ stands-for-true a b e =
 
 abbrev fine : Pattern → Bool
 fine (inverted a b) = eqb (sizeAt b) (sizeAt a) && (stands-for a b && (not (isUnconditional a) && eqb b (otherOf pairs a)))
-fine (trampoline f) = isTransfer f && not (isUnconditional f)
+fine (trampoline f) = isOneOf branches f && (isTransfer f && not (isUnconditional f))
 
 patterns-fine : (asked : Settings) → every fine (patternsFor asked) ≡ true
 unfolding every isTransfer formAt
@@ -235,7 +238,8 @@ trampoline-some f ok p i q e =
     let t₂ = and-true skips once (t₁ .1) in
     let t₃ = and-true between inside (h .0) in
     let c = candidate-some new q (h .1) in
-    let k = and-true (isTransfer f) (not (isUnconditional f)) ok in
+    let k₀ = and-true (isOneOf branches f) (isTransfer f && not (isUnconditional f)) ok in
+    let k = and-true (isTransfer f) (not (isUnconditional f)) (k₀ .1) in
     let ys = unconditional-some (at p j) (y .0) (y .1) in
     let ts = localLabel-some (at p m) (t .0) (t .1) in
     let xs = unconditional-some (at p u) (x .0) (x .1) in
@@ -252,6 +256,7 @@ trampoline-some f ok p i q e =
       last = x .0;
       t = t .0;
       s = s .0;
+      kind = k₀ .0;
       transfers = k .0;
       conditional = not-true (isUnconditional f) (k .1);
       j-is = refl;
@@ -286,12 +291,28 @@ patternAt-some (trampoline f) ok p i q e = bounce (trampoline-some f ok p i q e)
 abbrev tries : ℕ → ℕ → Bool
 tries f g = ltb (sizeAt g) (sizeAt f) && (stands-for f g && ((isUnconditional f && isUnconditional g) || eqb f callf))
 
+-- c says that it is a change jump
+abbrev allows : Bool → ℕ → ℕ → Bool
+allows c f g = (not (eqb f callf) || eqb g call) && (not (eqb f jmpf) || not c)
+
 tried : (asked : Settings) (names : List Entry) (p : Program) (i : Placeℕ) (f : ℕ) → every (tries f) (shorter asked names p i f) ≡ true
 unfolding shorter every isTransfer formAt
 tried asked names p i f = on (eqb f jmpf) refl (isChangeJump names p i) (eqb f callf) refl (asked .callf)
   where
     on : (a : Bool) → eqb f jmpf ≡ a → (c : Bool) (b : Bool) → eqb f callf ≡ b → (w : Bool)
         → every (tries f) (cond a (cond c [] (br ∷ jmp ∷ [])) (cond b (cond w (call ∷ []) []) [])) ≡ true
+    on true e true b d w = refl
+    on true e false b d w = rw (eqb-true f jmpf e)
+    on false e c true d true = rw (eqb-true f callf d)
+    on false e c true d false = refl
+    on false e c false d w = refl
+
+allowed : (asked : Settings) (names : List Entry) (p : Program) (i : Placeℕ) (f : ℕ) → every (allows (isChangeJump names p i) f) (shorter asked names p i f) ≡ true
+unfolding shorter every
+allowed asked names p i f = on (eqb f jmpf) refl (isChangeJump names p i) (eqb f callf) refl (asked .callf)
+  where
+    on : (a : Bool) → eqb f jmpf ≡ a → (c : Bool) (b : Bool) → eqb f callf ≡ b → (w : Bool)
+        → every (allows c f) (cond a (cond c [] (br ∷ jmp ∷ [])) (cond b (cond w (call ∷ []) []) [])) ≡ true
     on true e true b d w = refl
     on true e false b d w = rw (eqb-true f jmpf e)
     on false e c true d true = rw (eqb-true f callf d)
@@ -312,6 +333,9 @@ shrinkAt-some asked p i q e =
     let k = and-true (ltb (sizeAt f) (sizeAt (x .form))) (stands-for (x .form) f && ((isUnconditional (x .form) && isUnconditional f) || eqb (x .form) callf)) t in
     let l = and-true (stands-for (x .form) f) ((isUnconditional (x .form) && isUnconditional f) || eqb (x .form) callf) (k .1) in
     let kk = stands-for-true (x .form) f (l .0) in
+    let ch : Bool = isChangeJump (namesOf p) p i in
+    let t₂ = every-at (allows ch (x .form)) (shorter asked (namesOf p) p i (x .form)) (o .place) 0 (o .within) (allowed asked (namesOf p) p i (x .form)) in
+    let l₂ = and-true (not (eqb (x .form) callf) || eqb f call) (not (eqb (x .form) jmpf) || not ch) t₂ in
     record {
       f = f;
       i = i;
@@ -323,6 +347,8 @@ shrinkAt-some asked p i q e =
       far-transfers = kk .old;
       transfers = kk .new;
       jump-or-call = l .1;
+      as-call = l₂ .0;
+      no-change-jump = l₂ .1;
       none-inside = g .0;
       good = c .0;
       new = c .1;

@@ -28,22 +28,22 @@ use Rattle.walk.proofs.Rewrites.{Change, folded, change-resolved, chang
 use Rattle.walk.proofs.Alikes.{isIn, at-drop, inner-outside, Alike, folded-alike, branch-lands}
 
 -- ---- one reference
-mention-last : (w : Expr → ℕ) (xs : List Operand) (e : Expr) → lastOf xs ≡ value e → w e ≤ total (inOperand w) xs
+pub mention-last : (w : Expr → ℕ) (xs : List Operand) (e : Expr) → lastOf xs ≡ value e → w e ≤ total (inOperand w) xs
 unfolding total
 mention-last w [] e h = clash (cc)
 mention-last w (x ∷ []) e h = rw h (omega arith)
 mention-last w (x ∷ y ∷ xs) e h = omega (arith, mention-last w (y ∷ xs) e h)
 
-abbrev mentioned : ℕ → Expr → ℕ
+abbrev pub mentioned : ℕ → Expr → ℕ
 mentioned t e = mentions (λ m. eqb m t) e
 
-abbrev weighs : (k t : ℕ) → Placed → ℕ
+abbrev pub weighs : (k t : ℕ) → Placed → ℕ
 weighs k t x = cond (eqb (x .context) k) (overExprs (λ e. mentions (λ m. eqb m t) e) (x .stmt)) 0
 
-nowhere : Placed
+pub nowhere : Placed
 nowhere = record { place = 0; context = 0; position = 0; stmt = gone }
 
-refers-once : (p : Program) (k t n f : ℕ) (xs : List Operand) (c : ℕ) → at p n ≡ instr f xs c → lastOf xs ≡ value (name t) → contextAt p n ≡ k
+pub refers-once : (p : Program) (k t n f : ℕ) (xs : List Operand) (c : ℕ) → at p n ≡ instr f xs c → lastOf xs ≡ value (name t) → contextAt p n ≡ k
     → 1 ≤ weighs k t (getD (placed p) n nowhere)
 unfolding mentions
 refers-once p k t n f xs c s l z =
@@ -52,7 +52,7 @@ refers-once p k t n f xs c s l z =
     ap (weighs k t) (placed-at p n nowhere (instr-inside p n f xs c s)) ∙ rw (z, eq-eqb k k refl, s) in
     omega (arith, mention-last (λ e. mentions (λ m. eqb m t) e) xs (name t) l)
 
-refers-twice : (p : Program) (k t n i f g : ℕ) (xs ys : List Operand) (c d : ℕ) → n ≢ i → at p n ≡ instr f xs c → lastOf xs ≡ value (name t) → contextAt p n ≡ k
+pub refers-twice : (p : Program) (k t n i f g : ℕ) (xs ys : List Operand) (c d : ℕ) → n ≢ i → at p n ≡ instr f xs c → lastOf xs ≡ value (name t) → contextAt p n ≡ k
     → at p i ≡ instr g ys d → lastOf ys ≡ value (name t) → contextAt p i ≡ k → 2 ≤ references k t p
 unfolding references
 refers-twice p k t n i f g xs ys c d ne s l z s′ l′ z′ =
@@ -61,36 +61,36 @@ refers-twice p k t n i f g xs ys c d ne s l z s′ l′ z′ =
     omega (arith, total-two (weighs k t) (placed p) n i nowhere a b ne, refers-once p k t n f xs c s l z, refers-once p k t i g ys d s′ l′ z′)
 
 -- ---- a trampoline
-local-context : (k l t : ℕ) → isLocal t ≡ true → keyOf k t ≡ keyOf l t → k ≡ l
+pub local-context : (k l t : ℕ) → isLocal t ≡ true → keyOf k t ≡ keyOf l t → k ≡ l
 local-context k l t h e = sym (cond-true (isLocal t) k 0 h) ∙ ap (λ (x : Key). x .context) e ∙ cond-true (isLocal t) l 0 h
 
 module _ {p q : Program} (f : Trampoline p q) where
-  abbrev put₂ : Stmt
+  abbrev pub put₂ : Stmt
   put₂ = aimed (f .f) (f .b) (f .last)
 
-  abbrev dropped : List ℕ
+  abbrev pub dropped : List ℕ
   dropped = f .j ∷ f .m ∷ f .u ∷ []
 
-  made-new : (n : ℕ) → at q n ≡ cond (isIn n dropped) gone (at (set p (f .i) put₂) n)
+  pub made-new : (n : ℕ) → at q n ≡ cond (isIn n dropped) gone (at (set p (f .i) put₂) n)
   made-new n = rw (f .new) (at-drop dropped (set p (f .i) put₂) n)
 
-  made-i : at q (f .i) ≡ put₂
+  pub made-i : at q (f .i) ≡ put₂
   made-i =
       made-new (f .i)
       ∙ rw (ne-eqb (f .i) (f .j) (λ e. omega (arith, order f)), ne-eqb (f .i) (f .m) (λ e. omega (arith, order f)), ne-eqb (f .i) (f .u) (λ e. omega (arith, order f)))
       (getD-set-same p (f .i) put₂ gone (instr-inside p (f .i) _ _ _ (f .branch-at)))
 
-  made-j : at q (f .j) ≡ gone
+  pub made-j : at q (f .j) ≡ gone
   made-j = made-new (f .j) ∙ rw (eq-eqb (f .j) (f .j) refl)
 
-  made-m : at q (f .m) ≡ gone
+  pub made-m : at q (f .m) ≡ gone
   made-m = made-new (f .m) ∙ rw (eq-eqb (f .m) (f .m) refl) (either (eqb (f .m) (f .j)))
     where
       either : (b : Bool) → cond (b || true) gone (at (set p (f .i) put₂) (f .m)) ≡ gone
       either true = refl
       either false = refl
 
-  made-u : at q (f .u) ≡ gone
+  pub made-u : at q (f .u) ≡ gone
   made-u = made-new (f .u) ∙ rw (eq-eqb (f .u) (f .u) refl) (either (eqb (f .u) (f .j)) (eqb (f .u) (f .m)))
     where
       either : (a b : Bool) → cond (a || (b || true)) gone (at (set p (f .i) put₂) (f .u)) ≡ gone
@@ -98,18 +98,18 @@ module _ {p q : Program} (f : Trampoline p q) where
       either false true = refl
       either false false = refl
 
-  made-else : (n : ℕ) → n ≢ f .i → n ≢ f .j → n ≢ f .m → n ≢ f .u → at q n ≡ at p n
+  pub made-else : (n : ℕ) → n ≢ f .i → n ≢ f .j → n ≢ f .m → n ≢ f .u → at q n ≡ at p n
   made-else n a b c d = made-new n ∙ rw (ne-eqb n (f .j) b, ne-eqb n (f .m) c, ne-eqb n (f .u) d) (getD-set-other p (f .i) n put₂ gone a)
 
   -- a place behind the branch and up to S is one of the pattern's, or quiet
-  data Inside (n : ℕ) : Type 0 where
+  pub data Inside (n : ℕ) : Type 0 where
     is-j : n ≡ f .j → Inside n
     is-m : n ≡ f .m → Inside n
     is-u : n ≡ f .u → Inside n
     is-v : n ≡ f .v → Inside n
     is-quiet : n ≢ f .j → n ≢ f .m → n ≢ f .u → n ≢ f .v → insignificant (at p n) ≡ true → Inside n
 
-  inside-is : (n : ℕ) → f .i < n → n ≤ f .v → Inside n
+  pub inside-is : (n : ℕ) → f .i < n → n ≤ f .v → Inside n
   inside-is n a b = split (eq-or-not n (f .j)) (eq-or-not n (f .m)) (eq-or-not n (f .u)) (eq-or-not n (f .v))
     where
       quietly : n ≢ f .j → n ≢ f .m → n ≢ f .u → n ≢ f .v → insignificant (at p n) ≡ true
@@ -126,7 +126,7 @@ module _ {p q : Program} (f : Trampoline p q) where
       split (inr x) (inr y) (inr z) (inl e) = is-v e
       split (inr x) (inr y) (inr z) (inr w) = is-quiet x y z w (quietly x y z w)
 
-  steady-on : (n : ℕ) → f .i < n → n ≤ f .v → (k : ℕ) → enter k (at p n) ≡ k
+  pub steady-on : (n : ℕ) → f .i < n → n ≤ f .v → (k : ℕ) → enter k (at p n) ≡ k
   steady-on n a b k = split (inside-is n a b)
     where
       split : Inside n → enter k (at p n) ≡ k
@@ -136,10 +136,10 @@ module _ {p q : Program} (f : Trampoline p q) where
       split (is-v e) = rw (e, f .s-at) (label-enters (f .s) k (f .s-local))
       split (is-quiet x y z w h) = quiet-enters (at p n) k h
 
-  context-of : (n : ℕ) → f .i < n → n ≤ f .v → contextAt p n ≡ contextAt p (f .i)
+  pub context-of : (n : ℕ) → f .i < n → n ≤ f .v → contextAt p n ≡ contextAt p (f .i)
   context-of n a b = steady p (f .i) n (omega arith) (λ l x y k. steady-on l x (omega arith) k)
 
-  made-contexts : (n : ℕ) → contextAt q n ≡ contextAt p n
+  pub made-contexts : (n : ℕ) → contextAt q n ≡ contextAt p n
   made-contexts = same-context p q (λ n k. split n k (eq-or-not n (f .i)) (eq-or-not n (f .j)) (eq-or-not n (f .m)) (eq-or-not n (f .u)))
     where
       split : (n k : ℕ) → (n ≡ f .i) ⊎ (n ≢ f .i) → (n ≡ f .j) ⊎ (n ≢ f .j) → (n ≡ f .m) ⊎ (n ≢ f .m) → (n ≡ f .u) ⊎ (n ≢ f .u) → enter k (at q n) ≡ enter k (at p n)
@@ -149,11 +149,11 @@ module _ {p q : Program} (f : Trampoline p q) where
       split n k (inr x) (inr y) (inr z) (inl e) = rw (e, made-u, f .last-at)
       split n k (inr x) (inr y) (inr z) (inr w) = rw (made-else n x y z w)
 
-  not-instr₂ : (d l : ℕ) → at p d ≡ label l → (i g : ℕ) (xs : List Operand) (c : ℕ) → d ≡ i → at p i ≡ instr g xs c → ⊥
+  pub not-instr₂ : (d l : ℕ) → at p d ≡ label l → (i g : ℕ) (xs : List Operand) (c : ℕ) → d ≡ i → at p i ≡ instr g xs c → ⊥
   not-instr₂ d l e i g xs c y s = let z : at p d ≡ at p i = ap (at p) y in clash (cc)
 
   -- only the branch names T
-  not-T : (n g c : ℕ) (xs : List Operand) (d l : ℕ) → n ≢ f .i → at p n ≡ instr g xs c → lastOf xs ≡ value (name l) → at p d ≡ label l → keyOf (contextAt p d) l ≡ keyOf (contextAt p n) l → d ≢ f .m
+  pub not-T : (n g c : ℕ) (xs : List Operand) (d l : ℕ) → n ≢ f .i → at p n ≡ instr g xs c → lastOf xs ≡ value (name l) → at p d ≡ label l → keyOf (contextAt p d) l ≡ keyOf (contextAt p n) l → d ≢ f .m
   not-T n g c xs d l ne s t e z y =
       let there : at p d ≡ label (f .t) = ap (at p) y ∙ f .t-at in
       let same : l ≡ f .t = cc in
@@ -164,7 +164,7 @@ module _ {p q : Program} (f : Trampoline p q) where
       (f .branch-at) (f .bare) (sym (context-of (f .m) (omega (arith, order f)) (omega (arith, order f)))) in
       omega (arith, f .once)
 
-  outside₂ : (d l : ℕ) → at p d ≡ label l → d ≢ f .m → (d ≤ f .i) ⊎ (f .v ≤ d)
+  pub outside₂ : (d l : ℕ) → at p d ≡ label l → d ≢ f .m → (d ≤ f .i) ⊎ (f .v ≤ d)
   outside₂ d l e ne = ⊎-elim (λ a. ⊎-elim (λ b. inl (absurd (split (inside-is d a (omega arith)) b))) (λ b. inr b) (lt-or-le d (f .v))) (λ a. inl a) (lt-or-le (f .i) d)
     where
       split : Inside d → d < f .v → ⊥
@@ -174,7 +174,7 @@ module _ {p q : Program} (f : Trampoline p q) where
       split (is-v z) b = omega arith
       split (is-quiet x y z w h) b = false-true (sym (ap insignificant e) ∙ h)
 
-  change-bounced : Change p q
+  unfoldable pub change-bounced : Change p q
   change-bounced =
       record {
         i = f .i;

@@ -37,40 +37,40 @@ other-branch false = refl
 
 -- ---- an inverted fold
 module _ {p q : Program} (f : Inverted p q) where
-  ij : f .i < f .j
+  pub ij : f .i < f .j
   ij = jump-behind f
 
-  jm : f .j < f .m
+  pub jm : f .j < f .m
   jm = omega (arith, f .m-is, next-from p (suc (f .j)))
 
-  abbrev put : Stmt
+  abbrev pub put : Stmt
   put = aimed (f .to) (f .b) (f .jump)
 
-  at-new : (n : ℕ) → at q n ≡ cond (isIn n (f .j ∷ [])) gone (at (set p (f .i) put) n)
+  pub at-new : (n : ℕ) → at q n ≡ cond (isIn n (f .j ∷ [])) gone (at (set p (f .i) put) n)
   at-new n = rw (f .new) (at-drop (f .j ∷ []) (set p (f .i) put) n)
 
-  at-i : at q (f .i) ≡ put
+  pub at-i : at q (f .i) ≡ put
   at-i = at-new (f .i) ∙ rw (ne-eqb (f .i) (f .j) (λ e. omega (arith, ij))) (getD-set-same p (f .i) put gone (instr-inside p (f .i) _ _ _ (f .branch-at)))
 
-  at-j : at q (f .j) ≡ gone
+  pub at-j : at q (f .j) ≡ gone
   at-j = at-new (f .j) ∙ rw (eq-eqb (f .j) (f .j) refl)
 
-  at-else : (n : ℕ) → n ≢ f .i → n ≢ f .j → at q n ≡ at p n
+  pub at-else : (n : ℕ) → n ≢ f .i → n ≢ f .j → at q n ≡ at p n
   at-else n a b = at-new n ∙ rw (ne-eqb n (f .j) b) (getD-set-other p (f .i) n put gone a)
 
-  quiet : (n : ℕ) → f .i < n → n < f .m → n ≢ f .j → insignificant (at p n) ≡ true
+  pub quiet : (n : ℕ) → f .i < n → n < f .m → n ≢ f .j → insignificant (at p n) ≡ true
   quiet n a b ne = ⊎-elim (λ h. next-before p (suc (f .i)) (f .j) (f .j-is) n a h) (λ h. next-before p (suc (f .j)) (f .m) (f .m-is) n (omega arith) b) (lt-or-le n (f .j))
 
-  steady-to : (n : ℕ) → f .i < n → n ≤ f .m → (k : ℕ) → enter k (at p n) ≡ k
+  pub steady-to : (n : ℕ) → f .i < n → n ≤ f .m → (k : ℕ) → enter k (at p n) ≡ k
   steady-to n a b k =
       ⊎-elim (λ (e : n ≡ f .j). rw (e, f .jump-at))
       (λ ne. ⊎-elim (λ (e : n ≡ f .m). rw (e, f .label-at) (label-enters (f .n) k (f .local))) (λ ne′. quiet-enters (at p n) k (quiet n a (omega arith) ne)) (eq-or-not n (f .m))) (eq-or-not n (f .j))
 
-  same-contexts : (n : ℕ) → contextAt q n ≡ contextAt p n
+  pub same-contexts : (n : ℕ) → contextAt q n ≡ contextAt p n
   same-contexts = same-context p q (λ n k.
       ⊎-elim (λ (e : n ≡ f .i). rw (e, at-i, f .branch-at)) (λ ne. ⊎-elim (λ (e : n ≡ f .j). rw (e, at-j, f .jump-at)) (λ ne′. rw (at-else n ne ne′)) (eq-or-not n (f .j))) (eq-or-not n (f .i)))
 
-  change-inverted : Change p q
+  unfoldable pub change-inverted : Change p q
   change-inverted =
       record {
         i = f .i;
