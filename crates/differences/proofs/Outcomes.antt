@@ -12,7 +12,7 @@ use Rattle.laws.specs.Lists.{same}
 use Rattle.laws.proofs.Tests.{clash}
 use Rattle.rules.specs.declared.Refusal.{Refusal}
 use Rattle.rules.specs.declared.Refusal.the-variants.{Broken, Room, Pairing}
-use Rattle.rules.specs.Answers.{atPlace, Judged, ok, no, _>>=_, require, isOk}
+use Rattle.rules.specs.Answers.{atPlace, Judged, ok, no, require, isOk}
 use Rattle.rules.specs.Programs.{Program}
 use Rattle.rules.specs.Listing.{ListingForm, linesOf, formIn, readListing}
 use Rattle.digits.specs.Digits.{laid}
@@ -88,17 +88,16 @@ module _ (first second : List ℕ) (pairing : Option (List ℕ)) (d : List ℕ) 
   first-refused r e = rw e (record { answer = refl; room = refl })
 
   module _ (p : Program) (e : readListing first ≡ ok p) where
-    pub second-refused : (r : Refusal) → readListing second ≡ no r → Leaves whole (OfSecond r) d d
-    unfolding differences readSecond _>>=_
-    second-refused r f = rw (e, f) (record { answer = refl; room = refl })
+    pub other-form : sameForm (formIn (linesOf first)) (formIn (linesOf second)) ≡ false → Leaves whole (OfSecond (Broken (atPlace 0))) d d
+    unfolding differences readSecond require
+    other-form g = rw (e, g) (record { answer = refl; room = refl })
 
-    module _ (q : Program) (f : readListing second ≡ ok q) where
-      pub other-form : sameForm (formIn (linesOf first)) (formIn (linesOf second)) ≡ false
-          → Leaves whole (OfSecond (Broken (atPlace 0))) d d
-      unfolding differences readSecond _>>=_ require
-      other-form g = rw (e, f, g) (record { answer = refl; room = refl })
+    module _ (g : sameForm (formIn (linesOf first)) (formIn (linesOf second)) ≡ true) where
+      pub second-refused : (r : Refusal) → readListing second ≡ no r → Leaves whole (OfSecond r) d d
+      unfolding differences readSecond require
+      second-refused r f = rw (e, g, f) (record { answer = refl; room = refl })
 
-      pub both-read : sameForm (formIn (linesOf first)) (formIn (linesOf second)) ≡ true
+      pub both-read : (q : Program) → readListing second ≡ ok q
           → whole ≡ after ofBoth (compared (framesOf first) (framesOf second) pairing (length p) (length d)) text
-      unfolding differences readSecond _>>=_ require
-      both-read g = rw (e, f, g)
+      unfolding differences readSecond require
+      both-read q f = rw (e, g, f)

@@ -116,7 +116,8 @@ refusals =
     refuses "0143" "7D02 010000000143" none 262144 2 1 0 ∷
     refuses "" "7D02" none 262144 2 1 0 ∷
     refuses "7D02" "" none 262144 2 1 0 ∷
-    refuses "0143" "7D02 010000000143 99" none 262144 2 1 1 ∷
+    -- before its own lines
+    refuses "0143" "7D02 010000000143 99" none 262144 2 1 0 ∷
     refuses "0143" "0143" (some (5 ∷ [])) 0 3 13 0 ∷
     refusesIn (chars "0143") (chars "0143\n") 262144 1 1 0 ∷
     refusesIn (chars "0143\n") (chars "0143") 262144 2 1 0 ∷

@@ -13,7 +13,7 @@ use Rattle.laws.proofs.Lists.{each-append, same-refl}
 use Rattle.laws.proofs.Tests.{clash, true-false}
 use Rattle.rules.specs.declared.Refusal.{Refusal}
 use Rattle.rules.specs.declared.Refusal.the-variants.{Broken, Room, Pairing}
-use Rattle.rules.specs.Answers.{atPlace, Judged, ok, no, _>>=_, require}
+use Rattle.rules.specs.Answers.{atPlace, Judged, ok, no, require}
 use Rattle.rules.specs.Programs.{Program}
 use Rattle.rules.specs.Listing.{ListingForm, oldForm, newForm, linesOf, formIn, readListing}
 use Rattle.rules.specs.Output.{lineOf, markOf}
@@ -171,17 +171,11 @@ same-form-is newForm newForm e = refl
 
 leads-to : (first second : List ℕ) (ds : List Change) (p q : Program) → readListing first ≡ ok p → readSecond first second ≡ ok q
     → apply ds (framesOf first) ≡ framesOf second → applied ds first ≡ second
-unfolding readSecond _>>=_
-leads-to first second ds p q e f g = on (readListing second) refl f
-  where
-    on : (x : Judged Program) → readListing second ≡ x
-        → x >>= (λ q. require (sameForm (formIn (linesOf first)) (formIn (linesOf second))) (Broken (atPlace 0)) (ok q)) ≡ ok q
-        → applied ds first ≡ second
-    on (no r) z h = clash (cc h)
-    on (ok s) z h =
-        let w = same-form-is (formIn (linesOf first)) (formIn (linesOf second))
-        (required (sameForm (formIn (linesOf first)) (formIn (linesOf second))) (Broken (atPlace 0)) (ok s) q h .0) in
-        ap₂ (λ (w : ListingForm) (a : Frames). markOf w ++ each (λ f. lineOf f) a) w g ∙ sym (text-of-frames second s z)
+unfolding readSecond
+leads-to first second ds p q e f g =
+    let h = required (sameForm (formIn (linesOf first)) (formIn (linesOf second))) (Broken (atPlace 0)) (readListing second) q f in
+    let w = same-form-is (formIn (linesOf first)) (formIn (linesOf second)) (h .0) in
+    ap₂ (λ (w : ListingForm) (a : Frames). markOf w ++ each (λ f. lineOf f) a) w g ∙ sym (text-of-frames second q (h .1))
 
 -- ---- the whole
 after-text : {A : Type 0} (told : Refusal → Differing) (x : Judged A) (f : A → Differing) (t : List ℕ)

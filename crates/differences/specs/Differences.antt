@@ -8,7 +8,7 @@ use lib.Dec.{leb, eqb}
 use lib.ListN.{length}
 use Rattle.rules.specs.declared.Refusal.{Refusal}
 use Rattle.rules.specs.declared.Refusal.the-variants.{Broken, Room, Pairing}
-use Rattle.rules.specs.Answers.{atPlace, Judged, ok, no, _>>=_, require}
+use Rattle.rules.specs.Answers.{atPlace, Judged, ok, no, require}
 use Rattle.rules.specs.Programs.{Placeℕ, Program}
 use Rattle.rules.specs.Listing.{ListingForm, oldForm, newForm, linesOf, formIn, readListing}
 use Rattle.pairing.specs.Pairings.{Frames, framesOf, goodEntries, entriesIn, pairsOf}
@@ -32,11 +32,9 @@ sameForm oldForm newForm = false
 sameForm newForm oldForm = false
 sameForm newForm newForm = true
 
--- C-20: "in C-13 a second listing of the other form is 1, place 0", after its own 1 and 2
+-- C-20: "in C-13 a second listing of the other form is 1, place 0", before its own lines are judged
 unfoldable pub readSecond : (first second : List ℕ) → Judged Program
-readSecond first second = do
-  q ← readListing second
-  require (sameForm (formIn (linesOf first)) (formIn (linesOf second))) (Broken (atPlace 0)) (ok q)
+readSecond first second = require (sameForm (formIn (linesOf first)) (formIn (linesOf second))) (Broken (atPlace 0)) (readListing second)
 
 -- 13 gives the index of the first entry that is no good, 12 the first listing's statement count, which is n
 unfoldable pub compared : (a b : Frames) (pairing : Option (List ℕ)) (n room : ℕ) → Judged (List ℕ)

@@ -1,4 +1,4 @@
-// The entry: 1 and 2 of each listing, the second's form, 13, 12, and then the text.
+// The entry: 1 and 2 of the first listing, the second's form, its 1 and 2, 13, 12, and then the text.
 use crate::walks::Counts;
 use crate::walks::measure;
 use crate::walks::put_all;
@@ -159,12 +159,12 @@ pub fn differences(
         Counted::Refused(r) => return Differs::OfFirst(r),
         Counted::Are(n) => n,
     };
+    if !same_form(first, second) {
+        return Differs::OfSecond(Refusal::Broken(Place(0)));
+    }
     let m = match statements_of(second) {
         Counted::Refused(r) => return Differs::OfSecond(r),
         Counted::Are(m) => m,
     };
-    if !same_form(first, second) {
-        return Differs::OfSecond(Refusal::Broken(Place(0)));
-    }
     compare(first, n, second, m, given, pairing, out)
 }

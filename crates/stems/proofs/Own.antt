@@ -14,7 +14,7 @@ use Rattle.laws.proofs.Lists.{same-refl}
 use Rattle.laws.proofs.Stores.{get-any}
 use Rattle.rules.specs.declared.Settings.{Settings}
 use Rattle.rules.specs.declared.Refusal.the-variants.{Room, Broken, Pairing}
-use Rattle.rules.specs.Answers.{ok, require, atPlace, _>>=_}
+use Rattle.rules.specs.Answers.{ok, require, atPlace}
 use Rattle.rules.specs.Expressions.{pair}
 use Rattle.rules.specs.Programs.{Placeℕ, Stmt, gone, instr, label, variable, comment, org, bytes, words, pad, Program, at, isGone}
 use Rattle.rules.specs.Listing.{ListingForm, oldForm, newForm, linesOf, formIn, readListing, Beside, besideOf}
@@ -222,10 +222,10 @@ module _ (asked : Settings) (p : Program) (h : Input p) (within : KeepsTotal ask
   -- ---- neither 1, nor 2, nor 13
 
   second-read : readSecond t (o .listing) ≡ ok again
-  unfolding readSecond _>>=_ require besideOf
+  unfolding readSecond require besideOf
   second-read =
       let f : formIn (linesOf (o .listing)) ≡ formIn (linesOf t) = reads-back asked p h .form in
-      rw (reads-again, _>>=_, f, form-same (formIn (linesOf t)))
+      rw (f, form-same (formIn (linesOf t)), reads-again)
 
   abbrev written : List ℕ
   written = textOf (ownChanges t o)
