@@ -33,7 +33,7 @@ pub stems-written : (p : Program) → stems (writeBack p) ≡ stems p
 unfolding stems writeBack
 stems-written p = stems-retarget (plainTarget p) 0 p
 
-module _ (asked : Settings) {p : Program} {m : Machine} (r : Resolved p m) where
+module _ (asked : Settings) (p : Program) (good : acceptable p ≡ true) where
   -- rule 5 holds of it
   abbrev below : Placeℕ → ℕ → Bool
   below owner o = ltb o (sizeIn (shown asked p) owner)
@@ -51,12 +51,13 @@ module _ (asked : Settings) {p : Program} {m : Machine} (r : Resolved p m) where
       once : (i : Placeℕ) → every (ofInner below) (argsOf (at p i)) ≡ true
       once i =
           every-weaken (ofInner (λ owner o. ltb o (sizeIn p owner))) (ofInner below) (argsOf (at p i)) same
-          (every-any (λ s. every (ofInner (λ owner o. ltb o (sizeIn p owner))) (argsOf s)) p i gone (unfold every in refl) (acceptable-parts p (r .good) .0))
+          (every-any (λ s. every (ofInner (λ owner o. ltb o (sizeIn p owner))) (argsOf s)) p i gone (unfold every in refl) (acceptable-parts p good .0))
 
-  acceptable-shown : acceptable (shown asked p) ≡ true
+  pub acceptable-shown : acceptable (shown asked p) ≡ true
   unfolding acceptable assembles
-  acceptable-shown = and-both _ (isOk (judge (shown asked p))) inner-kept (ap isOk (judge-shown asked p) ∙ (unfold assembles in acceptable-parts p (r .good) .1))
+  acceptable-shown = and-both _ (isOk (judge (shown asked p))) inner-kept (ap isOk (judge-shown asked p) ∙ (unfold assembles in acceptable-parts p good .1))
 
+module _ (asked : Settings) {p : Program} {m : Machine} (r : Resolved p m) where
   lands-shown : (k : ℕ) (x : Operand) (d : ℕ) → Lands p k x d → Lands (shown asked p) k x d
   lands-shown k x d (named {n = n} e z) = named (at-shown asked p d ∙ ap (spoken asked) e) (ap (λ (c : ℕ). keyOf c n) (shown-context asked p d) ∙ z)
   lands-shown k x d anchored = anchored
@@ -65,7 +66,7 @@ module _ (asked : Settings) {p : Program} {m : Machine} (r : Resolved p m) where
   pub shown-resolved : Resolved (shown asked p) m
   shown-resolved =
       record {
-        good = acceptable-shown;
+        good = acceptable-shown asked p (r .good);
         as-long = r .as-long ∙ sym (length-shown asked p);
         all = λ i. rw (shown-context asked p i, at-shown asked p i) (deeds (contextAt p i) (r .all i));
       }

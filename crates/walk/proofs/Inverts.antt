@@ -25,7 +25,7 @@ use Rattle.walk.proofs.Resolves.{Resolved, quiet-pass, jump-deed, test-
 use Rattle.walk.proofs.Rewrites.{Change, folded, change-resolved, change-folded}
 use Rattle.walk.proofs.Alikes.{isIn, at-drop, inner-outside, Alike, folded-alike, branch-lands}
 
-same-not : (z w : Bool) → sameTest z (not w) ≡ not (sameTest z w)
+pub same-not : (z w : Bool) → sameTest z (not w) ≡ not (sameTest z w)
 same-not true true = refl
 same-not true false = refl
 same-not false true = refl

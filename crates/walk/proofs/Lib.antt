@@ -3,6 +3,7 @@
 pub mod Used
 pub mod Examples
 -- ---- machines
+pub mod Deeds
 pub mod Machines
 pub mod Folds
 pub mod Links

@@ -26,7 +26,8 @@ use Rattle.promises.proofs.ReadsBack.{reads-back, output-again}
 use Rattle.promises.proofs.Shows.{writeBack-shown}
 use Rattle.walk.specs.Walk.{offTheEnd, Walk, meets, halts, walkFrom, walk, told}
 use Rattle.walk.specs.SameWalk.{onlyWalked, Keeps, Empty, SameWalk, stemOf}
-use Rattle.walk.proofs.Machines.{Deed, pass, list, jump, test, Machine, deed, isPass, does, steps, go, Head, found, nothing, head, steps-found, steps-nothing, go-stop, go-known}
+use Rattle.walk.proofs.Deeds.{found, nothing}
+use Rattle.walk.proofs.Machines.{Deed, pass, list, jump, test, Machine, deed, isPass, does, steps, go, Head, head, steps-found, steps-nothing, go-stop, go-known}
 use Rattle.walk.proofs.Links.{position-zero, origin-found, origin-nothing}
 use Rattle.walk.proofs.Resolves.{Resolved, plain, passes-are, worth-all, resolved-walk}
 use Rattle.walk.proofs.Folds.{Close, close-same, close-trans}
