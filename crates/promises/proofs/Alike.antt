@@ -73,7 +73,7 @@ module _ (names : List Entry) (p p′ : Program) where
       let a = first k s t l m h in
       rw (a .enters k, a .goes-on q) (ap₂ (λ (x y : Check). x >> y) (a .settled i q) (fit-alike (suc i) (enter k s) (after q s) l m (rest k s t l m h)))
 
-  pub define-alike : (above : List Entry) (i k q : ℕ) (l m : Program) → AllAlike k l m → defineAll above (placedFrom i k q m) ≡ defineAll above (placedFrom i k q l)
+  define-alike : (above : List Entry) (i k q : ℕ) (l m : Program) → AllAlike k l m → defineAll above (placedFrom i k q m) ≡ defineAll above (placedFrom i k q l)
   unfolding defineAll placedFrom
   define-alike above i k q [] [] h = refl
   define-alike above i k q [] (t ∷ m) h = absurd (omega (arith, h .0))

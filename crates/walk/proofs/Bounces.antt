@@ -34,7 +34,7 @@ mention-last w [] e h = clash (cc)
 mention-last w (x ∷ []) e h = rw h (omega arith)
 mention-last w (x ∷ y ∷ xs) e h = omega (arith, mention-last w (y ∷ xs) e h)
 
-abbrev pub mentioned : ℕ → Expr → ℕ
+abbrev mentioned : ℕ → Expr → ℕ
 mentioned t e = mentions (λ m. eqb m t) e
 
 abbrev pub weighs : (k t : ℕ) → Placed → ℕ
@@ -52,7 +52,7 @@ refers-once p k t n f xs c s l z =
     ap (weighs k t) (placed-at p n nowhere (instr-inside p n f xs c s)) ∙ rw (z, eq-eqb k k refl, s) in
     omega (arith, mention-last (λ e. mentions (λ m. eqb m t) e) xs (name t) l)
 
-pub refers-twice : (p : Program) (k t n i f g : ℕ) (xs ys : List Operand) (c d : ℕ) → n ≢ i → at p n ≡ instr f xs c → lastOf xs ≡ value (name t) → contextAt p n ≡ k
+refers-twice : (p : Program) (k t n i f g : ℕ) (xs ys : List Operand) (c d : ℕ) → n ≢ i → at p n ≡ instr f xs c → lastOf xs ≡ value (name t) → contextAt p n ≡ k
     → at p i ≡ instr g ys d → lastOf ys ≡ value (name t) → contextAt p i ≡ k → 2 ≤ references k t p
 unfolding references
 refers-twice p k t n i f g xs ys c d ne s l z s′ l′ z′ =
@@ -65,13 +65,13 @@ pub local-context : (k l t : ℕ) → isLocal t ≡ true → keyOf k t ≡ keyOf
 local-context k l t h e = sym (cond-true (isLocal t) k 0 h) ∙ ap (λ (x : Key). x .context) e ∙ cond-true (isLocal t) l 0 h
 
 module _ {p q : Program} (f : Trampoline p q) where
-  abbrev pub put₂ : Stmt
+  abbrev put₂ : Stmt
   put₂ = aimed (f .f) (f .b) (f .last)
 
   abbrev pub dropped : List ℕ
   dropped = f .j ∷ f .m ∷ f .u ∷ []
 
-  pub made-new : (n : ℕ) → at q n ≡ cond (isIn n dropped) gone (at (set p (f .i) put₂) n)
+  made-new : (n : ℕ) → at q n ≡ cond (isIn n dropped) gone (at (set p (f .i) put₂) n)
   made-new n = rw (f .new) (at-drop dropped (set p (f .i) put₂) n)
 
   pub made-i : at q (f .i) ≡ put₂
@@ -126,7 +126,7 @@ module _ {p q : Program} (f : Trampoline p q) where
       split (inr x) (inr y) (inr z) (inl e) = is-v e
       split (inr x) (inr y) (inr z) (inr w) = is-quiet x y z w (quietly x y z w)
 
-  pub steady-on : (n : ℕ) → f .i < n → n ≤ f .v → (k : ℕ) → enter k (at p n) ≡ k
+  steady-on : (n : ℕ) → f .i < n → n ≤ f .v → (k : ℕ) → enter k (at p n) ≡ k
   steady-on n a b k = split (inside-is n a b)
     where
       split : Inside n → enter k (at p n) ≡ k

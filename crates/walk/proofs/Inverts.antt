@@ -46,7 +46,7 @@ module _ {p q : Program} (f : Inverted p q) where
   abbrev pub put : Stmt
   put = aimed (f .to) (f .b) (f .jump)
 
-  pub at-new : (n : ℕ) → at q n ≡ cond (isIn n (f .j ∷ [])) gone (at (set p (f .i) put) n)
+  at-new : (n : ℕ) → at q n ≡ cond (isIn n (f .j ∷ [])) gone (at (set p (f .i) put) n)
   at-new n = rw (f .new) (at-drop (f .j ∷ []) (set p (f .i) put) n)
 
   pub at-i : at q (f .i) ≡ put
