@@ -21,7 +21,7 @@ use Rattle.slots.specs.Slots.{Slots, programOf}
 use Rattle.image.specs.Tables.{Tables, program}
 use Rattle.image.specs.Image.{imageOf}
 use Rattle.optimize.specs.Optimized.{Optimized}
-use Rattle.entries.specs.Optimizing.{Assembled}
+use Rattle.finishing.specs.Ending.{Assembled}
 use Rattle.audit.specs.Audit.{Finding, held}
 use Rattle.audit.specs.Held.{endImage, endFinding}
 

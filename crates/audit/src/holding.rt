@@ -20,7 +20,7 @@ ghost use Rattle.slots.specs.Links.{Beside};
 ghost use Rattle.image.specs.Tables.{Tables, tablesOf, program};
 ghost use Rattle.image.specs.Image.{imageOf};
 ghost use Rattle.attempts.specs.Standing.{Standing};
-ghost use Rattle.entries.specs.Optimizing.{Assembled};
+ghost use Rattle.finishing.specs.Ending.{Assembled};
 ghost use Rattle.audit.specs.Audit.{held};
 ghost use Rattle.audit.specs.Held.{findingAs, endImage};
 

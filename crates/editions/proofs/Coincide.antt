@@ -5,7 +5,7 @@ use Prim.Native.Nat.{ℕ}
 use Rattle.rules.specs.declared.Answer.{Answer}
 use Rattle.rules.specs.Answers.{Judged}
 use Rattle.rules.specs.Run.{Output}
-use Rattle.entries.specs.Optimizing.{Delivers}
+use Rattle.finishing.specs.Ending.{Delivers}
 
 pub one-run : (x : Judged Output) (listing image : List ℕ) (a b : Answer) (la ia lb ib : List ℕ)
     → Delivers x a listing image la ia → Delivers x b listing image lb ib → (a ≡ b) × (la ≡ lb) × (ia ≡ ib)

@@ -14,7 +14,7 @@ use Rattle.promises.specs.Demand1.{Cause}
 use Rattle.promises.specs.Demand2.{Accepted, Answered}
 use Rattle.promises.proofs.Entry.{on-acceptance, accepts, on-refusal, refuses}
 use Rattle.walk.proofs.Entry.{walked-alike}
-use Rattle.entries.specs.Optimizing.{Delivers}
+use Rattle.finishing.specs.Ending.{Delivers}
 use Rattle.store.specs.declared.Edition.{Edition}
 use Rattle.editions.specs.Under.{under}
 use Rattle.editions.specs.Promise.{AcceptedUnder, RefusedUnder, by-store, by-run}

@@ -8,7 +8,7 @@ use Rattle.rules.specs.declared.Answer.the-variants.{Refused as NotDone}
 use Rattle.rules.specs.declared.Refusal.{Refusal}
 use Rattle.rules.specs.Answers.{Judged, ok, no, _>>=_}
 use Rattle.promises.specs.Demand2.{Answered}
-use Rattle.entries.specs.Optimizing.{Delivers}
+use Rattle.finishing.specs.Ending.{Delivers}
 use Rattle.store.specs.declared.Edition.{Edition}
 use Rattle.store.specs.declared.Found.{Found}
 use Rattle.store.specs.declared.Found.the-variants.{Is, Refused}

@@ -5,7 +5,7 @@ use store::Found;
 use store::get_edition;
 use store::get_newest;
 ghost use lib.ListN.{length};
-ghost use Rattle.entries.specs.Optimizing.{Delivers};
+ghost use Rattle.finishing.specs.Ending.{Delivers};
 ghost use Rattle.editions.specs.Under.{runFound, runEdition, runNewest};
 
 // The run under what was found, or its refusal.

@@ -1,18 +1,13 @@
 -- "Show that any two results allowed by the contract coincide", of each public entry. `optimize_jumps` has one-result of promises.
-use mathlib.Core.Path.{_≡_, sym, _∙_, ap}
+use mathlib.Core.Path.{_≡_, sym, _∙_}
 use mathlib.Core.List.{List}
 use Prim.Native.Nat.{ℕ}
 use lib.ListN.{length}
-use lib.IntN.{ℤ}
 use Rattle.rules.specs.declared.Answer.{Answer}
-use Rattle.rules.specs.declared.Refusal.{Refusal}
-use Rattle.rules.specs.Refusals.{faultOf}
 use Rattle.rules.specs.declared.Settings.{Settings}
 use Rattle.rules.specs.Answers.{Judged}
 use Rattle.rules.specs.Run.{Output, assembled}
-use Rattle.entries.specs.declared.faults.Fault.{Fault}
-use Rattle.entries.specs.Faults.{IsFault}
-use Rattle.entries.specs.Assembling.{Leaves}
+use Rattle.fitting.specs.Fitting.{Leaves}
 use Rattle.entries.specs.declared.optimizing.Stemmed.{Stemmed}
 use Rattle.entries.specs.Stems.{runStems, Stems}
 
@@ -27,14 +22,3 @@ pub one-stems : (asked : Settings) (text out image list : List ℕ) (r s : Stemm
     Stems end r out image list x v l → Stems end s out image list y w m → (r ≡ s) × (x ≡ y) × (v ≡ w) × (l ≡ m))
 one-stems asked text out image list r s x y v w l m a b =
     (a .answers ∙ sym (b .answers), a .listing-is ∙ sym (b .listing-is), a .image-is ∙ sym (b .image-is), a .list-is ∙ sym (b .list-is))
-
--- `fault_of`
-pub one-fault : (r : Refusal) (f g : Fault) → IsFault f (faultOf r) → IsFault g (faultOf r) → f ≡ g
-one-fault r f g a b =
-    ap (λ (n : ℕ). fault n (f .place) (f .argument) (f .amount)) (a .number ∙ sym (b .number))
-    ∙ ap (λ (i : ℕ). fault (g .number) i (f .argument) (f .amount)) (a .place ∙ sym (b .place))
-    ∙ ap (λ (j : ℕ). fault (g .number) (g .place) j (f .amount)) (a .argument ∙ sym (b .argument))
-    ∙ ap (fault (g .number) (g .place) (g .argument)) (a .amount ∙ sym (b .amount))
-  where
-    fault : (number place argument : ℕ) → ℤ → Fault
-    fault number place argument amount = record { number = number; place = place; argument = argument; amount = amount }

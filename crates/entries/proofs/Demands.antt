@@ -1,11 +1,9 @@
 -- The demands, of whatever `assemble` answers and writes: each starts from the entry's contract. `optimize_jumps` has promises' Entry.
 use mathlib.Core.Path.{_≡_, refl, sym, _∙_, ap}
-use mathlib.Core.List.{List, _++_, append-assoc}
+use mathlib.Core.List.{List}
 use Prim.Native.Nat.{ℕ}
-use native.Mathlib.Omega.{arith}
 use lib.Dec.{leb}
 use lib.ListN.{length, take, drop}
-use lib.Seq.{take-at}
 use borrow.Author.Tests.{leb-true}
 use Rattle.laws.proofs.Tests.{clash}
 use Rattle.laws.proofs.Stores.{front-take, front-drop}
@@ -13,21 +11,17 @@ use Rattle.rules.specs.declared.Answer.{Answer}
 use Rattle.rules.specs.declared.Answer.the-variants.{Done, Refused}
 use Rattle.rules.specs.declared.Sizes.{Sizes}
 use Rattle.rules.specs.declared.Refusal.{Refusal}
-use Rattle.rules.specs.declared.Refusal.the-variants.{Broken, Limit, Again, NoName, Back, Beyond, NoValue, Range, Outside, Far, Page, Room}
-use Rattle.rules.specs.Refusals.{faultOf}
+use Rattle.rules.specs.declared.Refusal.the-variants.{Room}
 use Rattle.rules.specs.Answers.{Judged, ok, no}
 use Rattle.rules.specs.Programs.{Program}
 use Rattle.rules.specs.Listing.{readListing}
 use Rattle.rules.specs.Judging.{judge}
-use Rattle.rules.specs.Output.{doneLine, refusedLine}
-use Rattle.rules.specs.Run.{Output, run, assembled, answerOf, front, imageAfter, printed, listingRoomOfProgram, imageRoomOfProgram, program}
+use Rattle.rules.specs.Run.{Output, assembled, front, program}
 use Rattle.rules.proofs.Laws.{then-ok, require-ok}
-use Rattle.promises.specs.Entry.{Promised}
-use Rattle.promises.proofs.Entry.{promised}
-use Rattle.promises.proofs.OutputRoom.{never-room}
 use Rattle.believed.specs.Causes.{Assembles, OnAssemblyRefusal}
 use Rattle.believed.proofs.AfterAssembly.{assembles-iff, on-assembly-refusal}
-use Rattle.entries.specs.Assembling.{answerAs, roomAs, Leaves, AsAssembled}
+use Rattle.fitting.specs.Fitting.{answerAs, roomAs, Leaves}
+use Rattle.entries.specs.Assembling.{AsAssembled}
 
 -- a room that holds a result of n bytes in front
 pub in-front : (result room room′ : List ℕ) (n : ℕ) → n ≡ length result → room′ ≡ front result room → (take n room′ ≡ result) × (drop n room′ ≡ drop n room)

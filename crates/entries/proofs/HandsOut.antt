@@ -25,7 +25,8 @@ use Rattle.output.specs.Stems.{listOf}
 use Rattle.output.proofs.Left.{length-list}
 use Rattle.entries.specs.declared.optimizing.Stemmed.{Stemmed}
 use Rattle.entries.specs.declared.optimizing.Stemmed.the-variants.{Done, Refused}
-use Rattle.entries.specs.Stems.{fitsAll, runStems, sizesOf, stemmedAs, listAfter, Stems, HandedOut, ListShort, NotHandedOut}
+use Rattle.finishing.specs.Ending.{fitsAll}
+use Rattle.entries.specs.Stems.{runStems, sizesOf, stemmedAs, listAfter, Stems, HandedOut, ListShort, NotHandedOut}
 use Rattle.entries.proofs.Demands.{in-front}
 
 module _ (asked : Settings) (text : List ℕ) (a b c : ℕ) where

@@ -1,10 +1,7 @@
-pub mod Told
-pub mod Rooms
 pub mod Phases
 -- ---- the main entry
 pub mod Stands
 pub mod Starting
-pub mod Deliveries
 pub mod Listed
 pub mod Results
 -- ---- what the contracts say: two results coincide, and the demands

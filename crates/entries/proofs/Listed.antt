@@ -1,13 +1,13 @@
 -- C-13: the list of stems and its room. A refusal writes none, a result that fits has one, and a room of 2,048 bytes holds every one.
-use mathlib.Core.Path.{_≡_, refl, sym, ap, ap₂, _∙_, subst}
-use mathlib.Core.List.{List, [], _∷_, map}
-use mathlib.Core.Bool.{Bool, true, false, cond, _&&_}
-use Prim.Native.Nat.{ℕ, suc, _*_, _≤_, _<_}
+use mathlib.Core.Path.{_≡_, refl, sym, ap, ap₂, _∙_}
+use mathlib.Core.List.{List}
+use mathlib.Core.Bool.{Bool, true, false, _&&_}
+use Prim.Native.Nat.{ℕ, _*_, _≤_}
 use native.Mathlib.Omega.{arith}
 use lib.Dec.{leb}
 use lib.ListN.{length}
 use borrow.Author.Tests.{leb-true, le-leb}
-use Rattle.laws.proofs.Tests.{clash, and-true, and-left}
+use Rattle.laws.proofs.Tests.{clash, and-true}
 use Rattle.rules.specs.declared.Answer.{Answer}
 use Rattle.rules.specs.declared.Answer.the-variants.{Done, Refused}
 use Rattle.rules.specs.declared.Sizes.{Sizes}
@@ -15,32 +15,23 @@ use Rattle.rules.specs.declared.Refusal.{Refusal}
 use Rattle.rules.specs.declared.Refusal.the-variants.{Room}
 use Rattle.rules.specs.declared.Settings.{Settings}
 use Rattle.rules.specs.Answers.{Judged, ok, no, _>>=_, _>>_, require}
-use Rattle.rules.specs.Programs.{Stmt, Program, isGone, retarget}
+use Rattle.rules.specs.Programs.{Program}
 use Rattle.rules.specs.Listing.{readListing, besideOf}
 use Rattle.rules.specs.Judging.{judge}
 use Rattle.rules.specs.Rewriting.{optimized}
-use Rattle.rules.specs.Output.{plainTarget, writeBack, shown, compact, stemsFrom, stems}
+use Rattle.rules.specs.Output.{writeBack, shown, compact, stemsFrom, stems}
 use Rattle.rules.specs.Run.{Output, outputOf, fits, run, answerOf, front, listingAfter, imageAfter, rewritten}
 use Rattle.rules.proofs.Laws.{require-ok}
 use Rattle.promises.specs.Demand2.{Answered, Input, outputProgram}
-use Rattle.promises.proofs.Ranks.{gone-retarget}
 use Rattle.promises.proofs.Listings.{read-limits}
 use Rattle.promises.proofs.OutputRoom.{output-room}
 use Rattle.output.specs.Stems.{keptTo, listOf}
 use Rattle.output.proofs.Left.{length-list, stems-many}
 use Rattle.entries.specs.declared.optimizing.Stemmed.{Stemmed}
 use Rattle.entries.specs.declared.optimizing.Stemmed.the-variants.{Done as Listed, Refused as NoStems}
-use Rattle.entries.specs.Stems.{fitsAll, runStems, sizesOf, stemmedAs, listAfter, Stems}
-use Rattle.entries.specs.Optimizing.{roomed, Delivers, Left}
-
--- numbers written back drop no statement
-pub stems-writeBack : (p : Program) → stems (writeBack p) ≡ stems p
-unfolding stems writeBack stemsFrom
-stems-writeBack p = on 0 p
-  where
-    on : (i : ℕ) (q : Program) → stemsFrom i (map (λ s. retarget (plainTarget p) s) q) ≡ stemsFrom i q
-    on i [] = refl
-    on i (s ∷ q) = rw (gone-retarget (plainTarget p) s, on (suc i) q)
+use Rattle.finishing.specs.Ending.{fitsAll, roomed, Delivers}
+use Rattle.entries.specs.Stems.{runStems, sizesOf, stemmedAs, listAfter, Stems}
+use Rattle.entries.specs.Optimizing.{Left}
 
 -- ---- the list's room
 

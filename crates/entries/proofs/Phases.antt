@@ -1,14 +1,13 @@
 -- What one phase hands to the next: a verdict, a listing that was read, the same result under another name.
 use mathlib.Core.Path.{_≡_, refl, sym, ap, ap₂, _∙_, subst}
 use mathlib.Core.List.{List}
-use mathlib.Core.Bool.{Bool, true, false}
-use Prim.Native.Nat.{ℕ, _<_}
-use native.Mathlib.Omega.{arith}
-use lib.ListN.{length, take}
+use mathlib.Core.Bool.{Bool}
+use Prim.Native.Nat.{ℕ}
+use lib.ListN.{take}
 use Rattle.rules.specs.declared.Answer.{Answer}
 use Rattle.rules.specs.declared.Answer.the-variants.{Refused}
 use Rattle.rules.specs.declared.Refusal.{Refusal}
-use Rattle.rules.specs.Answers.{Judged, ok, no, _>>=_, require, isOk}
+use Rattle.rules.specs.Answers.{Judged, ok, no, _>>=_}
 use Rattle.rules.specs.Programs.{Program}
 use Rattle.rules.specs.Listing.{readListing, ListingForm, besideOf}
 use Rattle.rules.specs.Run.{assembled}
@@ -18,20 +17,8 @@ use Rattle.listing.specs.Form.{formOf}
 use Rattle.listing.specs.Tables.{Holds, ListedAs, BesideAs}
 use Rattle.output.specs.Lines.{besideIn}
 use Rattle.asm.specs.declared.Verdict.{Verdict}
-use Rattle.asm.specs.declared.Verdict.the-variants.{Good, Refused as Bad}
-use Rattle.asm.specs.Verdicts.{verdictAs}
-use Rattle.entries.specs.Assembling.{fitted, imageIn, answerAs, roomAs, Leaves}
-
--- ---- verdicts
-
-pub good-ok : {A : Type 0} (x : Judged A) → Good ≡ verdictAs x → isOk x ≡ true
-unfolding isOk
-good-ok (ok a) e = refl
-good-ok (no r) e = absurd (let z : _≡_ {A = ℕ} 0 1 = cc in omega arith)
-
-pub bad-no : {A : Type 0} (x : Judged A) (q : Refusal) → Bad q ≡ verdictAs x → x ≡ no q
-bad-no (ok a) q e = absurd (let z : _≡_ {A = ℕ} 0 1 = cc in omega arith)
-bad-no (no r) q e = cc
+use Rattle.fitting.specs.Fitting.{fitted, answerAs, roomAs, Leaves}
+use Rattle.entries.specs.Assembling.{imageIn}
 
 -- ---- the same result
 

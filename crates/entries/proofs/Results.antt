@@ -7,14 +7,14 @@ use Prim.Native.Nat.{ℕ, _*_, _≤_}
 use native.Mathlib.Omega.{arith}
 use lib.ListN.{length}
 use Rattle.laws.specs.Lists.{total}
-use Rattle.laws.proofs.Tests.{clash, false-true}
+use Rattle.laws.proofs.Tests.{clash}
 use Rattle.rules.specs.declared.Answer.{Answer}
 use Rattle.rules.specs.declared.Answer.the-variants.{Done}
 use Rattle.rules.specs.declared.Sizes.{Sizes}
 use Rattle.rules.specs.declared.Refusal.{Refusal}
 use Rattle.rules.specs.declared.Refusal.the-variants.{Room}
 use Rattle.rules.specs.declared.Settings.{Settings}
-use Rattle.rules.specs.Answers.{Judged, ok, no, _>>=_, _>>_, require, orD, isOk}
+use Rattle.rules.specs.Answers.{Judged, ok, no, _>>=_, _>>_, require, orD}
 use Rattle.rules.specs.Programs.{Program}
 use Rattle.rules.specs.Listing.{readListing, Beside, besideOf}
 use Rattle.rules.specs.Judging.{judge, assembles}
@@ -28,71 +28,18 @@ use Rattle.promises.proofs.Anchors.{instrBytes-anchor}
 use Rattle.promises.proofs.ImageOfOutput.{image-of-output}
 use Rattle.promises.proofs.Shows.{judge-shown, writeBack-shown}
 use Rattle.slots.specs.Slots.{Slots, programOf}
-use Rattle.image.specs.Tables.{Tables, program, Ready}
-use Rattle.image.specs.Encoding.{encodeSlots}
-use Rattle.image.specs.Image.{imageOf}
-use Rattle.output.specs.Lines.{listingOf, Positioned}
+use Rattle.image.specs.Tables.{Tables, program}
 use Rattle.output.specs.Showing.{Shown}
 use Rattle.asm.specs.declared.Verdict.{Verdict}
-use Rattle.asm.specs.declared.Verdict.the-variants.{Good, Refused as Bad}
-use Rattle.asm.specs.Verdicts.{JudgedAs}
 use Rattle.optimize.specs.Optimized.{Optimized}
-use Rattle.listing.specs.Tables.{Held}
 use Rattle.output.specs.Stems.{keptTo}
-use Rattle.output.proofs.Listings.{stems-kept}
 use Rattle.entries.specs.declared.optimizing.Stemmed.{Stemmed}
 use Rattle.entries.specs.declared.optimizing.Stemmed.the-variants.{Refused as NoStems}
-use Rattle.entries.specs.Stems.{fitsAll, runStems, Stems}
-use Rattle.entries.specs.Optimizing.{resultOf, rewritten, roomed, judgedRun, Assembled, Delivers, Fitted, Left}
-use Rattle.entries.proofs.Phases.{good-ok, bad-no}
-use Rattle.entries.proofs.Listed.{roomed-ok, stems-no, done-ok, stems-writeBack}
-
--- ---- judged
-
--- a good verdict
-pub assembled-by : (d : Tables) (r : Verdict) → r ≡ Good → JudgedAs d r → Assembled d
-unfolding assembles
-assembled-by d r e v =
-    record {
-      ready = v .ready e;
-      encodes = v .encodes e;
-      good = good-ok (judge (program d)) (sym e ∙ v .answer);
-    }
-
-module _ (d : Tables) (h : Assembled d) where
-  pub assembled-encodes : isOk (encodeSlots d) ≡ true
-  unfolding assembles
-  assembled-encodes = ap isOk (sym (h .encodes)) ∙ h .good
-
-  -- the image of the tables is the program's
-  pub image-result : (b : Beside) (n : ℕ) → imageOf d ≡ resultOf b (program d) n .image
-  unfolding imageOf resultOf
-  image-result b n = ap (λ x. orD x []) (sym (h .encodes))
-
-pub listing-result : (b : Beside) (t : Slots) (n : ℕ) → listingOf b t ≡ resultOf b (programOf t) n .listing
-unfolding listingOf resultOf
-listing-result b t n = refl
-
--- the slots that are left are those that its statements stem from
-pub stems-result : (b : Beside) (t : Slots) (n : ℕ) → Held (t .frames) (t .starts) (t .count)
-    → keptTo (t .forms) (t .count) ≡ resultOf b (programOf t) n .stems
-unfolding resultOf
-stems-result b t n h = sym (stems-kept t h) ∙ sym (stems-writeBack (programOf t))
-
-pub count-result : (b : Beside) (q : Program) (n : ℕ) → n ≡ resultOf b q n .count
-unfolding resultOf
-count-result b q n = refl
-
--- the positions that the tables hold are the program's
-pub positioned : (d : Tables) → Ready d → Positioned (d .slots) (d .positions)
-positioned d r = record { are = λ i l. r .position i (omega arith); low = λ i l. r .low i (omega arith) }
-
--- a program that assembles is not refused
-pub not-refused {ℓ} : {X : Type ℓ} (d : Tables) (r : Verdict) (q : Refusal) → r ≡ Bad q → JudgedAs d r → assembles (program d) ≡ true → X
-unfolding assembles isOk
-not-refused d r q e v g =
-    let b : judge (program d) ≡ no q = bad-no (judge (program d)) q (sym e ∙ v .answer) in
-    false-true (rw b at g)
+use Rattle.finishing.specs.Ending.{fitsAll, resultOf, roomed, Delivers, Fitted}
+use Rattle.finishing.proofs.Ended.{stems-result}
+use Rattle.entries.specs.Stems.{runStems, Stems}
+use Rattle.entries.specs.Optimizing.{rewritten, judgedRun, Left}
+use Rattle.entries.proofs.Listed.{roomed-ok, stems-no, done-ok}
 
 -- ---- rewritten
 

@@ -1,5 +1,4 @@
 -- What the entries answer and leave in the lent rooms.
-pub mod Faults
 pub mod Assembling
 pub mod Stems
 pub mod Optimizing

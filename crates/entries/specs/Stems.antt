@@ -3,9 +3,7 @@
 use mathlib.Core.Path.{_≡_}
 use mathlib.Core.List.{List}
 use mathlib.Core.Logic.{_⊎_}
-use mathlib.Core.Bool.{Bool, _&&_}
 use Prim.Native.Nat.{ℕ, _*_, _<_}
-use lib.Dec.{leb}
 use lib.ListN.{length, take, drop}
 use Rattle.rules.specs.declared.Answer.the-variants.{Done as Answer·Done}
 use Rattle.rules.specs.declared.Refusal.{Refusal}
@@ -16,15 +14,12 @@ use Rattle.rules.specs.Answers.{Judged, ok, no, _>>=_, _>>_, require}
 use Rattle.rules.specs.Programs.{Program}
 use Rattle.rules.specs.Listing.{readListing, besideOf}
 use Rattle.rules.specs.Judging.{judge}
-use Rattle.rules.specs.Run.{Output, outputOf, fits, run, front, listingAfter, imageAfter, rewritten}
+use Rattle.rules.specs.Run.{Output, outputOf, run, front, listingAfter, imageAfter, rewritten}
 use Rattle.promises.specs.Demand2.{Answered}
 use Rattle.output.specs.Stems.{listOf}
+use Rattle.finishing.specs.Ending.{fitsAll}
 use Rattle.entries.specs.declared.optimizing.Stemmed.{Stemmed}
 use Rattle.entries.specs.declared.optimizing.Stemmed.the-variants.{Done, Refused}
-
--- "(12 if its room is short)": the list has to fit too. C-18: it "has one entry for each statement that comes out"
-unfoldable pub fitsAll : (listingRoom imageRoom listRoom : ℕ) → Output → Bool
-fitsAll listingRoom imageRoom listRoom o = fits listingRoom imageRoom o && leb (length (listOf (o .stems))) listRoom
 
 -- rules' `run` with one more room; 12 gives the input's statement count, whichever room is short
 unfoldable pub runStems : Settings → (text : List ℕ) (listingRoom imageRoom listRoom : ℕ) → Judged Output

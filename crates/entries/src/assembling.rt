@@ -3,59 +3,23 @@ use asm::Verdict;
 use asm::judge;
 use asm::start_state;
 use env::fill_contexts;
-use image::image_length;
-use image::write_image;
+use fitting::finish;
 use listing::Listed;
 use listing::Starts;
 use listing::read_listing;
 use rules::Answer;
-use rules::Refusal;
-use rules::Sizes;
 use slots::State;
-ghost use mathlib.Core.Path.{_≡_};
-ghost use mathlib.Core.Bool.{true};
 ghost use lib.ListN.{length};
-ghost use Rattle.rules.specs.Answers.{isOk};
 ghost use Rattle.rules.specs.Programs.{Program};
 ghost use Rattle.rules.specs.Run.{assembled};
 ghost use Rattle.listing.specs.Tables.{inputOf, Held};
 ghost use Rattle.env.specs.Tables.{Any};
 ghost use Rattle.slots.specs.Slots.{Slots, programOf, Sound};
 ghost use Rattle.slots.specs.Links.{Together};
-ghost use Rattle.image.specs.Tables.{Tables, tablesOf, Ready};
-ghost use Rattle.image.specs.Encoding.{encodeSlots};
 ghost use Rattle.asm.specs.Assembling.{Placed, Whole};
-ghost use Rattle.entries.specs.Assembling.{Leaves, imageIn, fitted};
+ghost use Rattle.fitting.specs.Fitting.{Leaves};
+ghost use Rattle.entries.specs.Assembling.{imageIn};
 ghost use Rattle.slots.specs.State.{startsIn, formsIn, tableOf};
-
-// The image of slots that encode, if the room holds it.
-fn finish(
-    frames: &[u8],
-    state: &State,
-    count: usize,
-    links: &[u16; 28672],
-    values: &[i64; 1024],
-    positions: &[u32; 1025],
-    image: &mut [u8],
-) -> Answer
-    requires { let d : Tables = tablesOf (now frames) (now state) count
-        (now links) (now values) (now positions) in
-        ⌜ Ready d × (isOk (encodeSlots d) ≡ true) ⌝ }
-    ensures { λ r. let d : Tables = tablesOf (now (frames .entry)) (now (state .entry)) count (now (links .entry)) (now (values .entry))
-        (now (positions .entry)) in
-        ⌜ Leaves (fitted count (length (now (image .entry))) (encodeSlots d)) r (now (image .entry)) (now (image .exit)) ⌝ }
-{
-    let n = image_length(frames, state, count, positions);
-    if image.len() < n {
-        return Answer::Refused(Refusal::Room(count));
-    }
-    write_image(frames, state, count, links, values, positions, image);
-    Answer::Done(Sizes {
-        listing: 0,
-        rewrites: 0,
-        image: n,
-    })
-}
 
 // Judges the slots, and writes their image.
 fn judge_slots(

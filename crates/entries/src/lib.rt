@@ -1,7 +1,5 @@
 // The public entries: nothing is asked of the caller, and every lent byte is accounted for.
 mod assembling; // a listing to its image
-mod faults; // each refusal by its number, place, argument and number at fault
-mod finishing; // an end form to its listing and its image
 mod optimizing; // a listing to its end form
 
 pub use assembling::assemble;

@@ -1,11 +1,11 @@
 // A listing is read, judged, anchored, rewritten and written, as it is asked for. Each phase declares the tables that it fills and hands them on.
-use crate::finishing::Wanted;
-use crate::finishing::judge_end;
 use anchors::anchor;
 use asm::Verdict;
 use asm::judge;
 use asm::start_state;
 use env::fill_contexts;
+use finishing::Wanted;
+use finishing::judge_end;
 use listing::Listed;
 use listing::Starts;
 use listing::new_form;
@@ -37,7 +37,8 @@ ghost use Rattle.anchors.specs.Anchored.{AsRead};
 ghost use Rattle.rules.specs.Answers.{Judged};
 ghost use Rattle.rules.specs.Run.{Output};
 ghost use Rattle.output.specs.Stems.{keptTo};
-ghost use Rattle.entries.specs.Optimizing.{rewritten, judgedRun, Full, Delivers, Fitted, Left};
+ghost use Rattle.finishing.specs.Ending.{Delivers, Fitted};
+ghost use Rattle.entries.specs.Optimizing.{rewritten, judgedRun, Full, Left};
 ghost use Rattle.entries.specs.Stems.{runStems, Stems};
 
 // Rewrites an anchored program to its end form, and writes it, without its comments unless they are asked for.

@@ -13,7 +13,7 @@ use Rattle.listing.specs.Tables.{inputOf}
 use Rattle.asm.specs.declared.Verdict.{Verdict}
 use Rattle.asm.specs.declared.Verdict.the-variants.{Good, Refused as Bad}
 use Rattle.asm.specs.Verdicts.{verdictAs}
-use Rattle.entries.proofs.Phases.{good-ok, bad-no}
+use Rattle.finishing.proofs.Ended.{good-ok, bad-no}
 use Rattle.starting.specs.declared.Begun.{Begun}
 use Rattle.starting.specs.declared.Begun.the-variants.{Read, Refused}
 use Rattle.starting.specs.Begun.{accepted, Starts, AnchoredAs, Holds, BegunAs}

@@ -15,9 +15,9 @@ use Rattle.env.specs.Tables.{Any}
 use Rattle.asm.specs.Assembling.{InPlace}
 use Rattle.asm.proofs.Carrying.{placed-any}
 use Rattle.attempts.specs.Standing.{Standing}
-use Rattle.entries.specs.Optimizing.{Assembled}
+use Rattle.finishing.specs.Ending.{Assembled}
 use Rattle.entries.proofs.Stands.{own-together, anchored-stands}
-use Rattle.entries.proofs.Results.{assembled-by}
+use Rattle.finishing.proofs.Ended.{assembled-by}
 use Rattle.starting.proofs.Begins.{anchored-bad}
 use Rattle.starting.proofs.judge_and_anchor.Statement.{statement}
 use Rattle.starting.proofs.judge_and_anchor.Tie as tie

@@ -8,7 +8,7 @@ use Rattle.slots.specs.Slots.{programOf}
 use Rattle.slots.specs.State.{startsIn, formsIn, carryIn, ownersIn, offsetsIn, tableOf}
 use Rattle.slots.specs.Links.{contextsRead}
 use Rattle.asm.proofs.Carrying.{placed-any}
-use Rattle.entries.proofs.Results.{assembled-by, not-refused}
+use Rattle.finishing.proofs.Ended.{assembled-by, not-refused}
 use Rattle.audit.specs.Audit.{held}
 use Rattle.audit.specs.Held.{findingAs}
 use Rattle.audit.proofs.Ends.{end-image}

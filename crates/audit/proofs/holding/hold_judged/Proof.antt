@@ -11,7 +11,7 @@ use Rattle.slots.specs.State.{startsIn, formsIn, carryIn, ownersIn, offsetsIn}
 use Rattle.image.specs.Tables.{Tables, tablesOf, program}
 use Rattle.image.specs.Image.{imageOf}
 use Rattle.asm.proofs.Carrying.{positioned-any}
-use Rattle.entries.proofs.Results.{assembled-encodes}
+use Rattle.finishing.proofs.Ended.{assembled-encodes}
 use Rattle.audit.specs.Audit.{held}
 use Rattle.audit.specs.Held.{findingAs}
 use Rattle.audit.proofs.Ends.{image-fits}

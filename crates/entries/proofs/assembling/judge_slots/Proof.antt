@@ -1,16 +1,14 @@
 -- `entries::assembling::judge_slots` meets its contract.
-use mathlib.Core.Path.{_≡_, sym, ap, _∙_}
-use mathlib.Core.List.{List}
-use Prim.Native.Nat.{ℕ, _≤_, _<_}
-use native.Mathlib.Omega.{arith}
-use lib.ListN.{length, getD, drop}
+use mathlib.Core.Path.{sym, ap, _∙_}
+use lib.ListN.{length}
 use borrow.Author.Needs.{needs}
 use Rattle.slots.specs.Slots.{Slots, programOf}
 use Rattle.rules.specs.Answers.{isOk}
 use Rattle.rules.specs.Judging.{judge}
 use Rattle.env.proofs.Programs.{length-program}
-use Rattle.entries.proofs.Rooms.{leaves-refused}
-use Rattle.entries.proofs.Phases.{good-ok, bad-no, leaves-same}
+use Rattle.fitting.proofs.Rooms.{leaves-refused}
+use Rattle.finishing.proofs.Ended.{good-ok, bad-no}
+use Rattle.entries.proofs.Phases.{leaves-same}
 use Rattle.slots.specs.State.{tableOf}
 use Rattle.entries.proofs.assembling.judge_slots.Statement.{statement}
 use Rattle.entries.proofs.assembling.judge_slots.Tie as tie

@@ -17,11 +17,11 @@ use Rattle.asm.specs.Assembling.{InPlace}
 use Rattle.asm.proofs.Carrying.{placed-any}
 use Rattle.attempts.specs.Standing.{Standing}
 use Rattle.output.specs.Lines.{besideIn}
-use Rattle.entries.specs.Optimizing.{Assembled}
-use Rattle.entries.proofs.Phases.{bad-no}
+use Rattle.finishing.specs.Ending.{Assembled}
+use Rattle.finishing.proofs.Ended.{bad-no, assembled-by}
+use Rattle.finishing.proofs.Deliveries.{delivers-no}
 use Rattle.entries.proofs.Stands.{own-together, anchored-stands}
-use Rattle.entries.proofs.Deliveries.{delivers-no}
-use Rattle.entries.proofs.Results.{assembled-by, fitted-program, judged-no, judged-delivers, judged-left, left-no}
+use Rattle.entries.proofs.Results.{fitted-program, judged-no, judged-delivers, judged-left, left-no}
 use Rattle.entries.proofs.optimizing.judge_read.Statement.{statement}
 use Rattle.entries.proofs.optimizing.judge_read.Tie as tie
 

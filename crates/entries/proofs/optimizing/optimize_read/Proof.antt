@@ -8,7 +8,8 @@ use Rattle.rules.specs.Run.{Output}
 use Rattle.listing.specs.Tables.{inputOf}
 use Rattle.slots.specs.State.{formsIn}
 use Rattle.output.specs.Lines.{besideIn}
-use Rattle.entries.specs.Optimizing.{judgedRun, Delivers, Left}
+use Rattle.finishing.specs.Ending.{Delivers}
+use Rattle.entries.specs.Optimizing.{judgedRun, Left}
 use Rattle.entries.proofs.Starting.{start-sound, start-program, start-read, start-whole, start-full}
 use Rattle.entries.proofs.Listed.{stems-refused, stems-done}
 use Rattle.entries.proofs.Results.{delivers-program, list-fits}

@@ -3,7 +3,7 @@ use borrow.Author.Needs.{needs}
 use Rattle.slots.specs.State.{startsIn, formsIn, carryIn, ownersIn, offsetsIn}
 use Rattle.slots.specs.Links.{contextsRead}
 use Rattle.asm.proofs.Carrying.{placed-any}
-use Rattle.entries.proofs.Results.{assembled-by, not-refused}
+use Rattle.finishing.proofs.Ended.{assembled-by, not-refused}
 use Rattle.targets.proofs.filling.find_aims.Statement.{statement}
 use Rattle.targets.proofs.filling.find_aims.Tie as tie
 

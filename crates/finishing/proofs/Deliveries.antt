@@ -16,8 +16,7 @@ use Rattle.rules.specs.Answers.{Judged, ok, no, require}
 use Rattle.rules.specs.Run.{Output, fits, answerOf, front, listingAfter, imageAfter}
 use Rattle.output.specs.Stems.{listOf}
 use Rattle.output.proofs.Left.{length-list}
-use Rattle.entries.specs.Stems.{fitsAll}
-use Rattle.entries.specs.Optimizing.{roomed, Delivers, Fitted}
+use Rattle.finishing.specs.Ending.{fitsAll, roomed, Delivers, Fitted}
 
 -- a refusal changes nothing
 pub delivers-no : (x : Judged Output) (q : Refusal) (out image : List ℕ) → x ≡ no q → Delivers x (Refused q) out image out image

@@ -1,4 +1,4 @@
--- `entries::finishing::judge_end` meets its contract: an end form assembles, and both rooms are judged before a byte is written.
+-- `finishing::judge_end` meets its contract: an end form assembles, and both rooms are judged before a byte is written.
 use mathlib.Core.Path.{_≡_, sym, ap, _∙_}
 use Prim.Native.Nat.{ℕ, _≤_}
 use native.Mathlib.Omega.{arith}
@@ -12,11 +12,11 @@ use Rattle.slots.specs.Links.{contextsRead}
 use Rattle.image.specs.Tables.{Tables, tablesOf, program}
 use Rattle.asm.proofs.Carrying.{placed-any}
 use Rattle.output.proofs.Listings.{kept-few}
-use Rattle.entries.specs.Optimizing.{resultOf, Assembled}
-use Rattle.entries.proofs.Deliveries.{fitted-listing, fitted-image, fitted-list, fitted-whole}
-use Rattle.entries.proofs.Results.{assembled-by, not-refused, assembled-encodes, image-result, listing-result, stems-result, count-result, positioned}
-use Rattle.entries.proofs.finishing.judge_end.Statement.{statement}
-use Rattle.entries.proofs.finishing.judge_end.Tie as tie
+use Rattle.finishing.specs.Ending.{resultOf, Assembled}
+use Rattle.finishing.proofs.Deliveries.{fitted-listing, fitted-image, fitted-list, fitted-whole}
+use Rattle.finishing.proofs.Ended.{assembled-by, not-refused, assembled-encodes, image-result, listing-result, stems-result, count-result, positioned}
+use Rattle.finishing.proofs.judge_end.Statement.{statement}
+use Rattle.finishing.proofs.judge_end.Tie as tie
 
 judge-linked-requires : tie.Need-judge-linked-requires
 judge-linked-requires c κs =

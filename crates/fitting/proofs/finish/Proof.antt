@@ -1,4 +1,4 @@
--- `entries::assembling::finish` meets its contract: the room is judged before a byte is written.
+-- `fitting::finish` meets its contract: the room is judged before a byte is written.
 use mathlib.Core.Path.{_≡_, sym, ap, _∙_}
 use mathlib.Core.List.{List, []}
 use Prim.Native.Nat.{ℕ, _≤_}
@@ -9,10 +9,10 @@ use Rattle.rules.specs.Answers.{Judged, ok, orD}
 use Rattle.image.specs.Tables.{Tables, tablesOf}
 use Rattle.image.specs.Encoding.{encodeSlots}
 use Rattle.image.specs.Image.{imageOf}
-use Rattle.entries.proofs.Rooms.{is-there, leaves-short, leaves-whole}
+use Rattle.fitting.proofs.Rooms.{is-there, leaves-short, leaves-whole}
 use Rattle.slots.specs.State.{carryIn, ownersIn, offsetsIn}
-use Rattle.entries.proofs.assembling.finish.Statement.{statement}
-use Rattle.entries.proofs.assembling.finish.Tie as tie
+use Rattle.fitting.proofs.finish.Statement.{statement}
+use Rattle.fitting.proofs.finish.Tie as tie
 
 abbrev here : (c : tie.Start) → Tables
 here c =

@@ -20,7 +20,7 @@ ghost use Rattle.slots.specs.Slots.{Slots, programOf};
 ghost use Rattle.slots.specs.State.{startsIn, tableOf};
 ghost use Rattle.slots.specs.Links.{Beside};
 ghost use Rattle.attempts.specs.Standing.{Standing};
-ghost use Rattle.entries.specs.Optimizing.{resultOf, Fitted};
+ghost use Rattle.finishing.specs.Ending.{resultOf, Fitted};
 
 // What a run is asked for: the switches, the listing's form, and how many bytes are lent for the list of stems (C-13).
 pub struct Wanted {

@@ -12,7 +12,7 @@ use Rattle.rules.specs.declared.Answer.the-variants.{Done, Refused}
 use Rattle.rules.specs.declared.Refusal.{Refusal}
 use Rattle.rules.specs.declared.Refusal.the-variants.{Room}
 use Rattle.rules.specs.Answers.{Judged, ok, no, _>>=_, require, orD, isOk}
-use Rattle.entries.specs.Assembling.{fitted, answerAs, roomAs, Leaves}
+use Rattle.fitting.specs.Fitting.{fitted, answerAs, roomAs, Leaves}
 
 -- a result that is there
 pub is-there : (x : Judged (List ℕ)) → isOk x ≡ true → x ≡ ok (orD x [])

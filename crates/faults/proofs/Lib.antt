@@ -1,0 +1,3 @@
+pub mod Told
+-- ---- two results coincide
+pub mod Coincide

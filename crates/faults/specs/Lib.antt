@@ -1,0 +1,2 @@
+-- The number, place and amount of a refusal.
+pub mod Faults

@@ -1,0 +1,2 @@
+-- An end form and the rooms that it is to fit.
+pub mod Ending

@@ -1,0 +1,2 @@
+-- An image and the room that it is to fit.
+pub mod Fitting
