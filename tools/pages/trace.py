@@ -1,22 +1,23 @@
 #!/usr/bin/env python3
-"""Holds docs/TRACE.md against the documents and the crates.
+"""Holds docs/TRACE.md against the documents and the crates, and in the other pages what can be held likewise.
 
     python3 tools/pages/trace.py [FOLDER]
 
 FOLDER has documents 01 and 02 (files that begin with 01 and 02), which this repository does not have. With it: the quotations of a
-section, read in order, are the document's section word for word, and no section is left out. Always: each name of the column "Said by"
-is defined in specs or proofs, each function of "Code" in its file, and each edit of "Edit" in a must-fail folder or in tools/edits.
-Exits with 0 if nothing is wrong."""
+section, read in order, are the document's section word for word, no section is left out, and what DECISIONS quotes stands in one of
+them. Always: each name of the column "Said by" is defined in specs or proofs, each function of "Code" in its file, each edit of "Edit"
+stands in a must-fail folder or in tools/edits; and each `File.name` of the other pages exists. Exits with 0 if nothing is wrong."""
 import re
 import sys
 from pathlib import Path
 
 TOP = Path(__file__).resolve().parents[2]
 TICKS = re.compile(r'`([^`]*)`')
-NAME = re.compile(r"[A-Za-z][A-Za-z0-9ℕ'*-]*$")
-DOTTED = re.compile(r"([A-Z][A-Za-z0-9]*)\.([A-Za-z][A-Za-z0-9ℕ'*-]*)$")
+NAME = re.compile(r"[A-Za-z][A-Za-z0-9ℕ'-]*$")
+DOTTED = re.compile(r"([A-Z][A-Za-z0-9]*)\.([A-Za-z][A-Za-z0-9ℕ'-]*)$")
 DEFINED = re.compile(r"^ *(?:(?:abbrev|unfoldable|pub|record|data) )*([A-Za-z][A-Za-z0-9ℕ'-]*)(?: .*)? ?:(?: |$)")
-CODED = re.compile(r'^ *(?:pub )?(?:fn|enum|struct|const) ([A-Za-z0-9_]+)', re.M)
+CODED = re.compile(r'^ *(?:pub )?(?:extern "C" )?(?:fn|enum|struct|const) ([A-Za-z0-9_]+)', re.M)
+OTHERS = ['PROMISES', 'DECISIONS', 'AUDIT', 'ARCHITECTURE', 'FORMAT', 'RULES']
 
 
 def definitions():
@@ -84,8 +85,8 @@ class Page:
         self.edits = edits()
         self.quoted = {}
 
-    def say(self, n, what):
-        print(f'docs/TRACE.md:{n}: {what}')
+    def say(self, n, what, page='TRACE'):
+        print(f'docs/{page}.md:{n}: {what}')
         self.wrong += 1
 
     def scope(self, owner):
@@ -99,7 +100,8 @@ class Page:
             dotted = DOTTED.match(token)
             if dotted:
                 here = self.scope(dotted.group(1))
-            if dotted and dotted.group(2) not in here | {'*'} or NAME.match(token) and token not in here:
+            name = dotted.group(2) if dotted else token
+            if (NAME.match(name) or '.' in name or '::' in name) and name not in here:
                 self.say(n, f'no definition {token}')
 
     def code(self, n, cell):
@@ -141,6 +143,23 @@ class Page:
                 at += len(said)
 
 
+    def names(self, page, text):
+        """Each `File.name` of another page."""
+        for n, line in enumerate(text.splitlines(), 1):
+            for dotted in filter(None, map(DOTTED.match, TICKS.findall(line))):
+                if dotted.group(2) not in self.scope(dotted.group(1)) and dotted.group(0) != 'File.name':
+                    self.say(n, f'no definition {dotted.group(0)}', page)
+
+    def decided(self, text, documents):
+        """What DECISIONS quotes above an entry; two points stand for what is left out."""
+        for block in re.finditer(r'(?:^> .*\n)+', text, re.M):
+            lines = re.sub(r'^> ', '', block.group(0), flags=re.M)
+            for said in re.findall(r'"(.*?)"(?= \(|;|$)', flat(lines).strip()):
+                for part in re.split(r' ?\.\. ?', said):
+                    if part not in documents:
+                        self.say(text.count('\n', 0, block.start()) + 1, f'in no document: {part}', 'DECISIONS')
+
+
 def main():
     page = Page()
     count = 0
@@ -150,9 +169,13 @@ def main():
         page.said(n, row.get('Said by', ''))
         page.code(n, row.get('Code', ''))
         page.edit(n, row.get('Edit', ''))
+    for name in OTHERS:
+        page.names(name, (TOP / f'docs/{name}.md').read_text())
     for folder in sys.argv[1:]:
-        for path in sorted(Path(folder).glob('0[12]*')):
-            page.hold(path.name[:2], path.read_text())
+        documents = {path.name[:2]: path.read_text() for path in sorted(Path(folder).glob('0[12]*'))}
+        for number, text in documents.items():
+            page.hold(number, text)
+        page.decided((TOP / 'docs/DECISIONS.md').read_text(), ' '.join(map(flat, documents.values())))
     print(f'{count} rows, {page.wrong} wrong')
     sys.exit(page.wrong > 0)
 
