@@ -3,8 +3,8 @@ mod assembling; // a listing to its image
 mod optimizing; // a listing to its end form
 
 pub use assembling::assemble;
-pub use faults::Fault;
-pub use faults::fault_of;
+pub use fault::Fault;
+pub use fault::fault_of;
 pub use optimizing::Stemmed;
 pub use optimizing::optimize_jumps;
 pub use optimizing::optimize_stems;

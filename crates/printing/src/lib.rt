@@ -1,6 +1,6 @@
 // The program's answer to a text as the bytes that it prints: the new listing and the last line on a page, or a refusal's 7E line.
 use entries::optimize_jumps;
-use faults::fault_of;
+use fault::fault_of;
 use output::done_line;
 use output::refused_line;
 use rules::Answer;

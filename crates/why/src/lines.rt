@@ -1,7 +1,7 @@
 // An attempt that has a reason as a line: 75, what is tried, the place, the kind of reason, and the refusal as the 7E line has it.
 use digits::put_line;
-use faults::Fault;
-use faults::fault_of;
+use fault::Fault;
+use fault::fault_of;
 use instruction::tables::BR;
 use instruction::tables::CALL;
 use instruction::tables::JMP;
@@ -12,7 +12,7 @@ ghost use mathlib.Core.Path.{_≡_};
 ghost use Prim.Native.Nat.{_+_, _*_, _/_, _%_, _≤_, _<_};
 ghost use lib.ListN.{length};
 ghost use Rattle.rules.specs.Refusals.{ofNone};
-ghost use Rattle.faults.specs.Faults.{IsFault};
+ghost use Rattle.fault.specs.Faults.{IsFault};
 ghost use Rattle.digits.specs.Digits.{laid};
 ghost use Rattle.staying.specs.Reasons.{attemptAt};
 ghost use Rattle.staying.specs.Lines.{attemptByte, reasonByte, faultIn, whyLine};

@@ -9,7 +9,7 @@ use borrow.Author.Needs.{needs}
 use Rattle.rules.specs.Refusals.{Fault}
 use Rattle.rules.specs.Output.{refusedLine}
 use Rattle.rules.specs.Run.{front}
-use Rattle.faults.proofs.Told.{fault-given}
+use Rattle.fault.proofs.Told.{fault-given}
 use Rattle.printing.specs.Page.{lowBytes}
 use Rattle.printing.proofs.Lines.{length-refused, line-fills}
 use Rattle.printing.proofs.refusal_line.Statement.{statement}

@@ -3,7 +3,7 @@ use mathlib.Core.Path.{sym, subst}
 use borrow.Author.Needs.{needs}
 use Rattle.staying.specs.declared.Reason.{Reason}
 use Rattle.staying.specs.Lines.{faultIn}
-use Rattle.faults.specs.Faults.{IsFault}
+use Rattle.fault.specs.Faults.{IsFault}
 use Rattle.why.proofs.lines.fault_in.Statement.{statement}
 use Rattle.why.proofs.lines.fault_in.Tie as tie
 

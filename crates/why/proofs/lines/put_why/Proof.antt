@@ -10,7 +10,7 @@ use Rattle.rules.specs.Refusals.{Fault}
 use Rattle.rules.specs.Expressions.{pair, four}
 use Rattle.rules.specs.Output.{lineOf}
 use Rattle.digits.specs.Digits.{laid}
-use Rattle.faults.proofs.Told.{fault-given}
+use Rattle.fault.proofs.Told.{fault-given}
 use Rattle.staying.specs.Reasons.{attemptAt}
 use Rattle.staying.specs.Lines.{attemptByte, reasonByte, faultBytes, whyLine}
 use Rattle.why.proofs.Bytes.{why-bytes}

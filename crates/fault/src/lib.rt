@@ -3,7 +3,7 @@ use rules::Place;
 use rules::Refusal;
 ghost use mathlib.Core.Path.{_≡_};
 ghost use Rattle.rules.specs.Refusals.{ofStatement, ofArgument, faultOf};
-ghost use Rattle.faults.specs.Faults.{IsFault};
+ghost use Rattle.fault.specs.Faults.{IsFault};
 
 // The number and the place of a refusal; the argument's place and the signed number at fault, zeros but for 8 to 11.
 pub struct Fault {

@@ -1,13 +1,13 @@
--- `faults::fault_of` meets its contract: a number that is passed on is read back from its bits.
+-- `fault::fault_of` meets its contract: a number that is passed on is read back from its bits.
 use mathlib.Core.Path.{_≡_, sym, ap, _∙_, subst}
 use mir.Syntax.{w32}
 use mir.Val.{toZ, ofZ}
 use borrow.Author.Needs.{needs}
 use Rattle.rules.specs.Refusals.{Fault as Given, ofArgument, faultOf}
-use Rattle.faults.specs.declared.Fault.{Fault}
-use Rattle.faults.specs.Faults.{IsFault}
-use Rattle.faults.proofs.fault_of.Statement.{statement}
-use Rattle.faults.proofs.fault_of.Tie as tie
+use Rattle.fault.specs.declared.Fault.{Fault}
+use Rattle.fault.specs.Faults.{IsFault}
+use Rattle.fault.proofs.fault_of.Statement.{statement}
+use Rattle.fault.proofs.fault_of.Tie as tie
 
 is-same : (f : Fault) (g h : Given) → g ≡ h → IsFault f g → IsFault f h
 is-same f g h e x = subst (λ (y : Given). IsFault f y) e x

@@ -4,8 +4,8 @@ use Prim.Native.Nat.{ℕ}
 use lib.IntN.{ℤ}
 use Rattle.rules.specs.declared.Refusal.{Refusal}
 use Rattle.rules.specs.Refusals.{faultOf}
-use Rattle.faults.specs.declared.Fault.{Fault}
-use Rattle.faults.specs.Faults.{IsFault}
+use Rattle.fault.specs.declared.Fault.{Fault}
+use Rattle.fault.specs.Faults.{IsFault}
 
 pub one-fault : (r : Refusal) (f g : Fault) → IsFault f (faultOf r) → IsFault g (faultOf r) → f ≡ g
 one-fault r f g a b =

@@ -1,7 +1,7 @@
 -- What `fault_of` says of a refusal: the four parts that the definition gives.
 use mathlib.Core.Path.{_≡_}
 use Rattle.rules.specs.Refusals.{Fault as Given}
-use Rattle.faults.specs.declared.Fault.{Fault}
+use Rattle.fault.specs.declared.Fault.{Fault}
 
 pub record IsFault (f : Fault) (g : Given) : Type 0 where
   pub number : f .number ≡ g .number
