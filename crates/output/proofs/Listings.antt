@@ -134,7 +134,7 @@ module _ (t : Slots) where
       ap (stemsFrom 0) (tab-suc (slotAt t) n) ∙ stems-append 0 (tab (slotAt t) n) (slotAt t n ∷ []) ∙ rw z
 
   -- a slot is gone by its form alone
-  gone-form : Held (t .frames) (t .starts) (t .count) → (i : ℕ) → i < t .count → isGone (slotAt t i) ≡ leb goneForm (getD (t .forms) i 0)
+  pub gone-form : Held (t .frames) (t .starts) (t .count) → (i : ℕ) → i < t .count → isGone (slotAt t i) ≡ leb goneForm (getD (t .forms) i 0)
   gone-form h i l = ⊎-elim is-kept is-gone (lt-or-le (getD (t .forms) i 0) goneForm)
     where
       is-gone : goneForm ≤ getD (t .forms) i 0 → isGone (slotAt t i) ≡ leb goneForm (getD (t .forms) i 0)
