@@ -1,4 +1,5 @@
-/* The entries of Mortarbee for C, as the archive of `rt staticlib border` has them (x86-64 Linux, the C calling convention).
+/* The entries of Mortarbee for C, as the archive of `rt staticlib border` has them (x86-64 Linux, the C calling convention). Those that say "core" stand in
+   the smaller archive of `rt staticlib border_core` too; a program links one of the two.
    The toolchain writes no header: this one says its rules, and fuzz/fuzz.c and the tests of rust/ hold it to the archive. */
 #ifndef MORTARBEE_H
 #define MORTARBEE_H
@@ -8,6 +9,7 @@
 
 /* How the border is crossed:
    - A slice is two arguments, its first byte and its length. The pointer is never null, not even with length 0.
+   - An array is one argument, its first element: it has exactly as many as its comment says.
    - A room that is lent to be written overlaps neither the listing nor another room.
    - An enum does not cross it, so an answer is a struct, which is returned by value (in memory, as five numbers and more are). Each begins with
      the same four numbers; what follows them is 0 on a refusal.
@@ -22,10 +24,10 @@ struct mortarbee_reply {
     uint64_t image;    /* bytes written to the image room; what lies behind is unchanged */
 };
 
-/* Judges a listing as it stands, and writes its image. `listing` and `rewrites` are 0. */
+/* Core. Judges a listing as it stands, and writes its image. `listing` and `rewrites` are 0. */
 struct mortarbee_reply mortarbee_assemble(const uint8_t *listing, size_t listing_len, uint8_t *image, size_t image_len);
 
-/* Rewrites a listing until nothing can be folded or shrunk, and writes the new listing (without the line 7F) and its image. Of the first three 0 is no and any
+/* Core. Rewrites a listing until nothing can be folded or shrunk, and writes the new listing (without the line 7F) and its image. Of the first three 0 is no and any
    other number yes: whether comments are kept in the new listing, whether Callf is tried as Call, whether folds are tried. */
 struct mortarbee_reply mortarbee_optimize_jumps(uint8_t comments, uint8_t callf, uint8_t folds, const uint8_t *listing, size_t listing_len, uint8_t *out, size_t out_len,
                                                 uint8_t *image, size_t image_len);
@@ -33,6 +35,42 @@ struct mortarbee_reply mortarbee_optimize_jumps(uint8_t comments, uint8_t callf,
 /* Rooms that are never too short: 57,344 characters, four more for each of 1,024 transfers, 1,024 line feeds and the first line of five, and 65,536 bytes. */
 #define MORTARBEE_LISTING_ROOM 62469
 #define MORTARBEE_IMAGE_ROOM 65536
+
+/* ---- Core. What document 01's program prints: the new listing and the line 7F on one page. 12 is never given, and a refusal changes no byte: the program
+   then prints the line of mortarbee_refusal_line. */
+
+#define MORTARBEE_PAGE_ROOM 62482
+#define MORTARBEE_LINE_ROOM 19
+
+struct mortarbee_printed {
+    uint64_t number;   /* as of mortarbee_optimize_jumps */
+    uint64_t place;
+    uint64_t argument;
+    int64_t amount;
+    uint64_t page;     /* bytes of the page that are printed; what lies behind is unchanged */
+    uint64_t listing;  /* how many of them are the listing; the 13 behind it are the line 7F */
+    uint64_t rewrites;
+    uint64_t image;    /* bytes written to the image room */
+};
+
+/* `page` has MORTARBEE_PAGE_ROOM bytes, `image` MORTARBEE_IMAGE_ROOM. */
+struct mortarbee_printed mortarbee_print_run(uint8_t comments, uint8_t callf, uint8_t folds, const uint8_t *listing, size_t listing_len, uint8_t *page,
+                                             uint8_t *image);
+
+/* The line 7E of an answer's four numbers, its line feed included; `line` has MORTARBEE_LINE_ROOM bytes. The numbers of a run fit. */
+void mortarbee_refusal_line(uint8_t number, uint16_t place, uint8_t argument, int32_t amount, uint8_t *line);
+
+/* ---- Core. Whether a text keeps the form of a listing: 1 and 2 alone. */
+
+struct mortarbee_counted {
+    uint64_t number;     /* 0: it does; mortarbee_check: 1 and 2; mortarbee_positions: 1, 2, 5 and 6 */
+    uint64_t place;      /* of the statement refused */
+    uint64_t argument;   /* 0 */
+    int64_t amount;      /* 0 */
+    uint64_t statements; /* how many it has */
+};
+
+struct mortarbee_counted mortarbee_check(const uint8_t *listing, size_t listing_len);
 
 /* ---- C-17: where does statement n sit? */
 
@@ -44,14 +82,19 @@ struct mortarbee_sits {
     uint64_t address;  /* the position before the statement's own org or pad; where n is the statement count, the end position */
 };
 
-/* Answers from the statements before n alone; what stands at n or behind is not looked at. */
+/* Core. Answers from the statements before n alone; what stands at n or behind is not looked at. */
 struct mortarbee_sits mortarbee_where_sits(const uint8_t *listing, size_t listing_len, size_t n);
+
+/* Core. The same of all statements at once: positions[n] for each n up to the statement count. `positions` has MORTARBEE_POSITIONS numbers; those
+   behind are unchanged, and all of them on a refusal, 1, 2, 5 or 6 of the whole listing. */
+#define MORTARBEE_POSITIONS 1025
+struct mortarbee_counted mortarbee_positions(const uint8_t *listing, size_t listing_len, uint32_t *positions);
 
 /* ---- C-21: the listing of an image, from the address `start` on, in the old form; it assembles to the same bytes. `rewrites` and `image` are 0. Refusals: 16
    for a start beyond the end of the image, 2, then 12 with the count of statements that would come out. A room of 50,176 bytes is never too short. */
 struct mortarbee_reply mortarbee_read_back(const uint8_t *image, size_t image_len, size_t start, uint8_t *listing, size_t listing_len);
 
-/* ---- C-16: a listing as text for people, one line a statement; the line 7D02 has none. `listing` is the text's length; `rewrites` and `image` are 0.
+/* ---- Core. C-16: a listing as text for people, one line a statement; the line 7D02 has none. `listing` is the text's length; `rewrites` and `image` are 0.
    Refusals: 1 and 2 of the listing, then 12 with the statement count. */
 struct mortarbee_reply mortarbee_text(const uint8_t *listing, size_t listing_len, uint8_t *text, size_t text_len);
 
@@ -111,7 +154,7 @@ struct mortarbee_stemmed {
     uint64_t stems;    /* entries of the list, one for each statement that came out; two bytes each, high byte first */
 };
 
-/* mortarbee_optimize_jumps that hands out, in `list`, the place that each statement of the new listing stems from. Ask for comments where the differences
+/* Core. mortarbee_optimize_jumps that hands out, in `list`, the place that each statement of the new listing stems from. Ask for comments where the differences
    are to be of what was rewritten alone. */
 struct mortarbee_stemmed mortarbee_stems(uint8_t comments, uint8_t callf, uint8_t folds, const uint8_t *listing, size_t listing_len, uint8_t *out, size_t out_len,
                                        uint8_t *image, size_t image_len, uint8_t *list, size_t list_len);
@@ -165,7 +208,7 @@ struct mortarbee_told mortarbee_steps(uint8_t comments, uint8_t callf, uint8_t f
 /* A room that is never too short: 3,072 lines. */
 #define MORTARBEE_STEPS_ROOM 64512
 
-/* ---- What each transfer of the output names, a line of 45 characters each: 74, 00 where its target names the byte that it named in the input or 01 where
+/* ---- Core. What each transfer of the output names, a line of 45 characters each: 74, 00 where its target names the byte that it named in the input or 01 where
    it needs eyes, its place and the place whose target it carries in two bytes each, and for the input and then the output the value in four bytes, the
    place of the statement that has the byte in two (FFFF: none has), and the byte's offset in it in two. Refusals: the listing's, then 12 with the count. */
 struct mortarbee_aimed {
@@ -216,6 +259,22 @@ struct mortarbee_found {
     uint64_t callf;
     uint64_t folds;
 };
+
+struct mortarbee_shown {
+    uint64_t number;   /* 0: good; 12: the room is short; 19: a setting held twice or out of range */
+    uint64_t place;    /* 0 */
+    uint64_t argument; /* 0 */
+    int64_t amount;    /* 0 */
+    uint64_t held;     /* 1: the place holds an edition; 0: it is free, and zeros follow */
+    uint64_t family;
+    uint64_t edition;
+    uint64_t comments; /* its settings: 1 yes, 0 no */
+    uint64_t callf;
+    uint64_t folds;
+};
+
+/* What place k of the store holds, from 0; there is nothing from 32 on. */
+struct mortarbee_shown mortarbee_show_place(const uint8_t *room, size_t room_len, size_t k);
 
 /* Adds an edition of a family, numbered one above its newest from 1 on. The settings are given as to mortarbee_optimize_jumps. */
 struct mortarbee_numbered mortarbee_add_edition(uint8_t *room, size_t room_len, uint16_t family, uint8_t comments, uint8_t callf, uint8_t folds);

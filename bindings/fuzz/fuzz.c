@@ -1,5 +1,5 @@
 /* Hands arbitrary bytes to each entry for a time, and looks for a crash, a byte changed on refusal or behind a result, a hang, source lines that alter an
-   answer, and addresses, editions, runs under an edition, images read back, texts, texts read, lists of stems and differences that are not what C-17, C-24,
+   answer, and pages, addresses, editions, runs under an edition, images read back, texts, texts read, lists of stems and differences that are not what C-17, C-24,
    C-21, C-16, C-19 and C-13 say.
    usage: fuzz [--seed N] [--seconds N]. What failed is written to fuzz.failed. Built by ../build.sh. */
 #include "../mortarbee.h"
@@ -15,6 +15,7 @@
 
 static void lend_text(void);
 #include "differences.h"
+#include "pages.h"
 
 static uint64_t done, refusals[13], marked, compared, under_runs;
 static unsigned asked; /* the settings, by number: 1 keeps comments, 2 lets Callf shrink, 4 lets folds run */
@@ -144,7 +145,9 @@ static void hand_over(uint64_t number) {
     asked = number % 8;
     lend_text();
     struct mortarbee_reply plain = try_entry(0);
+    try_check(plain);
     try_places(plain);
+    try_positions();
     lend_text();
     try_people(plain);
     try_reading(plain.number != 1 && plain.number != 2);
@@ -152,6 +155,8 @@ static void hand_over(uint64_t number) {
     size_t written = rewritten.number ? 0 : rewritten.listing;
     static uint8_t new_listing[MORTARBEE_LISTING_ROOM];
     memcpy(new_listing, out, written);
+    lend_text();
+    try_page(asked, rewritten, out, image);
     try_stems(asked, rewritten, out, image);
     check(plain.number == rewritten.number && plain.place == rewritten.place && plain.argument == rewritten.argument && plain.amount == rewritten.amount,
           "assembled and rewritten are not refused alike");
@@ -209,6 +214,8 @@ int main(int argc, char **argv) {
     }
     printf("; with source lines: %llu texts, %llu compared with the same in the old form", (unsigned long long)marked, (unsigned long long)compared);
     printf("; places: %llu with an address, %llu refused", (unsigned long long)addresses, (unsigned long long)without_address);
+    printf("; pages: %llu, lines 7E: %llu, tables of positions: %llu", (unsigned long long)pages_printed, (unsigned long long)lines_printed,
+           (unsigned long long)tables_filled);
     printf("; images: %llu read back, %llu refused", (unsigned long long)read_back_done, (unsigned long long)read_back_refused);
     printf("; texts for people: %llu of %llu bytes", (unsigned long long)texts_written, (unsigned long long)text_bytes);
     printf("; texts read: %llu, refused 15: %llu, 2: %llu", (unsigned long long)texts_read, (unsigned long long)texts_unread, (unsigned long long)texts_over);

@@ -63,7 +63,7 @@ static size_t free_place(void) {
     return k;
 }
 
-/* ---- the four entries, each against the store as it should be before and after */
+/* ---- the entries, each against the store as it should be before and after */
 
 static void lend_store(void) {
     lend(&store_room, store.n, 0);
@@ -134,6 +134,18 @@ static void get(unsigned family, unsigned edition, int newest) {
     check(r.comments <= 1 && r.callf <= 1 && r.folds <= 1 && r.comments + 2 * r.callf + 4 * r.folds == (expected ? 0 : switches_at(k)), "other settings were found");
 }
 
+/* A place by itself: what it holds, or that it is free, as it is from PLACES on. */
+static void show(size_t k) {
+    unsigned expected = judged();
+    lend_store();
+    struct mortarbee_shown r = mortarbee_show_place(store_room.start, store.n, k);
+    end_store(r.number, expected);
+    int held = expected == 0 && k < PLACES && !free_at(k);
+    check(r.place == 0 && r.argument == 0 && r.amount == 0, "a place or a number at fault with a place of the store");
+    check(r.held == (uint64_t)held && r.family == (held ? family_at(k) : 0) && r.edition == (held ? edition_at(k) : 0), "another edition is shown");
+    check(r.comments <= 1 && r.callf <= 1 && r.folds <= 1 && r.comments + 2 * r.callf + 4 * r.folds == (held ? switches_at(k) : 0), "other settings are shown");
+}
+
 /* ---- which store, and what is asked of it */
 
 static unsigned any_family(void) { return below(9) ? (unsigned)below(4) : below(3) ? (unsigned)below(65536) : 65535; }
@@ -173,7 +185,7 @@ static void try_store(void) {
     } else if (below(200) == 0) {
         damage_store();
     }
-    switch (below(5)) {
+    switch (below(6)) {
     case 0:
     case 1:
         add(any_family(), (unsigned)below(8));
@@ -183,6 +195,9 @@ static void try_store(void) {
         break;
     case 3:
         get(any_family(), 0, 1);
+        break;
+    case 4:
+        show(below(8) ? below(PLACES) : PLACES - 1 + (size_t)(next() >> below(64)) % (SIZE_MAX - PLACES));
         break;
     default:
         if (below(4) == 0) {

@@ -1,4 +1,5 @@
 -- What is shown of the functions for C.
+pub mod ShowsRight
 pub mod Same
 pub mod Salvages
 -- ---- two results coincide

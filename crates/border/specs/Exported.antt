@@ -1,97 +1,38 @@
--- What the functions for C answer: structs of numbers, the first 0 where nothing is refused.
+-- What the functions for C answer of a store: structs of numbers, the first 0 where nothing is refused.
 use mathlib.Core.Path.{_≡_}
 use mathlib.Core.List.{List}
-use mathlib.Core.Bool.{Bool, not, cond}
+use mathlib.Core.Bool.{Bool, cond}
 use Prim.Native.Nat.{ℕ}
 use lib.Dec.{eqb}
-use Rattle.rules.specs.declared.Settings.{Settings}
-use Rattle.rules.specs.declared.Answer.{Answer}
-use Rattle.rules.specs.declared.Answer.the-variants.{Done, Refused}
 use Rattle.rules.specs.Answers.{Judged}
 use Rattle.rules.specs.Run.{Output}
-use Rattle.rules.specs.Refusals.{Fault, ofNone, faultOf}
-use Rattle.sits.specs.declared.Sits.{Sits}
-use Rattle.sits.specs.declared.Sits.the-variants.{At, Refused as NotSitting}
+use Rattle.rules.specs.Refusals.{Fault, faultOf}
 use Rattle.store.specs.declared.Edition.{Edition}
+use Rattle.store.specs.declared.Setting.{Setting}
 use Rattle.store.specs.declared.Found.{Found}
 use Rattle.store.specs.declared.Found.the-variants.{Is as IsFound, Refused as NotFound}
+use Rattle.store.specs.declared.Shown.{Shown}
+use Rattle.store.specs.declared.Shown.the-variants.{Is as IsShown, Free as IsFree, Refused as NotShown}
 use Rattle.store.specs.declared.Numbered.{Numbered}
 use Rattle.store.specs.declared.Numbered.the-variants.{Is as IsNumbered, Refused as NotNumbered}
-use Rattle.store.specs.Rooms.{getIn, newestIn}
+use Rattle.store.specs.Rooms.{getIn, newestIn, placeIn, foundAs, shownAs}
+use Rattle.store.specs.Switches.{settingsOf}
 use Rattle.editions.specs.Under.{under}
-use Rattle.border.specs.declared.replies.Reply.{Reply}
-use Rattle.border.specs.declared.replies.SitsReply.{SitsReply}
+use Rattle.border_core.specs.Replies.{nothing}
 use Rattle.border.specs.declared.replies.NumberedReply.{NumberedReply}
 use Rattle.border.specs.declared.replies.FoundReply.{FoundReply}
-use Rattle.border.specs.declared.replies.Told.{Told}
-
--- settings as three bytes: 0 is no, any other yes
-abbrev pub askedBy : (comments callf folds : ℕ) → Settings
-askedBy comments callf folds = record { comments = not (eqb comments 0); callf = not (eqb callf 0); folds = not (eqb folds 0) }
+use Rattle.border.specs.declared.replies.ShownReply.{ShownReply}
 
 -- a setting as a number
 abbrev pub bit : Bool → ℕ
 bit b = cond b 1 0
 
--- "Each returns its number and the statement's place from 0; 12 returns the statement count"; C-12: "Refusals 8 to 11 shall also give the argument's
--- place from 0 and the signed number at fault". The four numbers, zeros where nothing is refused
-abbrev pub nothing : Fault
-nothing = ofNone 0
-
-pub record Tells (t : Told) (f : Fault) : Type 0 where
-  pub number : t .number ≡ f .number
-  pub place : t .place ≡ f .place
-  pub argument : t .argument ≡ f .argument
-  pub amount : t .amount ≡ f .amount
-
--- ---- document 01, and C-24's run under an edition
+-- ---- C-24, a run under an edition
 
 -- under edition e of family f; 0 asks for the newest, for no edition has this number
 abbrev pub runUnder : (store : List ℕ) (f e : ℕ) (text : List ℕ) (listingRoom imageRoom : ℕ) → Judged Output
 runUnder store f e text listingRoom imageRoom =
     under (cond (eqb e 0) (newestIn store f) (getIn store f e)) text listingRoom imageRoom
-
-abbrev pub faultIn : Answer → Fault
-faultIn (Done s) = nothing
-faultIn (Refused r) = faultOf r
-
-abbrev pub listingOf : Answer → ℕ
-listingOf (Done s) = s .listing
-listingOf (Refused r) = 0
-
-abbrev pub rewritesOf : Answer → ℕ
-rewritesOf (Done s) = s .rewrites
-rewritesOf (Refused r) = 0
-
-abbrev pub imageOf : Answer → ℕ
-imageOf (Done s) = s .image
-imageOf (Refused r) = 0
-
-pub record Says (r : Reply) (a : Answer) : Type 0 where
-  pub number : r .number ≡ faultIn a .number
-  pub place : r .place ≡ faultIn a .place
-  pub argument : r .argument ≡ faultIn a .argument
-  pub amount : r .amount ≡ faultIn a .amount
-  pub listing : r .listing ≡ listingOf a
-  pub rewrites : r .rewrites ≡ rewritesOf a
-  pub image : r .image ≡ imageOf a
-
--- ---- C-17, `where_sits`
-
-abbrev pub sitsFault : Sits → Fault
-sitsFault (At a) = nothing
-sitsFault (NotSitting r) = faultOf r
-
-abbrev pub addressOf : Sits → ℕ
-addressOf (At a) = a .0
-addressOf (NotSitting r) = 0
-
-pub record SaysSits (r : SitsReply) (a : Sits) : Type 0 where
-  pub number : r .number ≡ sitsFault a .number
-  pub place : r .place ≡ sitsFault a .place
-  pub argument : r .argument ≡ sitsFault a .argument
-  pub amount : r .amount ≡ sitsFault a .amount
-  pub address : r .address ≡ addressOf a
 
 -- ---- C-24, `add_edition` and `drop_old`
 
@@ -130,3 +71,41 @@ pub record SaysFound (r : FoundReply) (a : Found) : Type 0 where
   pub comments : r .comments ≡ ofFound (λ e. bit (e .settings .comments)) a
   pub callf : r .callf ≡ ofFound (λ e. bit (e .settings .callf)) a
   pub folds : r .folds ≡ ofFound (λ e. bit (e .settings .folds)) a
+
+-- ---- C-24, `show_place`
+
+abbrev pub shownFault : Shown → Fault
+shownFault (IsShown s) = nothing
+shownFault IsFree = nothing
+shownFault (NotShown r) = faultOf r
+
+-- a number of what the place holds
+abbrev pub ofShown : (Setting → ℕ) → Shown → ℕ
+ofShown f (IsShown s) = f s
+ofShown f IsFree = 0
+ofShown f (NotShown r) = 0
+
+pub record SaysShown (r : ShownReply) (a : Shown) : Type 0 where
+  pub number : r .number ≡ shownFault a .number
+  pub place : r .place ≡ shownFault a .place
+  pub argument : r .argument ≡ shownFault a .argument
+  pub amount : r .amount ≡ shownFault a .amount
+  pub held : r .held ≡ ofShown (λ s. 1) a
+  pub family : r .family ≡ ofShown (λ s. s .family) a
+  pub edition : r .edition ≡ ofShown (λ s. s .edition) a
+  pub comments : r .comments ≡ ofShown (λ s. bit (settingsOf (s .switches) .comments)) a
+  pub callf : r .callf ≡ ofShown (λ s. bit (settingsOf (s .switches) .callf)) a
+  pub folds : r .folds ≡ ofShown (λ s. bit (settingsOf (s .switches) .folds)) a
+
+-- what is shown: `mortarbee_get_edition` answers the same of the edition that a place shows
+pub record AsShown (r : ShownReply) (q : FoundReply) : Type 0 where
+  pub done : q .number ≡ 0
+  pub edition : q .edition ≡ r .edition
+  pub comments : q .comments ≡ r .comments
+  pub callf : q .callf ≡ r .callf
+  pub folds : q .folds ≡ r .folds
+
+abbrev pub ShowsRight : (room : List ℕ) → Type 0
+ShowsRight room =
+    (k : ℕ) (r : ShownReply) → SaysShown r (shownAs (placeIn room k)) → r .held ≡ 1
+    → (q : FoundReply) → SaysFound q (foundAs (getIn room (r .family) (r .edition))) → AsShown r q

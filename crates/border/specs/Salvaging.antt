@@ -6,7 +6,7 @@ use Rattle.salvage.specs.declared.Saved.{Saved}
 use Rattle.salvage.specs.declared.Saved.the-variants.{Done, Refused}
 use Rattle.salvage.specs.declared.walks.Extent.{Extent}
 use Rattle.border.specs.declared.salvaging.SavedReply.{SavedReply}
-use Rattle.border.specs.Exported.{nothing}
+use Rattle.border_core.specs.Replies.{nothing}
 
 abbrev pub savedFault : Saved → Fault
 savedFault (Done e) = nothing

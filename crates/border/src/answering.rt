@@ -10,7 +10,8 @@ ghost use Rattle.audit.specs.Audit.{audit};
 ghost use Rattle.audit.specs.Held.{auditAs};
 ghost use Rattle.steps.specs.Entry.{told, answerAs, roomAs};
 ghost use Rattle.why.specs.Entry.{told as whyTold, answerAs as whyAnswer, roomAs as whyRoom};
-ghost use Rattle.border_answers.specs.Replies.{askedBy, SaysAudit, SaysSteps};
+ghost use Rattle.border_core.specs.Replies.{askedBy};
+ghost use Rattle.border_answers.specs.Replies.{SaysAudit, SaysSteps};
 
 // `audit`, for C.
 #[no_mangle]

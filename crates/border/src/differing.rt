@@ -1,35 +1,7 @@
-// C-13, for C: a run that hands out its list of stems, and the differences of two listings.
-use crate::exported::settings_of;
+// C-13, for C: the differences of two listings.
 use border_differences::DiffersReply;
-use border_differences::StemsReply;
-use border_differences::hand_out;
 use border_differences::tell_differences;
-ghost use Rattle.border_differences.specs.Replies.{HandsOut, TellsDifferences};
-ghost use Rattle.border.specs.Exported.{askedBy};
-
-// `optimize_stems`, for C.
-#[no_mangle]
-pub extern "C" fn mortarbee_stems(
-    comments: u8,
-    callf: u8,
-    folds: u8,
-    listing: &[u8],
-    out: &mut [u8],
-    image: &mut [u8],
-    list: &mut [u8],
-) -> StemsReply
-    ensures { λ r. let asked = askedBy comments callf folds in
-        ⌜ HandsOut asked (now (listing .entry)) r (now (out .entry)) (now (image .entry)) (now (list .entry))
-        (now (out .exit)) (now (image .exit)) (now (list .exit)) ⌝ }
-{
-    hand_out(
-        settings_of(comments, callf, folds),
-        listing,
-        out,
-        image,
-        list,
-    )
-}
+ghost use Rattle.border_differences.specs.Replies.{TellsDifferences};
 
 // `differences`, for C: a pairing is given where `given` is not 0.
 #[no_mangle]

@@ -1,84 +1,30 @@
-// The functions for C and Rust, under names of their own.
+// The functions for C and Rust of the store, of a run under an edition, and of an image read back.
 use crate::replies::FoundReply;
 use crate::replies::NumberedReply;
-use crate::replies::Reply;
-use crate::replies::SitsReply;
+use crate::replies::ShownReply;
 use crate::replies::found_reply;
 use crate::replies::numbered_reply;
-use crate::replies::reply_of;
-use crate::replies::sits_reply;
+use crate::replies::shown_reply;
+use border_core::Reply;
+use border_core::reply_of;
+use border_core::settings_of;
 use editions::optimize_under;
 use editions::optimize_under_newest;
-use entries::assemble;
-use entries::optimize_jumps;
 use readback::entry::read_back;
 use rules::Answer;
-use rules::Settings;
-use sits::where_sits;
 use store::add_edition;
 use store::drop_old;
 use store::get_edition;
 use store::get_newest;
+use store::show_place;
 ghost use mathlib.Core.Path.{_≡_};
 ghost use lib.ListN.{length};
-ghost use Rattle.rules.specs.Run.{assembled, run, answerOf, listingAfter, imageAfter};
-ghost use Rattle.entries.specs.Assembling.{answerAs, roomAs};
 ghost use Rattle.entries.specs.Optimizing.{Delivers};
 ghost use Rattle.readback.specs.ReadBack.{readBack};
 ghost use Rattle.readback.specs.Entry.{answerAs as readAs, roomAs as readRoom};
-ghost use Rattle.sits.specs.Sits.{sits, sitsAs};
-ghost use Rattle.store.specs.Rooms.{getIn, newestIn, addIn, dropIn, afterAdd, afterDrop, foundAs, numberedAs};
-ghost use Rattle.border.specs.Exported.{askedBy, runUnder, Says, SaysSits, SaysNumbered, SaysFound};
-
-// `assemble`, for C.
-#[no_mangle]
-pub extern "C" fn mortarbee_assemble(listing: &[u8], image: &mut [u8]) -> Reply
-    ensures { λ r. ⌜ Says r (answerAs (assembled (now (listing .entry)) (length (now (image .entry))))) ⌝ }
-    ensures { λ _. ⌜ now (image .exit) ≡ roomAs (assembled (now (listing .entry)) (length (now (image .entry)))) (now (image .entry)) ⌝ }
-{
-    reply_of(assemble(listing, image))
-}
-
-// The settings that three bytes ask for: 0 is no, any other yes.
-pub fn settings_of(comments: u8, callf: u8, folds: u8) -> Settings
-    ensures { λ r. ⌜ r ≡ askedBy comments callf folds ⌝ }
-{
-    Settings {
-        comments: comments != 0,
-        callf: callf != 0,
-        folds: folds != 0,
-    }
-}
-
-// `optimize_jumps`, for C.
-#[no_mangle]
-pub extern "C" fn mortarbee_optimize_jumps(
-    comments: u8,
-    callf: u8,
-    folds: u8,
-    listing: &[u8],
-    out: &mut [u8],
-    image: &mut [u8],
-) -> Reply
-    ensures { λ r. let asked = askedBy comments callf folds in
-        ⌜ Says r (answerOf (run asked (now (listing .entry)) (length (now (out .entry))) (length (now (image .entry))))) ⌝ }
-    ensures { λ _. let asked = askedBy comments callf folds in
-        let end = run asked (now (listing .entry)) (length (now (out .entry))) (length (now (image .entry))) in
-        ⌜ now (out .exit) ≡ listingAfter end (now (out .entry)) ⌝ }
-    ensures { λ _. let asked = askedBy comments callf folds in
-        let end = run asked (now (listing .entry)) (length (now (out .entry))) (length (now (image .entry))) in
-        ⌜ now (image .exit) ≡ imageAfter end (now (image .entry)) ⌝ }
-{
-    reply_of(optimize_jumps(settings_of(comments, callf, folds), listing, out, image))
-}
-
-// `where_sits`, for C.
-#[no_mangle]
-pub extern "C" fn mortarbee_where_sits(listing: &[u8], n: usize) -> SitsReply
-    ensures { λ r. ⌜ SaysSits r (sitsAs (sits (now (listing .entry)) n)) ⌝ }
-{
-    sits_reply(where_sits(listing, n))
-}
+ghost use Rattle.store.specs.Rooms.{getIn, newestIn, placeIn, addIn, dropIn, afterAdd, afterDrop, foundAs, shownAs, numberedAs};
+ghost use Rattle.border_core.specs.Replies.{askedBy, Says, Ends};
+ghost use Rattle.border.specs.Exported.{runUnder, SaysNumbered, SaysFound, SaysShown};
 
 // `add_edition`, for C.
 #[no_mangle]
@@ -109,6 +55,14 @@ pub extern "C" fn mortarbee_get_newest(room: &[u8], family: u16) -> FoundReply
     ensures { λ r. ⌜ SaysFound r (foundAs (newestIn (now (room .entry)) family)) ⌝ }
 {
     found_reply(get_newest(room, family))
+}
+
+// `show_place`, for C.
+#[no_mangle]
+pub extern "C" fn mortarbee_show_place(room: &[u8], k: usize) -> ShownReply
+    ensures { λ r. ⌜ SaysShown r (shownAs (placeIn (now (room .entry)) k)) ⌝ }
+{
+    shown_reply(show_place(room, k))
 }
 
 // `drop_old`, for C.
@@ -152,13 +106,7 @@ pub extern "C" fn mortarbee_optimize_jumps_under(
 ) -> Reply
     ensures { λ r. let text = now (listing .entry) in
         let end = runUnder (now (store .entry)) family edition text (length (now (out .entry))) (length (now (image .entry))) in
-        ⌜ Says r (answerOf end) ⌝ }
-    ensures { λ _. let text = now (listing .entry) in
-        let end = runUnder (now (store .entry)) family edition text (length (now (out .entry))) (length (now (image .entry))) in
-        ⌜ now (out .exit) ≡ listingAfter end (now (out .entry)) ⌝ }
-    ensures { λ _. let text = now (listing .entry) in
-        let end = runUnder (now (store .entry)) family edition text (length (now (out .entry))) (length (now (image .entry))) in
-        ⌜ now (image .exit) ≡ imageAfter end (now (image .entry)) ⌝ }
+        ⌜ Ends end r (now (out .entry)) (now (image .entry)) (now (out .exit)) (now (image .exit)) ⌝ }
 {
     reply_of(run_under(store, family, edition, listing, out, image))
 }

@@ -1,5 +1,5 @@
 // C-22, for C: the function and its answer as a struct of numbers.
-use crate::replies::told_of;
+use border_core::told_of;
 use rules::Refusal;
 use salvage::Saved;
 use salvage::entry::salvage;

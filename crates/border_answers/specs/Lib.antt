@@ -1,4 +1,2 @@
 -- What the functions for C answer.
 pub mod Replies
--- the targets
-pub mod Aims

@@ -1,9 +1,6 @@
 -- What the functions for C answer: structs of numbers, the first 0 where nothing is refused.
 use mathlib.Core.Path.{_≡_}
-use mathlib.Core.Bool.{not}
 use Prim.Native.Nat.{ℕ}
-use lib.Dec.{eqb}
-use Rattle.rules.specs.declared.Settings.{Settings}
 use Rattle.rules.specs.declared.Answer.{Answer}
 use Rattle.rules.specs.declared.Answer.the-variants.{Done, Refused}
 use Rattle.rules.specs.Refusals.{Fault, ofNone, faultOf}
@@ -11,20 +8,9 @@ use Rattle.asm.specs.declared.Origin.{Origin}
 use Rattle.asm.specs.declared.Origin.the-variants.{At, Nothing}
 use Rattle.audit.specs.declared.Found.{Found}
 use Rattle.audit.specs.declared.Found.the-variants.{Same, Differs, Short, Long, Refused as Unread}
-use Rattle.border_answers.specs.declared.faults.Told.{Told}
 use Rattle.border_answers.specs.declared.rewrites.StepsReply.{StepsReply}
 use Rattle.border_answers.specs.declared.audits.AuditReply.{AuditReply}
 use Rattle.border_answers.specs.declared.audits.Behind.{Behind}
-
--- settings as three bytes: 0 is no, any other yes
-abbrev pub askedBy : (comments callf folds : ℕ) → Settings
-askedBy comments callf folds = record { comments = not (eqb comments 0); callf = not (eqb callf 0); folds = not (eqb folds 0) }
-
-pub record Tells (t : Told) (f : Fault) : Type 0 where
-  pub number : t .number ≡ f .number
-  pub place : t .place ≡ f .place
-  pub argument : t .argument ≡ f .argument
-  pub amount : t .amount ≡ f .amount
 
 -- ---- the rewrites
 abbrev pub stepsFault : Answer → Fault

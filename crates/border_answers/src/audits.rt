@@ -1,16 +1,17 @@
 // `audit`, for C, and its answer as a struct of numbers.
-use crate::faults::settings_of;
-use crate::faults::told_of;
 use asm::Origin;
 use audit::Found;
 use audit::audit;
+use border_core::settings_of;
+use border_core::told_of;
 use rules::Address;
 use rules::Refusal;
 ghost use mathlib.Core.Path.{_≡_};
 ghost use Rattle.audit.specs.declared.Found.the-variants.{Refused};
 ghost use Rattle.audit.specs.Audit.{audit as answer};
 ghost use Rattle.audit.specs.Held.{auditAs};
-ghost use Rattle.border_answers.specs.Replies.{askedBy, IsBehind, SaysAudit, SaysAt};
+ghost use Rattle.border_core.specs.Replies.{askedBy};
+ghost use Rattle.border_answers.specs.Replies.{IsBehind, SaysAudit, SaysAt};
 
 // The finding: 0 the same, 1 another byte, 2 the shipped image ends there, 3 only it goes on. The address, both bytes, and whether the
 // wanted byte belongs to a statement (1), its place and the byte's offset.

@@ -1,12 +1,8 @@
-// The answers about the rewriting for C and Rust: an audit, the rewrites, the targets, and why something stays, each as a struct of numbers.
-mod aims; // what the transfers name
+// The answers about the rewriting for C and Rust: an audit, the rewrites, and why something stays, each as a struct of numbers.
 mod audits; // an image held against a listing
-mod faults; // a refusal as four numbers
 mod rewrites; // the rewrites one by one
 mod whys; // why something stays
 
-pub use aims::TargetsReply;
-pub use aims::targets_answer;
 pub use audits::AuditReply;
 pub use audits::audit_answer;
 pub use rewrites::StepsReply;

@@ -1,6 +1,6 @@
 // `steps`, for C, and its answer as a struct of numbers.
-use crate::faults::settings_of;
-use crate::faults::told_of;
+use border_core::settings_of;
+use border_core::told_of;
 use rules::Answer;
 use rules::Refusal;
 use steps::steps;
@@ -8,7 +8,8 @@ ghost use mathlib.Core.Path.{_≡_};
 ghost use lib.ListN.{length};
 ghost use Rattle.rules.specs.declared.Answer.the-variants.{Refused};
 ghost use Rattle.steps.specs.Entry.{told, answerAs, roomAs};
-ghost use Rattle.border_answers.specs.Replies.{askedBy, SaysSteps};
+ghost use Rattle.border_core.specs.Replies.{askedBy};
+ghost use Rattle.border_answers.specs.Replies.{SaysSteps};
 
 // How many bytes of lines are in the lent room, and how many rewrites they tell.
 #[repr(C)]

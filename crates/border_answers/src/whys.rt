@@ -1,12 +1,13 @@
 // `why`, for C: its answer has the numbers that the one of `steps` has.
-use crate::faults::settings_of;
 use crate::rewrites::StepsReply;
 use crate::rewrites::steps_reply;
+use border_core::settings_of;
 use why::why;
 ghost use mathlib.Core.Path.{_≡_};
 ghost use lib.ListN.{length};
 ghost use Rattle.why.specs.Entry.{told, answerAs, roomAs};
-ghost use Rattle.border_answers.specs.Replies.{askedBy, SaysSteps};
+ghost use Rattle.border_core.specs.Replies.{askedBy};
+ghost use Rattle.border_answers.specs.Replies.{SaysSteps};
 
 // `why`, the settings as three bytes, with its answer so.
 pub fn why_answer(comments: u8, callf: u8, folds: u8, listing: &[u8], out: &mut [u8]) -> StepsReply

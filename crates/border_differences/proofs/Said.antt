@@ -1,16 +1,11 @@
--- Answers in numbers: what was handed out, and whose refusal it is.
+-- Answers in numbers: whose refusal it is.
 use mathlib.Core.Path.{_≡_, refl, sym, _∙_, subst}
-use Prim.Native.Nat.{ℕ}
-use lib.IntN.{pos}
-use Rattle.rules.specs.declared.Sizes.{Sizes}
 use Rattle.rules.specs.declared.Refusal.{Refusal}
 use Rattle.rules.specs.Refusals.{faultOf}
-use Rattle.entries.specs.declared.optimizing.Stemmed.{Stemmed}
-use Rattle.entries.specs.declared.optimizing.Stemmed.the-variants.{Done}
 use Rattle.differences.specs.declared.entry.Differs.{Differs}
 use Rattle.differences.specs.declared.entry.Differs.the-variants.{OfFirst, OfSecond, OfBoth}
 use Rattle.border_differences.specs.declared.differing.DiffersReply.{DiffersReply}
-use Rattle.border_differences.specs.Replies.{SaysStems, differsFault, whoseOf, writtenOf, TellsWhose, SaysDiffers}
+use Rattle.border_differences.specs.Replies.{differsFault, whoseOf, writtenOf, TellsWhose, SaysDiffers}
 
 -- a refusal of this listing
 said : (a : DiffersReply) (d : Differs) → TellsWhose a (whoseOf d) (differsFault d) → writtenOf d ≡ 0 → SaysDiffers a d
@@ -26,13 +21,3 @@ module _ (a : DiffersReply) (d : Differs) (r : Refusal) where
 
   pub for-both : d ≡ OfBoth r → TellsWhose a 0 (faultOf r) → SaysDiffers a d
   for-both e h = subst (λ (x : Differs). SaysDiffers a x) (sym e) (said a (OfBoth r) h refl)
-
--- what was handed out
-pub done-said : (a : Stemmed) (s : Sizes) (n : ℕ) → a ≡ Done s n
-    → SaysStems record { number = 0; place = 0; argument = 0; amount = pos 0; listing = s .listing; rewrites = s .rewrites; image = s .image; stems = n } a
-done-said a s n e =
-    subst
-    (λ (x : Stemmed).
-    SaysStems record { number = 0; place = 0; argument = 0; amount = pos 0; listing = s .listing; rewrites = s .rewrites; image = s .image; stems = n } x)
-    (sym e)
-    record { number = refl; place = refl; argument = refl; amount = refl; listing = refl; rewrites = refl; image = refl; stems = refl }

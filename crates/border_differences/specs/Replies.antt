@@ -1,4 +1,4 @@
--- C-13: what the functions for C answer, structs of numbers, the first 0 where nothing is refused, and what they leave in the rooms.
+-- C-13: what the function for C answers, a struct of numbers, the first 0 where nothing is refused, and what it leaves in the room.
 use mathlib.Core.Path.{_≡_}
 use mathlib.Core.List.{List}
 use mathlib.Core.Bool.{not}
@@ -6,54 +6,12 @@ use mathlib.Core.Option.{Option}
 use Prim.Native.Nat.{ℕ}
 use lib.Dec.{eqb}
 use lib.ListN.{length}
-use Rattle.rules.specs.declared.Settings.{Settings}
-use Rattle.rules.specs.declared.Sizes.{Sizes}
 use Rattle.rules.specs.Refusals.{Fault, ofNone, faultOf}
-use Rattle.entries.specs.declared.optimizing.Stemmed.{Stemmed}
-use Rattle.entries.specs.declared.optimizing.Stemmed.the-variants.{Done, Refused}
-use Rattle.entries.specs.Stems.{runStems, Stems}
 use Rattle.differences.specs.declared.entry.Differs.{Differs}
 use Rattle.differences.specs.declared.entry.Differs.the-variants.{Written, OfFirst, OfSecond, OfBoth}
 use Rattle.differences.specs.Differences.{differences}
 use Rattle.differences.specs.Entry.{givenAs, Leaves}
-use Rattle.border_differences.specs.declared.told.Told.{Told}
-use Rattle.border_differences.specs.declared.stems.StemsReply.{StemsReply}
 use Rattle.border_differences.specs.declared.differing.DiffersReply.{DiffersReply}
-
-pub record Tells (t : Told) (f : Fault) : Type 0 where
-  pub number : t .number ≡ f .number
-  pub place : t .place ≡ f .place
-  pub argument : t .argument ≡ f .argument
-  pub amount : t .amount ≡ f .amount
-
--- ---- the list of stems
-
-abbrev pub stemsFault : Stemmed → Fault
-stemsFault (Done s n) = ofNone 0
-stemsFault (Refused r) = faultOf r
-
--- a number of what was handed out
-abbrev pub ofStems : (Sizes → ℕ → ℕ) → Stemmed → ℕ
-ofStems f (Done s n) = f s n
-ofStems f (Refused r) = 0
-
-pub record SaysStems (r : StemsReply) (a : Stemmed) : Type 0 where
-  pub number : r .number ≡ stemsFault a .number
-  pub place : r .place ≡ stemsFault a .place
-  pub argument : r .argument ≡ stemsFault a .argument
-  pub amount : r .amount ≡ stemsFault a .amount
-  pub listing : r .listing ≡ ofStems (λ s n. s .listing) a
-  pub rewrites : r .rewrites ≡ ofStems (λ s n. s .rewrites) a
-  pub image : r .image ≡ ofStems (λ s n. s .image) a
-  pub stems : r .stems ≡ ofStems (λ s n. n) a
-
--- as the entry
-pub record HandsOut (asked : Settings) (text : List ℕ) (r : StemsReply) (out image list out′ image′ list′ : List ℕ) : Type 0 where
-  pub answer : Stemmed
-  pub says : SaysStems r answer
-  pub leaves : Stems (runStems asked text (length out) (length image) (length list)) answer out image list out′ image′ list′
-
--- ---- the differences
 
 -- a pairing is given where the byte is not 0
 abbrev pub pairingBy : (given : ℕ) (pairing : List ℕ) → Option (List ℕ)

@@ -1,5 +1,5 @@
 // The differences of two listings: the answer, whose refusal it is, and how long the text is.
-use crate::told::told_of;
+use border_core::told_of;
 use differences::Differs;
 use differences::differences;
 use rules::Refusal;

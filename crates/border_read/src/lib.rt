@@ -1,5 +1,5 @@
 // C-19 for the border: a text for people read into a listing, with its answer as a struct of numbers.
-use entries::fault_of;
+use border_core::told_of;
 use intake::read_people;
 use rules::Answer;
 use rules::Refusal;
@@ -19,12 +19,12 @@ pub struct ReadReply {
 fn refused(r: Refusal) -> ReadReply
     ensures { λ a. ⌜ Says a (Refused r) ⌝ }
 {
-    let f = fault_of(r);
+    let t = told_of(r);
     ReadReply {
-        number: f.number as u64,
-        place: f.place as u64,
-        argument: f.argument as u64,
-        amount: f.amount as i64,
+        number: t.number,
+        place: t.place,
+        argument: t.argument,
+        amount: t.amount,
         listing: 0,
     }
 }

@@ -1,5 +1,5 @@
 -- What laying out the statements before n leaves says where n sits.
-use mathlib.Core.Path.{_≡_, refl, sym, ap, _∙_}
+use mathlib.Core.Path.{_≡_, refl, sym, ap, _∙_, subst}
 use mathlib.Core.List.{List, []}
 use Prim.Native.Nat.{ℕ, _+_, _≤_, _<_}
 use native.Mathlib.Omega.{arith}
@@ -18,20 +18,28 @@ use Rattle.listing.specs.Tables.{frameAt, inputAt, inputOf, formIn, Held}
 use Rattle.slots.specs.Slots.{Slots, slots, noOwner, programOf}
 use Rattle.slots.specs.declared.Checked.{Checked}
 use Rattle.slots.specs.declared.Checked.the-variants.{Passes, Refused}
+use Rattle.slots.specs.State.{startsIn, formsIn}
 use Rattle.env.specs.Answers.{checkedAs}
 use Rattle.env.specs.Tables.{Any, LaidOut}
 use Rattle.env.proofs.Filled.{get-filled}
+use Rattle.asm.specs.Starting.{Started}
 use Rattle.asm.proofs.Started.{program-as-read}
 use Rattle.sits.specs.Sits.{sitsAmong}
 
 -- what a pass says of the check
-passed : (x : Check) → Passes ≡ checkedAs x → x ≡ ok tt
+pub passed : (x : Check) → Passes ≡ checkedAs x → x ≡ ok tt
 passed (ok u) e = refl
 passed (no r) e = absurd (let z : _≡_ {A = ℕ} 0 1 = cc in omega arith)
 
-refused : (x : Check) (q : Refusal) → Refused q ≡ checkedAs x → x ≡ no q
+pub refused : (x : Check) (q : Refusal) → Refused q ≡ checkedAs x → x ≡ no q
 refused (ok u) q e = absurd (let z : _≡_ {A = ℕ} 0 1 = cc in omega arith)
 refused (no r) q e = let z : q ≡ r = cc in sym (ap no z)
+
+-- the frames begin where they were read
+pub begun : (frames starts : List ℕ) (count : ℕ) (state : List (List ℕ)) (r : Checked) (old positions : List ℕ) → Started frames starts count state
+    → Any frames (startsIn state) count (formsIn state) (λ t. LaidOut t r old positions) → Any frames starts count (formsIn state) (λ t. LaidOut t r old positions)
+begun frames starts count state r old positions s h =
+    subst (λ (z : List ℕ). Any frames z count (formsIn state) (λ t. LaidOut t r old positions)) (s .begins) h
 
 module _ (frames starts forms old positions : List ℕ) (count : ℕ) (held : Held frames starts count)
     (own : (i : ℕ) → i < count → getD forms i 0 ≡ formIn (frameAt frames starts i))
@@ -40,23 +48,23 @@ module _ (frames starts forms old positions : List ℕ) (count : ℕ) (held : He
   p = inputOf frames starts count
 
   -- each place carries its own target, and none became an inner label
-  abbrev t : Slots
+  abbrev pub t : Slots
   t = slots frames starts count forms (tab (λ i. i) count) (replicate count noOwner) []
 
-  abbrev left : LaidOut t r old positions
+  abbrev pub left : LaidOut t r old positions
   left = laid (tab (λ i. i) count) (replicate count noOwner) []
 
-  as-read : programOf t ≡ p
+  pub as-read : programOf t ≡ p
   as-read =
       program-as-read frames starts count held forms (tab (λ i. i) count) (replicate count noOwner) []
       own
       (λ i l. getD-tab (λ k. k) count i 0 l)
       (λ i l. getD-replicate count i noOwner 0 l)
 
-  answers : r ≡ checkedAs (positionsFit (placed p))
+  pub answers : r ≡ checkedAs (positionsFit (placed p))
   answers = left .answer ∙ ap (λ (q : Program). checkedAs (positionsFit (placed q))) as-read
 
-  many : length p ≡ count
+  pub many : length p ≡ count
   unfolding inputOf
   many = length-tab (inputAt frames starts) count
 

@@ -13,7 +13,11 @@ ghost use mathlib.Core.Path.{_≡_};
 ghost use Rattle.listing.specs.Tables.{inputOf, Held};
 ghost use Rattle.sits.specs.Sits.{sitsAmong, sits, sitsAs};
 
+mod all; // of every statement at once
 mod before; // how many bytes come before statement n
+
+pub use all::Laid;
+pub use all::all_sit;
 
 // The address, or the first refusal.
 pub enum Sits {

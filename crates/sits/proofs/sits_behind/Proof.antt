@@ -5,13 +5,9 @@ use Prim.Native.Nat.{ℕ, _+_}
 use native.Mathlib.Omega.{arith}
 use borrow.Author.Needs.{needs}
 use Rattle.listing.specs.Tables.{Held}
-use Rattle.slots.specs.declared.Checked.{Checked}
-use Rattle.slots.specs.State.{startsIn, formsIn}
-use Rattle.env.specs.Tables.{Any, LaidOut}
-use Rattle.asm.specs.Starting.{Started}
 use Rattle.sits.specs.Sits.{sitsAs}
 use Rattle.sits.specs.declared.Sits.the-variants.{At}
-use Rattle.sits.proofs.Laying.{laid-refused, laid-absent, laid-at}
+use Rattle.sits.proofs.Laying.{begun, laid-refused, laid-absent, laid-at}
 use Rattle.sits.proofs.sits_behind.Statement.{statement}
 use Rattle.sits.proofs.sits_behind.Tie as tie
 
@@ -23,12 +19,6 @@ lay-out-requires c κs =
     let y = c .before .before in
     let s = y .before .before in
     (subst (λ (z : List ℕ). Held (s .args .frames .now) z (s .args .count)) (sym (y .start-state .ensures (s .args .frames .now) (s .pre) .begins)) (s .pre), search needs)
-
--- the frames begin where they were read
-as-read : (frames starts : List ℕ) (count : ℕ) (state : List (List ℕ)) (r : Checked) (old positions : List ℕ) → Started frames starts count state
-    → Any frames (startsIn state) count (formsIn state) (λ t. LaidOut t r old positions) → Any frames starts count (formsIn state) (λ t. LaidOut t r old positions)
-as-read frames starts count state r old positions s h =
-    subst (λ (z : List ℕ). Any frames z count (formsIn state) (λ t. LaidOut t r old positions)) (s .begins) h
 
 enum-known-r : tie.Need-enum-known-r
 enum-known-r c = search needs
@@ -53,7 +43,7 @@ returns c =
     let n = begin call .args .n in
     let filled = call .before .before .before .start-state .ensures (frames call) (begin call .pre) in
     sym (ap sitsAs (laid-refused (frames call) (starts call) _ _ _ (begin call .args .count) (begin call .pre) (filled .forms)
-    (call .lay-out .result) (as-read (frames call) (starts call) (begin call .args .count) _ (call .lay-out .result) _ _ filled (call .lay-out .ensures .1)) n _ (c .before .r .given .1)))
+    (call .lay-out .result) (begun (frames call) (starts call) (begin call .args .count) _ (call .lay-out .result) _ _ filled (call .lay-out .ensures .1)) n _ (c .before .r .given .1)))
 
 enum-told : tie.Need-enum-told
 enum-told c = search needs
@@ -64,7 +54,7 @@ returns-2 c =
     let n = begin call .args .n in
     let filled = call .before .before .before .start-state .ensures (frames call) (begin call .pre) in
     sym (ap sitsAs (laid-absent (frames call) (starts call) _ _ _ (begin call .args .count) (begin call .pre) (filled .forms)
-    (call .lay-out .result) (as-read (frames call) (starts call) (begin call .args .count) _ (call .lay-out .result) _ _ filled (call .lay-out .ensures .1)) n (c .before .enum-told .given .1) (omega arith)))
+    (call .lay-out .result) (begun (frames call) (starts call) (begin call .args .count) _ (call .lay-out .result) _ _ filled (call .lay-out .ensures .1)) n (c .before .enum-told .given .1) (omega arith)))
 
 address-of-requires : tie.Need-address-of-requires
 address-of-requires c κs = search needs
@@ -75,7 +65,7 @@ returns-3 c =
     let n = begin call .args .n in
     let filled = call .before .before .before .start-state .ensures (frames call) (begin call .pre) in
     let at = laid-at (frames call) (starts call) _ _ _ (begin call .args .count) (begin call .pre) (filled .forms)
-    (call .lay-out .result) (as-read (frames call) (starts call) (begin call .args .count) _ (call .lay-out .result) _ _ filled (call .lay-out .ensures .1)) n (c .before .before .before .enum-told .given .1) (omega arith) in
+    (call .lay-out .result) (begun (frames call) (starts call) (begin call .args .count) _ (call .lay-out .result) _ _ filled (call .lay-out .ensures .1)) n (c .before .before .before .enum-told .given .1) (omega arith) in
     ap (λ (a : ℕ). At (record { 0 = a })) (c .address-of .ensures ∙ add-zero _) ∙ sym (ap sitsAs at)
 
 pub sits-behind-spec : {M : Type 1} → statement M

@@ -1,6 +1,6 @@
 -- `border::exported::mortarbee_read_back` meets its contract, on every input.
 use borrow.Author.Needs.{needs}
-use Rattle.border.proofs.Same.{says-same}
+use Rattle.border_core.proofs.Same.{says-same}
 use Rattle.border.proofs.exported.mortarbee_read_back.Statement.{statement}
 use Rattle.border.proofs.exported.mortarbee_read_back.Tie as tie
 
