@@ -44,7 +44,10 @@ fn refuses_12_for_the_list_and_writes_nothing() {
 #[test]
 fn pairs_what_both_begin_and_end_with() {
     assert_eq!(told(b"0143\n0143\n", b"0143\n", None), Ok("70000000000143\n7100010143\n".into()));
-    assert_eq!(told(b"0143\n0144\n0143\n", b"0143\n0145\n0143\n", None), Ok("70000000000143\n7100010144\n7200010145\n70000200020143\n".into()));
+    assert_eq!(
+        told(b"0143\n0144\n0143\n", b"0143\n0145\n0143\n", None),
+        Ok("70000000000143\n7100010144\n7200010145\n70000200020143\n".into())
+    );
     assert_eq!(told(b"", b"", None), Ok("".into()));
     assert_eq!(told(b"0143\n", b"0143\n", Some(&[])), Ok("7100000143\n7200000143\n".into()));
 }
