@@ -89,6 +89,7 @@ impl Call {
     }
 
     /// Whether a switch of a run was typed.
+    #[cfg(feature = "all")]
     pub fn has_switches(&self) -> bool {
         ["--comments", "--no-callf", "--no-folds"].iter().any(|flag| self.has(flag))
     }

@@ -59,7 +59,8 @@ pub fn man() -> String {
         out += &format!(".SS {}{}.PP\n.nf\n", roff(word.name), roff(&format!("{}.", word.purpose)));
         out += &word.help().lines().map(roff).collect::<String>();
         out += ".fi\n";
-        for option in word.options {
+        let is_told = word.text.contains("{options}");
+        for option in word.options.iter().filter(|_| !is_told) {
             out += &format!(".TP\n.B {}{}", roff(&option.shown()), roff(option.purpose));
         }
     }

@@ -76,3 +76,21 @@ fn colours_are_for_a_terminal() {
     assert!(!typed("TERM=dumb") && !typed("NO_COLOR=1 TERM=xterm"));
     assert!(!f.wrote("TERM=xterm m differences two.lst nop.lst").contains('\x1b'));
 }
+
+/// A run of some seconds says on a terminal that it is at work, on standard error alone.
+#[test]
+fn long_work_shows_life_on_a_terminal() {
+    if !cfg!(feature = "core") || !has_command("script") {
+        return leave_out("long_work_shows_life_on_a_terminal", "there is no command script");
+    }
+    let f = Folder::new("life");
+    f.write("long.lst", &format!("020001\n{}012C010002\n050789\n020002\n{}", "012B010001\n".repeat(600), "012B010002\n".repeat(420)));
+    let line = format!("TERM=xterm script -qec \"'{}' long.lst -o long.out\" typed >/dev/null </dev/null", env!("CARGO_BIN_EXE_mortarbee"));
+    let began = std::time::Instant::now();
+    f.run(&line);
+    assert!(f.read("long.out").ends_with("\n7F01A4000AD1\n"));
+    if began.elapsed() < std::time::Duration::from_secs(3) {
+        return leave_out("long_work_shows_life_on_a_terminal", "the run was too short");
+    }
+    assert!(f.read("typed").contains("at work on 1024 lines, 2 s"), "{}", f.read("typed"));
+}

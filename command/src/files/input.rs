@@ -20,8 +20,10 @@ pub fn look_at(file: &OsStr) -> Result<(), Stop> {
     Ok(())
 }
 
+#[cfg(feature = "all")]
+pub use archived::take;
 #[cfg(feature = "core")]
-pub use archived::{input, take, Input};
+pub use archived::{input, Input};
 
 #[cfg(feature = "core")]
 mod archived {

@@ -5,8 +5,10 @@ mod output; // standard output, streams, and where a name leads
 mod replace; // files, replaced whole or not at all
 
 pub use input::look_at;
+#[cfg(feature = "all")]
+pub use input::take;
 #[cfg(feature = "core")]
-pub use input::{input, take, Input};
+pub use input::{input, Input};
 pub use output::{put_file, put_out, Put};
 #[cfg(feature = "core")]
 pub use output::{target_of, Target};
