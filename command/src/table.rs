@@ -239,7 +239,6 @@ pub const WORDS: &[Word] = &[
         needs: Texts,
         files: &["[WORD]"],
         options: &[&BASH, &ZSH, &MAN],
-        irregular: "mortarbee help [WORD]",
         text: text!("help"),
         ..ROW
     },

@@ -68,7 +68,8 @@ fn allowed(input: &Input, refusal: Refusal) -> String {
     let front = &line[..column];
     let mut said = format!("{}:{}:{}: what may stand here:", input.name, refusal.place + 1, column + 1);
     let stand: Vec<u8> = (33..127).filter(|c| may_stand(front, *c)).collect();
-    for run in stand.chunk_by(|a, b| a + 1 == *b) {
+    // Digits and letters one behind the other are told by the first and the last.
+    for run in stand.chunk_by(|a, b| a + 1 == *b && a.is_ascii_alphanumeric() && b.is_ascii_alphanumeric()) {
         let (first, last) = (run[0] as char, run[run.len() - 1] as char);
         said += &match run.len() {
             1 => format!(" {first}"),
