@@ -36,7 +36,7 @@ fn a_write_that_fails_is_two_and_is_told() {
 #[test]
 fn a_limit_of_a_file_is_none_of_a_pipe() {
     let f = Folder::new("pipe");
-    assert_eq!(f.wrote("trap '' XFSZ; ulimit -f 8; m text --addresses big.lst | wc -c").trim(), "24576");
+    assert_eq!(f.wrote("trap '' XFSZ; ulimit -f 8; m text --addresses big.lst | wc -c").trim(), "25600");
 }
 
 #[test]
@@ -129,10 +129,6 @@ fn parts_are_all_or_none() {
     for image in ["no/such", "new.lst", "./new.lst", "/dev/null", "-", "."] {
         assert_eq!(f.status(&format!("m optimize --listing new.lst --image {image} big.lst")), Some(2), "{image}");
     }
-    assert_eq!(
-        f.status("ulimit -f 8; m image big.lst >/dev/null; m optimize --listing new.lst --image new.bin --comments big.lst"),
-        Some(0)
-    );
     assert_eq!(f.status("m optimize --listing new.lst --image new.bin good.lst"), Some(0));
     assert_eq!(f.status("ulimit -f 1; m optimize --listing new.lst --image new.bin big.lst"), Some(2));
     assert_eq!((f.read("new.lst").as_str(), fs::read(f.0.join("new.bin")).expect("an image").len()), (SHORT, 5));
