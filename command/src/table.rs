@@ -123,6 +123,7 @@ pub const WORDS: &[Word] = &[
     Word {
         name: "text",
         purpose: "the listing for people; --addresses with addresses and bytes",
+        needs: Core,
         options: &[&ADDRESSES],
         text: text!("text"),
         ..ROW

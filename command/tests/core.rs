@@ -12,6 +12,7 @@ fn the_words_of_the_main_job_answer() {
     assert_eq!(f.wrote("m judge good.lst"), "good 6 9\n");
     assert_eq!(f.wrote("m check good.lst"), "good 6\n");
     assert_eq!(f.wrote("m image --hex good.lst"), "000000: 80 03 21 00 06 00 21 00 05\n000009:\n");
+    assert_eq!(f.wrote("m text good.lst"), "bz .l00001\njmpf g00001\n.l00001:\nnop\ng00001:\njmpf 5\n");
     assert_eq!(f.wrote("m where 3 good.lst"), "000005\n");
     assert_eq!(f.wrote("m stems good.lst"), "0000\n0002\n0003\n0004\n0005\n");
     assert!(f.wrote("m targets good.lst").starts_with("74000000000100000006"));
@@ -28,10 +29,10 @@ fn other_words_hand_over_to_the_script() {
     let as_script = |line: &str| {
         f.wrote(&format!("chmod +x script; unset MORTARBEE_NEEDS; MORTARBEE_SCRIPT=./script; export MORTARBEE_SCRIPT; {line}"))
     };
-    assert_eq!(as_script("m text good.lst"), "needs all: text good.lst\n");
+    assert_eq!(as_script("m steps good.lst"), "needs all: steps good.lst\n");
     assert_eq!(as_script("m optimize --store s --family 7 good.lst"), "needs all: optimize --store s --family 7 good.lst\n");
     assert_eq!(as_script("m judge good.lst"), "good 6 9\n");
-    assert_eq!(as_script("m text nothing.lst"), "");
-    assert!(f.said("m text good.lst").contains("built without what text needs"));
-    assert_eq!(f.status("m text nothing.lst"), Some(2));
+    assert_eq!(as_script("m steps nothing.lst"), "");
+    assert!(f.said("m steps good.lst").contains("built without what steps needs"));
+    assert_eq!(f.status("m steps nothing.lst"), Some(2));
 }

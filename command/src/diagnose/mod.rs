@@ -108,17 +108,11 @@ fn statement(text: &[u8], marked: bool, place: usize, line: &[u8]) -> String {
     format!("  statement {place}{at}{source}{read}\n")
 }
 
-/// One statement for people; nothing where this build has no texts.
-#[cfg(feature = "all")]
+/// One statement for people.
 fn for_people(line: &[u8], marked: bool) -> Option<String> {
     let alone = [if marked { &b"7D02\n"[..] } else { b"" }, line, b"\n"].concat();
     let read = border::owned::text(&alone).ok()?;
     Some(String::from_utf8_lossy(&read).trim_end().into())
-}
-
-#[cfg(not(feature = "all"))]
-fn for_people(_: &[u8], _: bool) -> Option<String> {
-    None
 }
 
 fn reason(refusal: Refusal, text: &[u8], marked: bool, at: usize, line: &[u8], ended: bool) -> Reason {

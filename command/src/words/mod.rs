@@ -32,7 +32,7 @@ mod stems;
 mod steps;
 #[cfg(feature = "core")]
 mod targets;
-#[cfg(feature = "all")]
+#[cfg(feature = "core")]
 pub mod text;
 mod version;
 #[cfg(feature = "core")]
@@ -62,6 +62,7 @@ fn archived(name: &str) -> Option<Run> {
         "judge" => judge::run,
         "check" => check::run,
         "image" => image::run,
+        "text" => text::run,
         "where" => where_::run,
         "stems" => stems::run,
         "targets" => targets::run,
@@ -73,7 +74,6 @@ fn archived(name: &str) -> Option<Run> {
 #[cfg(feature = "all")]
 fn beyond_core(name: &str) -> Option<Run> {
     Some(match name {
-        "text" => text::run,
         "read" => read::run,
         "read-back" => read_back::run,
         "salvage" => salvage::run,
