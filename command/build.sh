@@ -1,7 +1,7 @@
 #!/bin/sh
 # usage: build.sh texts|core|all [again]
-# Builds the command into target/command/SIZE: with its texts alone, over libborder_core.a, or over libborder.a, which are proved before. One build at a time:
-# who comes later waits, and finds it built. `again` builds also what is there. Needs cargo, and for the last two rt.
+# Builds the command into target/command/SIZE: with its texts alone, over libborder_core.a, or over libborder.a, which are proved before.
+# One build at a time: who comes later waits, and finds it built. `again` builds also what is there. Needs cargo, and for the last two rt.
 set -u
 here=$(cd "$(dirname -- "$0")" && pwd)
 top=$(cd "$here/.." && pwd)
@@ -46,7 +46,9 @@ crates() {
 # show LOG SHOWN: what rt says, each crate as it is proved, of how many, and for how long; prints how many were shown.
 show() {
     awk -v all="$count" -v shown="$2" -v seconds="$(($(date +%s) - began))" '
-        /^rt: [a-z0-9_]+ proved/ && !seen[$2]++ && ++n > shown { printf "mortarbee: crate %d of %d: %s (%d s)\n", n, all, $2, seconds > "/dev/stderr" }
+        /^rt: [a-z0-9_]+ proved/ && !seen[$2]++ && ++n > shown {
+            printf "mortarbee: crate %d of %d: %s (%d s)\n", n, all, $2, seconds > "/dev/stderr"
+        }
         END { print n + 0 }' "$1"
 }
 
@@ -103,7 +105,8 @@ exec 9>"$target/command/lock" || stop "$target/command/lock cannot be written"
 flock -n 9 || { say "another build is under way: it is waited for" && flock 9; } || stop "$target/command/lock cannot be locked"
 is_there && exit 0
 if [ -n "$archive" ]; then
-    [ "$(uname -m)" = x86_64 ] || stop "the archive is for x86-64, and this is $(uname -m): $top/bindings/run.sh runs document 01's program (rt check mortarbee)"
+    [ "$(uname -m)" = x86_64 ] ||
+        stop "the archive is for x86-64, and this is $(uname -m): bindings/run.sh runs document 01's program (rt check mortarbee)"
     case $size in core) what='the main job' ;; *) what='what this word needs' ;; esac
     ! is_newer || prove "$what"
     export MORTARBEE_ARCHIVE="$target/staticlib"

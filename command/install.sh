@@ -1,12 +1,13 @@
 #!/bin/sh
 # usage: install.sh install PREFIX, install.sh uninstall PREFIX, install.sh tarball FOLDER
-# Puts the built command, its manual page and its completions below PREFIX, or takes them away; or packs them, with their checksums, into FOLDER.
-# What is installed needs nothing of this repository.
+# Puts the built command, its manual page and its completions below PREFIX, or takes them away; or packs them, with their checksums, into
+# FOLDER. What is installed needs nothing of this repository.
 set -eu
 here=$(cd "$(dirname -- "$0")" && pwd)
 top=$(cd "$here/.." && pwd)
 built=$top/target/command/all/mortarbee
-files='bin/mortarbee share/man/man1/mortarbee.1 share/bash-completion/completions/mortarbee share/zsh/site-functions/_mortarbee share/doc/mortarbee/NOTICE'
+files='bin/mortarbee share/man/man1/mortarbee.1 share/doc/mortarbee/NOTICE'
+files="$files share/bash-completion/completions/mortarbee share/zsh/site-functions/_mortarbee"
 
 stop() {
     printf 'mortarbee: %s\n' "$1" >&2

@@ -1,7 +1,8 @@
 #!/bin/sh
 # usage: test.sh [ARCHIVES]
-# Builds bindings/rust and the command over the archives of a folder (target/staticlib) and runs their tests; the last line is `N passed, M failed`.
-# Needs cargo, rustc and a linker. On another processor than x86-64, for which the archives are, the tests are left out by name.
+# Builds bindings/rust and the command over the archives of a folder (target/staticlib) and runs their tests; the last line is `N passed,
+# M failed`. Needs cargo, rustc and a linker. On another processor than x86-64, for which the archives are, the tests are left out by
+# name.
 set -u
 here=$(cd "$(dirname -- "$0")" && pwd)
 top=$(cd "$here/.." && pwd)

@@ -1,5 +1,5 @@
-//! Says where the archive is: MORTARBEE_ARCHIVE names its folder, else it is target/staticlib of this repository. Where there is none, documentation can
-//! still be made and the code checked; what links is told what is missing.
+//! Says where the archive is: MORTARBEE_ARCHIVE names its folder, else it is target/staticlib of this repository. Where there is none,
+//! documentation can still be made and the code checked; what links is told what is missing.
 use std::path::PathBuf;
 
 fn main() {
@@ -16,7 +16,8 @@ fn main() {
     println!("cargo:rerun-if-changed={}", archive.display());
     if std::env::var("CARGO_CFG_TARGET_ARCH").as_deref() != Ok("x86_64") {
         println!(
-            "cargo:warning=lib{name}.a is for x86-64: a program needs --target x86_64-unknown-linux-gnu (rustup target add x86_64-unknown-linux-gnu), and a linker for it"
+            "cargo:warning=lib{name}.a is for x86-64: a program needs --target x86_64-unknown-linux-gnu \
+             (rustup target add x86_64-unknown-linux-gnu), and a linker for it"
         );
     } else if archive.is_file() {
         println!("cargo:rustc-link-search=native={}", folder.display());

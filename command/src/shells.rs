@@ -54,7 +54,8 @@ fn roff(line: &str) -> String {
 
 pub fn man() -> String {
     let mut out = format!(".TH MORTARBEE 1 \"\" \"mortarbee {}\"\n", env!("CARGO_PKG_VERSION"));
-    out += ".SH NAME\nmortarbee \\- a jump optimizer whose rewriting is proved\n.SH SYNOPSIS\n.B mortarbee\n[WORD] [OPTIONS] [FILE]\n.SH WORDS\n";
+    out += ".SH NAME\nmortarbee \\- a jump optimizer whose rewriting is proved\n";
+    out += ".SH SYNOPSIS\n.B mortarbee\n[WORD] [OPTIONS] [FILE]\n.SH WORDS\n";
     for word in WORDS {
         out += &format!(".SS {}{}.PP\n.nf\n", roff(word.name), roff(&format!("{}.", word.purpose)));
         out += &word.help().lines().map(roff).collect::<String>();

@@ -1,4 +1,5 @@
-//! The store of C-24: 32 places of five bytes. One that does not exist is an empty one; it is changed under its folder's lock, and replaced whole.
+//! The store of C-24: 32 places of five bytes. One that does not exist is an empty one; it is changed under its folder's lock, and
+//! replaced whole.
 
 use crate::answer::Stop;
 use crate::call::Call;

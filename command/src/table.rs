@@ -1,4 +1,5 @@
-//! The table of words: each with its options and what it needs to be built. Parsing, usage, `help`, the man page and the completions are made of it.
+//! The table of words: each with its options and what it needs to be built. Parsing, usage, `help`, the man page and the completions are
+//! made of it.
 
 use Needs::{All, Core, Texts};
 

@@ -1,4 +1,5 @@
-//! The script at the top, in a clone with a `rt` and a `cargo` of its own: it builds once, says how far it is, hands over, installs, and leaves nothing running.
+//! The script at the top, in a clone with a `rt` and a `cargo` of its own: it builds once, says how far it is, hands over, installs, and
+//! leaves nothing running.
 #![cfg(feature = "all")]
 
 mod kit;

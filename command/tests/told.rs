@@ -4,7 +4,8 @@ mod kit;
 
 use kit::{has_command, leave_out, Folder};
 
-const WORDS: &str = "optimize judge check image text read where read-back salvage stems differences steps targets why page audit settings batch explain help version";
+const WORDS: &str = "optimize judge check image text read where read-back salvage stems differences steps targets why page audit \
+                     settings batch explain help version";
 
 #[test]
 fn every_word_is_in_help_manual_and_completions() {

@@ -1,5 +1,6 @@
 //! Mortarbee's proved entries as safe functions. Any bytes may be handed to them: each call ends with what it wrote to the lent
-//! rooms, or with a refusal that changed no lent byte. [`owned`] has them with their answers in vectors, [`lines`] the lines 70 to 77 as values.
+//! rooms, or with a refusal that changed no lent byte. [`owned`] has them with their answers in vectors, [`lines`] the lines 70 to 77 as
+//! values.
 //!
 //! ```
 //! use mortarbee::{assemble, Refusal, IMAGE_ROOM};
@@ -9,8 +10,8 @@
 //! assert_eq!(assemble(b"012B010001\n", &mut image), Err(Refusal { number: 4, place: 0, argument: 0, amount: 0 }));
 //! ```
 //!
-//! The feature `all` (by default) links libborder.a, `core` alone libborder_core.a with the main job; without either no archive is needed, and types, lines
-//! and streams are left.
+//! The feature `all` (by default) links libborder.a, `core` alone libborder_core.a with the main job; without either no archive is
+//! needed, and types, lines and streams are left.
 #![warn(missing_debug_implementations)]
 
 pub mod lines;

@@ -15,8 +15,8 @@ pub fn text(listing: &[u8], text: &mut [u8]) -> Result<usize, Refusal> {
     raw::text(listing, text).done().map(|done| done.listing)
 }
 
-/// C-19: reads a text for people, writes its listing in the old form, and gives the listing's length. 15 has the column, from 0, of the first byte
-/// that no good line could have there.
+/// C-19: reads a text for people, writes its listing in the old form, and gives the listing's length. 15 has the column, from 0, of the
+/// first byte that no good line could have there.
 pub fn read(text: &[u8], listing: &mut [u8]) -> Result<usize, Refusal> {
     let r = raw::read(text, listing);
     r.told.unless(r.listing as usize)
@@ -27,8 +27,8 @@ pub fn read_back(image: &[u8], start: usize, listing: &mut [u8]) -> Result<usize
     raw::read_back(image, start, listing).done().map(|done| done.listing)
 }
 
-/// C-22: keeps each line of a text that is a good frame by itself, replaces each other by a comment, and reports it: 7B, 1 or 2, the place; where
-/// lines are left off, 7C and the place of the first.
+/// C-22: keeps each line of a text that is a good frame by itself, replaces each other by a comment, and reports it: 7B, 1 or 2, the
+/// place; where lines are left off, 7C and the place of the first.
 pub fn salvage(text: &[u8], listing: &mut [u8], report: &mut [u8]) -> Result<Saved, Refusal> {
     let r = raw::salvage(text, listing, report);
     r.told.unless(Saved { statements: r.statements as usize, listing: r.listing as usize, report: r.report as usize })

@@ -1,8 +1,10 @@
-//! The main job over lent rooms: a listing judged, rewritten, printed; where its statements sit, where the new ones stem from, what their targets name.
+//! The main job over lent rooms: a listing judged, rewritten, printed; where its statements sit, where the new ones stem from, what their
+//! targets name.
 
 use crate::{raw, Done, Refusal, Settings, Targets};
 
-/// A listing room that is never too short: 57,344 characters, four more for each of 1,024 transfers, 1,024 line feeds and the first line of five.
+/// A listing room that is never too short: 57,344 characters, four more for each of 1,024 transfers, 1,024 line feeds and the first line
+/// of five.
 pub const LISTING_ROOM: usize = 62_469;
 /// An image room that is never too short.
 pub const IMAGE_ROOM: usize = 65_536;
@@ -21,8 +23,8 @@ pub fn optimize_jumps(asked: Settings, listing: &[u8], out: &mut [u8], image: &m
     raw::optimize_jumps(asked, listing, out, image).done()
 }
 
-/// C-13: `optimize_jumps` that hands out, in `list`, the place that each statement of the new listing stems from, in two bytes, high byte first. Gives how many
-/// they are, too. Ask for comments where the differences are to be of what was rewritten alone.
+/// C-13: `optimize_jumps` that hands out, in `list`, the place that each statement of the new listing stems from, in two bytes, high byte
+/// first. Gives how many they are, too. Ask for comments where the differences are to be of what was rewritten alone.
 pub fn optimize_stems(
     asked: Settings,
     listing: &[u8],
@@ -41,8 +43,8 @@ pub fn targets(asked: Settings, listing: &[u8], out: &mut [u8]) -> Result<Target
     r.told.unless(Targets { transfers: r.transfers as usize, marked: r.marked as usize })
 }
 
-/// C-17: the address of statement n, the position before its own org or pad; where n is the statement count, the end position. Answered from
-/// the statements before n alone.
+/// C-17: the address of statement n, the position before its own org or pad; where n is the statement count, the end position. Answered
+/// from the statements before n alone.
 pub fn where_sits(listing: &[u8], n: usize) -> Result<usize, Refusal> {
     let r = raw::where_sits(listing, n);
     r.told.unless(r.address as usize)

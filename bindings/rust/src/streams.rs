@@ -1,5 +1,5 @@
-//! Which of the standard streams were open when the process began. Rust's own start opens /dev/null in the place of those that were not, and an answer
-//! written there would be lost without a word; so this is looked at before it, among the constructors.
+//! Which of the standard streams were open when the process began. Rust's own start opens /dev/null in the place of those that were not,
+//! and an answer written there would be lost without a word; so this is looked at before it, among the constructors.
 
 use std::sync::atomic::{AtomicU8, Ordering};
 
@@ -54,7 +54,8 @@ extern "C" {
     fn pthread_sigmask(how: i32, set: *const Signals, old: *mut Signals) -> i32;
 }
 
-/// Does the work while hangup, interrupt and termination wait; one that came ends the process then. Other threads are not held: there should be none.
+/// Does the work while hangup, interrupt and termination wait; one that came ends the process then. Other threads are not held: there
+/// should be none.
 pub fn while_signals_wait<T>(work: impl FnOnce() -> T) -> T {
     let (mut set, mut old) = (Signals([0; 16]), Signals([0; 16]));
     set.0[0] = ENDING;

@@ -9,8 +9,9 @@ pub const STEPS_ROOM: usize = 64_512;
 /// A room that is never too short for `why`.
 pub const WHY_ROOM: usize = 55_296;
 
-/// C-13: writes the differences of two listings as lines 70 to 73, and gives the text's length. A pairing has two bytes an entry, high byte first: entry i is the
-/// place of the first listing that statement i of the second is paired with; an empty one pairs nothing. Without one, what both begin and end with is paired.
+/// C-13: writes the differences of two listings as lines 70 to 73, and gives the text's length. A pairing has two bytes an entry, high
+/// byte first: entry i is the place of the first listing that statement i of the second is paired with; an empty one pairs nothing.
+/// Without one, what both begin and end with is paired.
 pub fn differences(first: &[u8], second: &[u8], pairing: Option<&[u8]>, out: &mut [u8]) -> Result<usize, NotCompared> {
     let r = raw::differences(first, second, pairing, out);
     let whose = match r.whose {

@@ -1,5 +1,5 @@
-//! A refusal in words. FILE:LINE:COL: error: refused N, statement P: what the number means; then the cause, the line, a caret under the column, and
-//! the statement as text for people with its address.
+//! A refusal in words. FILE:LINE:COL: error: refused N, statement P: what the number means; then the cause, the line, a caret under the
+//! column, and the statement as text for people with its address.
 
 mod form; // 1 and 2: the form and the limits
 pub mod frames; // a listing's lines as digit pairs

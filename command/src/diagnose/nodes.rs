@@ -1,5 +1,5 @@
-//! Refusal 7: which operator of a statement has no value. An expression is tried by itself in the statement's place: the listing with it there, and
-//! nothing else changed, is assembled.
+//! Refusal 7: which operator of a statement has no value. An expression is tried by itself in the statement's place: the listing with it
+//! there, and nothing else changed, is assembled.
 
 use super::frames::{behind_kind, byte_at, expression_end, expressions, line_at, line_of, node_operands};
 use border::{owned, where_sits};
@@ -9,7 +9,8 @@ pub fn address(text: &[u8], place: usize) -> usize {
     where_sits(text, place).unwrap_or(65_536)
 }
 
-/// A statement with one expression in it: a variable keeps its name, anything else becomes data of as many bytes, so that every address stays.
+/// A statement with one expression in it: a variable keeps its name, anything else becomes data of as many bytes, so that every address
+/// stays.
 fn probe(line: &[u8], marked: bool, size: usize, expression: &[u8]) -> Vec<u8> {
     let b = behind_kind(marked);
     let kind = byte_at(line, 0);

@@ -86,8 +86,8 @@ pub fn replace(target: &Path, bytes: &[u8]) -> Result<(), Stop> {
     replace_all(&[(target.to_owned(), bytes)])
 }
 
-/// Several files, all or none: all are written and on the disk before the first takes its name, and one that cannot brings back those before it.
-/// A signal that would end the process waits so long: it finds all or none, and no file beside them.
+/// Several files, all or none: all are written and on the disk before the first takes its name, and one that cannot brings back those
+/// before it. A signal that would end the process waits so long: it finds all or none, and no file beside them.
 pub fn replace_all(files: &[(PathBuf, &[u8])]) -> Result<(), Stop> {
     while_signals_wait(|| replace_each(files))
 }

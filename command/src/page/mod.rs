@@ -1,5 +1,5 @@
-//! The page of a run: one HTML file with a listing before and after, side by side. Nothing is worked out here that a word says: only the walk of a
-//! listing in C-23's fragment is walked here. Lines are counted from 1 and statements from 0, as on standard error.
+//! The page of a run: one HTML file with a listing before and after, side by side. Nothing is worked out here that a word says: only the
+//! walk of a listing in C-23's fragment is walked here. Lines are counted from 1 and statements from 0, as on standard error.
 
 mod arrows; // from each transfer to what it names
 mod run; // what is shown
@@ -101,8 +101,8 @@ pub fn page(run: &Run, name: &str) -> String {
         "<!DOCTYPE html>\n<html lang=\"en\"><head><meta charset=\"utf-8\"><title>{name}</title><style>{STYLE}</style></head><body>\n\
          <h1>{name}, long and short</h1>\n<div class=\"sum\">{total}</div>\n<div class=\"run\">{body}</div>\n\
          <h2>What needs eyes</h2>{eyes}\n{staying}\n{walked}\n\
-         <footer>Made by mortarbee page from what its words print. Lines are counted from 1, statements from 0. An arrow goes from a transfer to \
-         the byte that it names. Red: a target that names another byte than before, or none; on the left what it named, on the right what it \
-         names.</footer>\n</body></html>\n"
+         <footer>Made by mortarbee page from what its words print. Lines are counted from 1, statements from 0. An arrow goes from \
+         a transfer to the byte that it names. Red: a target that names another byte than before, or none; on the left what it \
+         named, on the right what it names.</footer>\n</body></html>\n"
     )
 }

@@ -41,7 +41,8 @@ const JMPF: u8 = 0x2B;
 const CALL: u8 = 0x3B;
 const CALLF: u8 = 0x3C;
 
-/// Rule 3's patterns in their order: the branch that stands, and the one that it becomes; from the eleventh on a trampoline, whose branch stays.
+/// Rule 3's patterns in their order: the branch that stands, and the one that it becomes; from the eleventh on a trampoline, whose branch
+/// stays.
 const PATTERNS: [(u8, u8); 23] = [
     (0x2E, 0x2F),
     (0x2F, 0x2E),

@@ -1,8 +1,9 @@
 //! A case: what is typed, the files that are there, standard input; and what comes out. tests/data has them as text:
 //!
-//! `given NAME` (for all cases of the file) and `file NAME` are files, `in` standard input, `out` and `err` what is written, `made NAME` a file that is there
-//! afterwards; each is followed by its lines behind `|`. A line that ends with `\` has no line feed, `*N|` repeats one, `\xHH` is a byte. `run` has the words,
-//! parted by spaces, where `\x20` is one within a word and `''` an empty word; `folder NAME` is a folder, `status N` the exit status (0 where it is left out).
+//! `given NAME` (for all cases of the file) and `file NAME` are files, `in` standard input, `out` and `err` what is written, `made NAME`
+//! a file that is there afterwards; each is followed by its lines behind `|`. A line that ends with `\` has no line feed, `*N|` repeats
+//! one, `\xHH` is a byte. `run` has the words, parted by spaces, where `\x20` is one within a word and `''` an empty word; `folder NAME`
+//! is a folder, `status N` the exit status (0 where it is left out).
 
 use std::fmt::Write;
 

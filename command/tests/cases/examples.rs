@@ -1,4 +1,5 @@
-//! The listings of examples/ through the words: their answers and texts stand beside them, and the routine of examples/tray has more of them.
+//! The listings of examples/ through the words: their answers and texts stand beside them, and the routine of examples/tray has more of
+//! them.
 
 use crate::case::Case;
 use std::fs;

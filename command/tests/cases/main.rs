@@ -1,6 +1,6 @@
-//! What people type, and what comes of it: the cases of tests/data, and the listings of examples/. One is run by its name: `cargo test --test cases -- NAME`,
-//! which may be a part of it. MORTARBEE_PROGRAM names another program than the one that is built (its words on standard error are not looked at); with
-//! MORTARBEE_BLESS=1 tests/data is written anew with what the program answers.
+//! What people type, and what comes of it: the cases of tests/data, and the listings of examples/. One is run by its name: `cargo test
+//! --test cases -- NAME`, which may be a part of it. MORTARBEE_PROGRAM names another program than the one that is built (its words on
+//! standard error are not looked at); with MORTARBEE_BLESS=1 tests/data is written anew with what the program answers.
 
 mod case;
 mod examples;

@@ -30,7 +30,8 @@ impl fmt::Display for Placed {
     }
 }
 
-/// What holding an image against a listing finds: the first address at which they are not the same. No origin: the byte is a gap that an org leaves.
+/// What holding an image against a listing finds: the first address at which they are not the same. No origin: the byte is a gap that an
+/// org leaves.
 #[derive(Clone, Copy, Debug, PartialEq, Eq)]
 pub enum Finding {
     Same,

@@ -1,7 +1,8 @@
-//! The archive's functions as mortarbee.h has them, each behind a safe one that takes slices. This folder and `streams` are the only places with `unsafe`.
+//! The archive's functions as mortarbee.h has them, each behind a safe one that takes slices. This folder and `streams` are the only
+//! places with `unsafe`.
 //!
-//! A slice crosses as its pointer and its length. A reference to a slice is never null, and `&mut` never overlaps: that is all that the archive asks. An array
-//! crosses as its pointer alone, since its length is its type.
+//! A slice crosses as its pointer and its length. A reference to a slice is never null, and `&mut` never overlaps: that is all that the
+//! archive asks. An array crosses as its pointer alone, since its length is its type.
 
 mod core; // what libborder_core.a has
 #[cfg(feature = "all")]
