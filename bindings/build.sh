@@ -10,7 +10,7 @@ archive=$target/staticlib/libborder.a
 flags="-std=c11 -D_GNU_SOURCE -O2 -Wall -Wextra"
 cc=${CC:-cc}
 [ "$(uname -m)" = x86_64 ] || cc=x86_64-linux-gnu-gcc
-. "$here/../tools/words/kit.sh"
+. "$here/kit.sh"
 find_kit || kit=/none
 linker=$kit/on/$(uname -m)/toolchain/bin/ld.lld
 

@@ -6,6 +6,6 @@ set -eu
 [ "$(uname -m)" != x86_64 ] || exec "$@"
 here=$(cd "$(dirname "$0")" && pwd)
 target=$here/../target
-. "$here/../tools/words/kit.sh"
+. "$here/kit.sh"
 find_emulator || { echo "run.sh: no emulator for x86-64 programs: put rt or qemu-x86_64 on the PATH, or set RATTLE_HOME" >&2; exit 3; }
 start "$@"

@@ -55,12 +55,12 @@ class Program:
 
 
 class OneByOne:
-    """The program itself, started for each listing. It prints no image, so that only the image's length is compared."""
+    """The command at the top, started for each listing. It prints no image, so that only the image's length is compared."""
 
     name = "ours"
 
     def __init__(self, word):
-        self.command = [RUNNER, os.path.join(TARGET, "bin", "mortarbee")] + [word or "--comments"]
+        self.command = [os.path.join(ROOT, "mortarbee")] + ([word] if word else ["optimize", "--comments"])
 
     def ask(self, texts, seconds):
         answers = []

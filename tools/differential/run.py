@@ -161,7 +161,7 @@ def options_given():
     p.add_argument("--assemble", action="store_true", help="compare `assemble` alone: image and refusals")
     p.add_argument("--model", action="store_true", help="put the model of document 01 in the place of our program")
     p.add_argument("--program", metavar="WORD", nargs="?", const="",
-                   help="start target/bin/mortarbee, with a WORD if one is given and else with --comments, for each listing (slow, and it prints no image)")
+                   help="start the command at the top, with a WORD if one is given and else with optimize --comments, for each listing (slow, and it prints no image)")
     p.add_argument("--limit", type=float, default=60, help="seconds for a batch of listings")
     p.add_argument("--batch", type=int, default=200, help="listings in a batch")
     p.add_argument("--show", type=int, default=5, help="how many unexplained differences are made small")

@@ -1,9 +1,8 @@
-"""Writes the listings of the folder examples to the programs `examples`, `texts` and `tray` (crates/NAME/stdin), and holds their stored
-output (crates/NAME/stdout) against the answers and the texts beside the listings.
+"""Writes the listings of the folder examples to the program `examples` (crates/examples/stdin), and holds its stored output
+(crates/examples/stdout) against the answers beside the listings. The texts beside them, and examples/tray, are among the tests of command/.
 
-    python3 tools/examples/make.py write     # writes crates/NAME/stdin of the three
-    python3 tools/examples/make.py compare   # each NAME.out and NAME.txt is what the program wrote, and each file of examples/tray what the
-                                             # program `tray` wrote for a word, examples/README.md has each name,
+    python3 tools/examples/make.py write     # writes crates/examples/stdin
+    python3 tools/examples/make.py compare   # each NAME.out is what the program wrote, examples/README.md has each name,
                                              # each line that docs/FORMAT.md shows stands in a listing that is accepted, with its text,
                                              # and the listings of docs/RULES.md are those of the folder, with their answers
 """
@@ -15,19 +14,6 @@ ROOT = Path(__file__).resolve().parents[2]
 EXAMPLES = ROOT / "examples"
 STDIN = ROOT / "crates/examples/stdin"
 STDOUT = ROOT / "crates/examples/stdout"
-TEXTS = ROOT / "crates/texts"
-TRAY = ROOT / "crates/tray"
-# What the program `tray` writes behind a line `== WORD`, and the file of examples/tray that has it.
-WORDS = {
-    "optimize": "tray.out",
-    "text": "tray.txt",
-    "text --addresses": "long.txt",
-    "image --hex": "long.hex",
-    "targets": "targets.out",
-    "text --addresses, of the short one": "short.txt",
-    "image --hex, of the short one": "short.hex",
-    "read-back 8, of its image": "back.out",
-}
 
 
 def names():
@@ -49,17 +35,6 @@ def answers():
         yield "".join(line for line in part.splitlines(keepends=True) if not line.startswith("IMAGE "))
 
 
-def texts():
-    """What the program wrote for people, for each listing; None where it refused it."""
-    for part in (TEXTS / "stdout").read_text().split("==\n")[:-1]:
-        yield None if part.startswith("7E") else part
-
-
-def through_words():
-    """What the program `tray` wrote for each word."""
-    return dict(part.split("\n", 1) for part in ("\n" + (TRAY / "stdout").read_text()).split("\n== ")[1:])
-
-
 def shown():
     """Each statement of docs/FORMAT.md, and its text for people where the table has one. Lines from 70 on are answers."""
     for row in re.findall(r"^\| .*\|$", (ROOT / "docs/FORMAT.md").read_text(), re.M):
@@ -77,21 +52,13 @@ def ruled():
 
 
 def faults():
-    if STDIN.read_text() != blocks() or (TEXTS / "stdin").read_text() != blocks():
-        yield "crates/examples/stdin or crates/texts/stdin is not what `write` writes"
+    if STDIN.read_text() != blocks():
+        yield "crates/examples/stdin is not what `write` writes"
     people = {}
-    for name, text in zip(names(), texts(), strict=True):
+    for name in names():
         path = EXAMPLES / f"{name}.txt"
-        if (path.read_text() if path.exists() else None) != text:
-            yield f"{name}.txt is not what the program wrote"
         lines = listing(name).split()
-        people.update(zip(lines[lines[:1] == ["7D02"] :], (text or "").splitlines()))
-    if (TRAY / "stdin").read_text() != listing("tray/tray"):
-        yield "crates/tray/stdin is not what `write` writes"
-    written = through_words()
-    for word, file in WORDS.items():
-        if (EXAMPLES / "tray" / file).read_text().rstrip("\n") != written.get(word, "").rstrip("\n"):
-            yield f"tray/{file} is not what the program wrote for {word}"
+        people.update(zip(lines[lines[:1] == ["7D02"] :], path.read_text().splitlines() if path.exists() else []))
     table = (EXAMPLES / "README.md").read_text()
     accepted = set()
     for name, answer in zip(names(), answers(), strict=True):
@@ -114,8 +81,6 @@ def faults():
 if __name__ == "__main__":
     if sys.argv[1:] == ["write"]:
         STDIN.write_text(blocks())
-        (TEXTS / "stdin").write_text(blocks())
-        (TRAY / "stdin").write_text(listing("tray/tray"))
         print(len(names()), "listings")
     elif sys.argv[1:] == ["compare"]:
         found = list(faults())

@@ -1,6 +1,7 @@
 //! An audit, the rewrites, the targets and why something stays, on document 01's whole run and beside it.
 use mortarbee::{
-    audit, optimize_jumps, steps, targets, why, Finding, Origin, Settings, Targets, IMAGE_ROOM, LISTING_ROOM, STEPS_ROOM, TARGETS_ROOM, WHY_ROOM,
+    audit, optimize_jumps, steps, targets, why, Finding, Origin, Settings, Targets, IMAGE_ROOM, LISTING_ROOM, STEPS_ROOM, TARGETS_ROOM,
+    WHY_ROOM,
 };
 
 const WHOLE: &[u8] = b"012E018001\n012B010001\n028001\n0143\n020001\n012B0000000005\n";

@@ -1,12 +1,12 @@
 //! C-13 over the archive: the list of stems, and the differences under it, under another, and without one.
-use mortarbee::{differences, optimize_stems, Settings, Whose, DIFFERENCES_ROOM, IMAGE_ROOM, LISTING_ROOM, STEMS_ROOM};
+use mortarbee::{differences, optimize_stems, NotCompared, Settings, Whose, DIFFERENCES_ROOM, IMAGE_ROOM, LISTING_ROOM, STEMS_ROOM};
 
 const INPUT: &[u8] = b"012E018001\n012B010001\n028001\n0143\n020001\n012B0000000005\n";
 const OUTPUT: &[u8] = b"012F010001\n028001\n0143\n020001\n012C0000000002\n";
 
 fn told(first: &[u8], second: &[u8], pairing: Option<&[u8]>) -> Result<String, (Whose, u8, usize)> {
     let mut text = vec![0; DIFFERENCES_ROOM];
-    let n = differences(first, second, pairing, &mut text).map_err(|(whose, r)| (whose, r.number, r.place))?;
+    let n = differences(first, second, pairing, &mut text).map_err(|no| (no.whose, no.refusal.number, no.refusal.place))?;
     text.truncate(n);
     Ok(String::from_utf8(text).unwrap())
 }
@@ -44,7 +44,10 @@ fn refuses_12_for_the_list_and_writes_nothing() {
 #[test]
 fn pairs_what_both_begin_and_end_with() {
     assert_eq!(told(b"0143\n0143\n", b"0143\n", None), Ok("70000000000143\n7100010143\n".into()));
-    assert_eq!(told(b"0143\n0144\n0143\n", b"0143\n0145\n0143\n", None), Ok("70000000000143\n7100010144\n7200010145\n70000200020143\n".into()));
+    assert_eq!(
+        told(b"0143\n0144\n0143\n", b"0143\n0145\n0143\n", None),
+        Ok("70000000000143\n7100010144\n7200010145\n70000200020143\n".into())
+    );
     assert_eq!(told(b"", b"", None), Ok("".into()));
     assert_eq!(told(b"0143\n", b"0143\n", Some(&[])), Ok("7100000143\n7200000143\n".into()));
 }
@@ -58,7 +61,7 @@ fn refuses_in_order_and_says_whose() {
     assert_eq!(told(b"0143\n0144\n", b"0143\n0144\n", Some(&[0, 1, 0, 0])), Err((Whose::Both, 13, 1)));
     assert_eq!(told(b"0143\n0144\n", b"0143\n", Some(&[0, 0, 0, 1])), Err((Whose::Both, 13, 1)));
     let mut room = [7; 15];
-    let (whose, r) = differences(b"0143\n", b"0143\n", None, &mut room[..14]).unwrap_err();
+    let NotCompared { whose, refusal: r } = differences(b"0143\n", b"0143\n", None, &mut room[..14]).unwrap_err();
     assert_eq!((whose, r.number, r.place, room), (Whose::Both, 12, 1, [7; 15]));
     assert_eq!(differences(b"0143\n", b"0143\n", None, &mut room), Ok(15));
 }

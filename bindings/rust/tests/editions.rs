@@ -1,7 +1,7 @@
 //! C-17 and C-24: addresses, editions in a store of 160 bytes and more, and runs under them.
 use mortarbee::{
-    add_edition, assemble, drop_old, get_edition, get_newest, optimize_jumps, optimize_jumps_under, where_sits, Edition, Refusal, Settings, IMAGE_ROOM, LISTING_ROOM,
-    STORE_ROOM,
+    add_edition, assemble, drop_old, get_edition, get_newest, optimize_jumps, optimize_jumps_under, where_sits, Edition, Refusal, Settings,
+    IMAGE_ROOM, LISTING_ROOM, STORE_ROOM,
 };
 
 /// A refusal about no argument.
@@ -30,7 +30,9 @@ fn where_statements_sit() {
 /// The end position is the image's length, where the last statement has bytes.
 #[test]
 fn the_end_is_the_image() {
-    for listing in ["0143\n", "012E018001\n012B010001\n028001\n0143\n020001\n012B0000000005\n", "050100\n012D0000000100\n", "0143\n07010000001234\n"] {
+    for listing in
+        ["0143\n", "012E018001\n012B010001\n028001\n0143\n020001\n012B0000000005\n", "050100\n012D0000000100\n", "0143\n07010000001234\n"]
+    {
         let mut image = vec![0; IMAGE_ROOM];
         let done = assemble(listing.as_bytes(), &mut image).unwrap();
         assert_eq!(where_sits(listing.as_bytes(), listing.lines().count()), Ok(done.image));

@@ -1,4 +1,5 @@
-//! C-19 over the archive: texts for people read into listings, the columns of lines that are refused, and the room one byte short, exact and longer.
+//! C-19 over the archive: texts for people read into listings, the columns of lines that are refused, and the room one byte short, exact
+//! and longer.
 use mortarbee::{read, text, READ_ROOM, TEXT_ROOM};
 
 fn listing(text: &str) -> String {

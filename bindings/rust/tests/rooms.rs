@@ -56,14 +56,28 @@ fn xorshift(state: &mut u64) -> u64 {
 }
 
 const LINES: [&str; 12] = [
-    "0143", "012B018000", "012C018001", "012E018002", "028000", "028001", "028002", "04", "06020000000001018000", "0701018001",
-    "013C0000000004", "050020",
+    "0143",
+    "012B018000",
+    "012C018001",
+    "012E018002",
+    "028000",
+    "028001",
+    "028002",
+    "04",
+    "06020000000001018000",
+    "0701018001",
+    "013C0000000004",
+    "050020",
 ];
 
 /// A sound line, with a source line if it is asked for.
 fn any_line(state: &mut u64, marked: bool) -> String {
     let (kind, rest) = LINES[(xorshift(state) % 12) as usize].split_at(2);
-    if marked { format!("{kind}{:08X}{rest}\n", xorshift(state) as u32) } else { format!("{kind}{rest}\n") }
+    if marked {
+        format!("{kind}{:08X}{rest}\n", xorshift(state) as u32)
+    } else {
+        format!("{kind}{rest}\n")
+    }
 }
 
 /// A text of any bytes, of digits and line feeds, or of sound lines in one of both forms.
@@ -78,7 +92,11 @@ fn any_text(state: &mut u64) -> Vec<u8> {
     (0..length)
         .map(|_| {
             let byte = xorshift(state) as u8;
-            if kind == 1 { b"0123456789ABCDEF\n\n0001"[byte as usize % 22] } else { byte }
+            if kind == 1 {
+                b"0123456789ABCDEF\n\n0001"[byte as usize % 22]
+            } else {
+                byte
+            }
         })
         .collect()
 }
@@ -191,7 +209,8 @@ mod rewriting {
     /// C-20: a replaced instruction keeps its own source line, and the jump that goes takes its own with it.
     #[test]
     fn the_whole_run_with_source_lines() {
-        let listing = b"7D02\n010000000A2E018001\n010000000B2B010001\n020000000C8001\n010000000D43\n020000000E0001\n01FFFFFFFF2B0000000005\n";
+        let listing =
+            b"7D02\n010000000A2E018001\n010000000B2B010001\n020000000C8001\n010000000D43\n020000000E0001\n01FFFFFFFF2B0000000005\n";
         let (rewrites, out, image) = both_rooms(listing).unwrap();
         assert_eq!(rewrites, 2);
         assert_eq!(out, b"7D02\n010000000A2F010001\n020000000C8001\n010000000D43\n020000000E0001\n01FFFFFFFF2C0000000002\n");

@@ -11,7 +11,10 @@ fn written(listing: &str) -> String {
 fn writes_one_line_a_statement() {
     assert_eq!(written(""), "");
     assert_eq!(written("7D02\n"), "");
-    assert_eq!(written("012E018001\n012B010001\n028001\n0143\n020001\n012B0000000005\n"), "bz .l00001\njmpf g00001\n.l00001:\nnop\ng00001:\njmpf 5\n");
+    assert_eq!(
+        written("012E018001\n012B010001\n028001\n0143\n020001\n012B0000000005\n"),
+        "bz .l00001\njmpf g00001\n.l00001:\nnop\ng00001:\njmpf 5\n"
+    );
     assert_eq!(written("030001100000000001200000000005\n"), "g00001=1+(-(5))\n");
     assert_eq!(written("7D02\n0800000007FF0100\n0400000000\n"), ".align 255,256\n.comment\n");
     assert_eq!(written("0142000000010D0000000007\n01370100000000100000000003\n"), "not1 269,7\nbe @R1,#16,3\n");

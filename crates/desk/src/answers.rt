@@ -16,8 +16,8 @@ use rules::Settings;
 use rules::Sizes;
 ghost use Rattle.io.specs.Counts.{Counts};
 
-// The answer to a listing, and a line `==`; handed back too.
-pub fn put_answer(asked: Settings, text: &[u8], on_all_sides: bool) -> Answer {
+// The answer to a listing, and a line `==`.
+pub fn put_answer(asked: Settings, text: &[u8], on_all_sides: bool) {
     let mut page = [0u8; 62482];
     let mut image = [0u8; 65536];
     let answer = print_run(asked, text, &mut page, &mut image);
@@ -32,7 +32,6 @@ pub fn put_answer(asked: Settings, text: &[u8], on_all_sides: bool) -> Answer {
         Answer::Refused(r) => put_refusal(r),
     }
     write_all(STDOUT_FILENO, b"==\n");
-    answer
 }
 
 // The same with rooms that are too short, and under the other settings.
@@ -139,8 +138,8 @@ fn put_lent(asked: Settings, text: &[u8], page: &mut [u8], image: &mut [u8]) {
     }
 }
 
-// As the program says it.
-fn put_refusal(r: Refusal) {
+// All that the program prints for a listing that is refused.
+pub fn put_refusal(r: Refusal) {
     let line = refusal_line(r);
     write_all(STDOUT_FILENO, &line);
 }

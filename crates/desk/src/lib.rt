@@ -1,19 +1,18 @@
 // Many listings in one run: blocks of standard input that a line `==` ends, and the answer to each.
 mod answers; // one listing
 mod blocks; // where a block ends
-mod rooms; // what the words of the program share
+mod rooms; // the front of a room, and digits
 mod switches; // a listing under the other settings
 
-pub use answers::put_answer;
+use answers::put_answer;
 pub use answers::put_page;
-pub use blocks::behind;
-pub use blocks::block_end;
+pub use answers::put_refusal;
+use blocks::behind;
+use blocks::block_end;
 use io::read_full;
 use io::write_all;
 use libc::STDERR_FILENO;
 use libc::STDIN_FILENO;
-pub use rooms::part;
-pub use rooms::put_pair;
 use rules::Settings;
 pub use switches::numbered;
 ghost use mathlib.Core.Path.{_≡_};

@@ -1,4 +1,4 @@
-// What the words of the program share: the front of a room, and a byte as digits.
+// The front of a room, and a byte as digits.
 use io::write_all;
 use libc::STDOUT_FILENO;
 ghost use Rattle.io.specs.Counts.{Counts};

@@ -1,0 +1,71 @@
+//! The archive's functions as mortarbee.h has them, each behind a safe one that takes slices. This folder and `streams` are the only
+//! places with `unsafe`.
+//!
+//! A slice crosses as its pointer and its length. A reference to a slice is never null, and `&mut` never overlaps: that is all that the
+//! archive asks. An array crosses as its pointer alone, since its length is its type.
+
+mod core; // what libborder_core.a has
+#[cfg(feature = "all")]
+mod rest; // what libborder.a has beside it
+
+pub use self::core::*;
+#[cfg(feature = "all")]
+pub use rest::*;
+
+use crate::{Done, Refusal};
+
+/// The four numbers that each answer of mortarbee.h begins with: a struct in a struct lies as its fields do.
+#[repr(C)]
+pub struct Told {
+    number: u64,
+    place: u64,
+    argument: u64,
+    amount: i64,
+}
+
+impl Told {
+    /// What was asked for, unless it is refused.
+    pub fn unless<T>(self, it: T) -> Result<T, Refusal> {
+        if self.number == 0 {
+            return Ok(it);
+        }
+        Err(Refusal { number: self.number as u8, place: self.place as usize, argument: self.argument as usize, amount: self.amount as i32 })
+    }
+}
+
+#[repr(C)]
+pub struct Reply {
+    told: Told,
+    listing: u64,
+    rewrites: u64,
+    image: u64,
+}
+
+impl Reply {
+    pub fn done(self) -> Result<Done, Refusal> {
+        self.told.unless(Done { listing: self.listing as usize, rewrites: self.rewrites as usize, image: self.image as usize })
+    }
+}
+
+#[repr(C)]
+pub struct SitsReply {
+    pub told: Told,
+    pub address: u64,
+}
+
+#[repr(C)]
+pub struct StemsReply {
+    pub told: Told,
+    pub listing: u64,
+    pub rewrites: u64,
+    pub image: u64,
+    pub stems: u64,
+}
+
+#[repr(C)]
+pub struct TargetsReply {
+    pub told: Told,
+    pub lines: u64,
+    pub transfers: u64,
+    pub marked: u64,
+}

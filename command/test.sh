@@ -1,0 +1,55 @@
+#!/bin/sh
+# usage: test.sh [ARCHIVES]
+# Builds bindings/rust and the command over the archives of a folder (target/staticlib) and runs their tests; the last line is `N passed,
+# M failed`. Needs cargo, rustc and a linker. On another processor than x86-64, for which the archives are, the tests are left out by
+# name.
+set -u
+here=$(cd "$(dirname -- "$0")" && pwd)
+top=$(cd "$here/.." && pwd)
+MORTARBEE_ARCHIVE=${1:-$top/target/staticlib}
+export MORTARBEE_ARCHIVE
+passed=0 failed=0
+
+# What cargo's tests say is shown, but for those that are as they should be; their results are added.
+count() {
+    while read -r line; do
+        case $line in
+            'test result: '*)
+                set -- $line
+                passed=$((passed + $4)) failed=$((failed + $6))
+                ;;
+            'test '*' ... ok' | '' | 'running '*) ;;
+            *) printf '%s\n' "$line" ;;
+        esac
+    done <"$1"
+}
+
+# try NAME FOLDER WORDS..: the tests of a package. One that cannot be built is a failed one.
+try() {
+    name=$1 folder=$2
+    shift 2
+    log=$(mktemp)
+    echo "test.sh: $name"
+    before=$((passed + failed))
+    (cd "$folder" && exec cargo test --offline --no-fail-fast "$@") >"$log" 2>&1
+    status=$?
+    count "$log"
+    rm -f "$log"
+    if [ "$status" != 0 ] && { [ "$failed" = 0 ] || [ "$before" = $((passed + failed)) ]; }; then failed=$((failed + 1)); fi
+}
+
+if [ "$(uname -m)" != x86_64 ]; then
+    echo "test.sh: the archives are for x86-64, and this is $(uname -m); left out:"
+    for file in "$top"/bindings/rust/tests/*.rs "$here"/tests/*.rs "$here"/tests/data/*.txt; do echo "  ${file#"$top/"}"; done
+elif [ ! -f "$MORTARBEE_ARCHIVE/libborder.a" ]; then
+    echo "test.sh: no $MORTARBEE_ARCHIVE/libborder.a: run 'rt staticlib border' first" >&2
+    exit 2
+else
+    try "bindings/rust over libborder.a" "$top/bindings/rust"
+    try "the command over libborder.a" "$here" --release
+    if [ -f "$MORTARBEE_ARCHIVE/libborder_core.a" ]; then
+        try "the command over libborder_core.a" "$here" --release --no-default-features --features core --test core
+    fi
+fi
+echo "$passed passed, $failed failed"
+[ "$failed" = 0 ]

@@ -1,0 +1,85 @@
+//! A folder of its own for a test, with some listings, and lines of sh in which `m` is the command.
+#![allow(dead_code)]
+
+use std::fs;
+use std::path::PathBuf;
+use std::process::{Command, Output};
+
+pub const GOOD: &str = "012E018001\n012B010001\n028001\n0143\n020001\n012B0000000005\n";
+pub const SHORT: &str = "012F010001\n028001\n0143\n020001\n012C0000000002\n";
+
+pub struct Folder(pub PathBuf);
+
+impl Folder {
+    pub fn new(name: &str) -> Folder {
+        let path = std::env::temp_dir().join(format!("mortarbee-{name}.{}", std::process::id()));
+        let _ = fs::remove_dir_all(&path);
+        fs::create_dir_all(&path).expect("a folder");
+        let folder = Folder(path);
+        folder.write("good.lst", GOOD);
+        folder.write("bad.lst", "0143");
+        folder.write("big.lst", &"0143\n".repeat(1024));
+        folder
+    }
+
+    pub fn write(&self, name: &str, text: &str) {
+        fs::write(self.0.join(name), text).expect("a file");
+    }
+
+    pub fn read(&self, name: &str) -> String {
+        fs::read_to_string(self.0.join(name)).unwrap_or_default()
+    }
+
+    pub fn has(&self, name: &str) -> bool {
+        self.0.join(name).exists()
+    }
+
+    /// What runs a line; tests that start it otherwise add to it.
+    pub fn shell(&self, shell: &str, line: &str) -> Command {
+        let line = format!("m() {{ \"{}\" \"$@\"; }}\n{line}", env!("CARGO_BIN_EXE_mortarbee"));
+        let mut command = Command::new(shell);
+        command.args(["-c", &line]).current_dir(&self.0);
+        command
+    }
+
+    pub fn run(&self, line: &str) -> Output {
+        self.shell("sh", line).output().expect("sh")
+    }
+
+    pub fn status(&self, line: &str) -> Option<i32> {
+        self.run(line).status.code()
+    }
+
+    pub fn said(&self, line: &str) -> String {
+        String::from_utf8_lossy(&self.run(line).stderr).into()
+    }
+
+    pub fn wrote(&self, line: &str) -> String {
+        String::from_utf8_lossy(&self.run(line).stdout).into()
+    }
+
+    /// Nothing is left beside the files.
+    pub fn is_clean(&self) -> bool {
+        fs::read_dir(&self.0).expect("a folder").all(|one| !one.expect("a name").file_name().to_string_lossy().starts_with(".mortarbee"))
+    }
+}
+
+impl Drop for Folder {
+    fn drop(&mut self) {
+        let _ = fs::remove_dir_all(&self.0);
+    }
+}
+
+/// Whether a command is on the PATH.
+pub fn has_command(name: &str) -> bool {
+    Command::new("sh").args(["-c", &format!("command -v {name} >/dev/null")]).status().is_ok_and(|status| status.success())
+}
+
+/// A test that cannot be run here is left out by its name.
+pub fn leave_out(test: &str, why: &str) {
+    println!("left out: {test}: {why}");
+}
+
+pub fn is_root() -> bool {
+    Command::new("id").arg("-u").output().is_ok_and(|done| done.stdout == b"0\n")
+}
