@@ -1,0 +1,5 @@
+-- ---- what is promised
+pub mod SameImages
+-- ---- what the proofs share
+pub mod Seeks
+pub mod Tells
