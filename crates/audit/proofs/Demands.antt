@@ -14,7 +14,7 @@ use Rattle.rules.specs.Run.{Output, outputOf, rewritten, run}
 use Rattle.laws.proofs.Tests.{clash}
 use Rattle.promises.proofs.Accepted.{accepted-iff}
 use Rattle.starting.specs.Begun.{accepted}
-use Rattle.starting.proofs.Accepts.{accepted-of, accepted-run, accepted-never-12}
+use Rattle.starting.proofs.Accepts.{accepted-of, accepted-run, run-accepted, accepted-never-12}
 use Rattle.audit.specs.Audit.{Finding, same, held, audit}
 use Rattle.audit.specs.Promise.{Says, Audited, AsRun}
 use Rattle.audit.proofs.Findings.{held-says, held-same}
@@ -39,20 +39,23 @@ audited asked text shipped listingRoom imageRoom o e =
     let p = a .program in
     let of : Addressℕ → Option Origin = λ x. originFrom 0 0 (optimized asked p .program) x in
     let image : rewritten asked p .image ≡ o .image = unfold outputOf in sym (ap (λ (x : Output). x .image) (a .result)) in
+    let reads : accepted text ≡ ok p = accepted-of text p (a .image) (a .keeps-rules) (a .assembles) in
     let both = held-same of (rewritten asked p .image) shipped in
     record {
       program = p;
+      reads = reads;
       finding = finding asked p shipped;
-      found = audit-of asked text shipped p (accepted-of text p (a .image) (a .keeps-rules) (a .assembles));
+      found = audit-of asked text shipped p reads;
       says = subst (λ (l : List ℕ). Says of l shipped (finding asked p shipped)) image (held-says of (rewritten asked p .image) shipped);
       same-only = (λ z. both .0 z ∙ image, λ z. both .1 (z ∙ sym image));
     }
 
--- as-run: a refusal is the one that the run gives, and never 12
+-- as-run: a refusal is the one that the run gives, both ways, and never 12
 pub as-run : (asked : Settings) (text shipped : List ℕ) → AsRun asked text shipped
 as-run asked text shipped =
     record {
       refused = λ r e a b. accepted-run text asked r a b (refused r (accepted text) refl e);
+      back = λ r a b other e. audit-no asked text shipped r (run-accepted text asked r a b other e);
       never-12 = λ n e. accepted-never-12 text asked n (refused (Room n) (accepted text) refl e);
     }
   where

@@ -13,7 +13,7 @@ use Rattle.rules.specs.Programs.{Placeℕ, Addressℕ, Program}
 use Rattle.rules.specs.Layout.{Origin, originFrom}
 use Rattle.rules.specs.Rewriting.{optimized}
 use Rattle.rules.specs.Run.{Output, run}
-use Rattle.promises.specs.Demand2.{Input}
+use Rattle.starting.specs.Begun.{accepted}
 use Rattle.audit.specs.Audit.{Finding, same, differs, short, long, audit}
 
 -- what a finding says of two images
@@ -24,15 +24,18 @@ Says of w s (differs a x y o) =
 Says of w s (short a o) = (a ≡ length s) × (a < length w) × (s ≡ take a w) × (o ≡ of a)
 Says of w s (long a) = (a ≡ length w) × (a < length s) × (take a s ≡ w)
 
--- of a run that hands out o, whatever rooms it was lent: the finding is about o's image, and is "same" exactly where that is the shipped one
+-- of a run that hands out o, whatever rooms it was lent: the finding is about o's image, and is "same" exactly where that is the shipped one. The
+-- statement that it names is one of the program that the text reads as
 pub record Audited (asked : Settings) (text shipped : List ℕ) (o : Output) : Type 0 where
   pub program : Program
+  pub reads : accepted text ≡ ok program
   pub finding : Finding
   pub found : audit asked text shipped ≡ ok finding
   pub says : Says (λ a. originFrom 0 0 (optimized asked program .program) a) (o .image) shipped finding
   pub same-only : (finding ≡ same → shipped ≡ o .image) × (shipped ≡ o .image → finding ≡ same)
 
--- a refusal is the run's: 12 is never given, and any other exactly where the run gives it, whatever rooms it is lent
+-- a refusal is the run's: 12 is never given, and any other exactly where the run gives it, whatever rooms it is lent; and back
 pub record AsRun (asked : Settings) (text shipped : List ℕ) : Type 0 where
   pub refused : (r : Refusal) → audit asked text shipped ≡ no r → (listingRoom imageRoom : ℕ) → run asked text listingRoom imageRoom ≡ no r
+  pub back : (r : Refusal) (listingRoom imageRoom : ℕ) → ((n : ℕ) → r ≡ Room n → ⊥) → run asked text listingRoom imageRoom ≡ no r → audit asked text shipped ≡ no r
   pub never-12 : (n : ℕ) → audit asked text shipped ≡ no (Room n) → ⊥
