@@ -11,16 +11,17 @@ use lib.IntN.{ℤ, pos}
 use Rattle.laws.proofs.Tests.{false-true, true-false, clash, or-first, or-second, or-true, lt-or-le, decide}
 use Rattle.laws.proofs.Stores.{get-in}
 use Rattle.rules.specs.declared.Outcome.{Outcome}
-use Rattle.rules.specs.declared.Outcome.the-variants.{Is, Unknown, Nothing}
+use Rattle.rules.specs.declared.Outcome.the-variants.{Is}
 use Rattle.rules.specs.Answers.{ok}
 use Rattle.rules.specs.Expressions.{Expr, num, name, two, one, evalTree}
 use Rattle.rules.specs.Programs.{Placeℕ, Stmt, gone, label, variable, Naming, unnamed, labels, binds, namingOf, nameIn, Program, at, asName}
 use Rattle.rules.specs.Layout.{after, position}
 use Rattle.rules.specs.Names.{enter, contextFrom, contextAt, placedFrom, placed, Key, keyOf, sameKey, Entry, lookup}
 use Rattle.rules.specs.Judging.{isSeen, keysIn, noNameTwice, entry, valueAt, worth, defineIn, define, defineAll, namesOf}
-use Rattle.rules.proofs.Laws.{require-ok, then-ok, no-ok}
+use Rattle.rules.proofs.Laws.{require-ok, then-ok}
 use Rattle.promises.proofs.Passes.{names-are}
 use Rattle.walk.proofs.Lookups.{key-same, same-key}
+use Rattle.walk.proofs.Inputs.{value-ok}
 use Rattle.paths.specs.Walk.{isNameIn, standsIn, namesBefore, labelNames}
 use Rattle.paths.proofs.Names.{later, label-worth, naming-label, naming-variable, Kin, kin-label, kin-variable}
 
@@ -129,11 +130,6 @@ covers-define seen above i k q (binds n d) names e c =
     let z : entry k n (a .0) ∷ above ≡ names = cc (a .2) in
     rw (← z) (covers-more seen above k n (a .0) c)
 
-value-is : (i : ℕ) (v : Outcome) (z : ℤ) → valueAt i v ≡ ok z → v ≡ Is z
-value-is i (Is w) z e = let q : w ≡ z = cc in ap Is q
-value-is i Unknown z e = no-ok _ z e
-value-is i Nothing z e = no-ok _ z e
-
 -- a variable that is bound to a name alone is worth what that name is worth
 module _ (seen : List Key) (above : List Entry) (i k q : ℕ) (p : Program) (names : List Entry) (n l : ℕ) where
   first-bound : Covers seen above → noNameTwice seen (placedFrom i k q (variable n (name l) ∷ p)) ≡ ok tt → defineAll above (placedFrom i k q (variable n (name l) ∷ p)) ≡ ok names
@@ -143,7 +139,7 @@ module _ (seen : List Key) (above : List Entry) (i k q : ℕ) (p : Program) (nam
       let r = require-ok _ _ _ tt t in
       let a = then-ok (define above i k q (variable n (name l))) _ names e in
       let b = then-ok (valueAt i (worth above k (name l))) _ (a .0) (a .1) in
-      let value : lookup above (keyOf k l) ≡ Is (b .0) = value-is i (lookup above (keyOf k l)) (b .0) (b .1) in
+      let value : lookup above (keyOf k l) ≡ Is (b .0) = value-ok i (lookup above (keyOf k l)) (b .0) (b .1) in
       let z : entry k n (b .0) ∷ above ≡ a .0 = cc (b .2) in
       let own-seen : isSeen (keyOf k n ∷ seen) (keyOf k n) ≡ true = or-first (sameKey (keyOf k n) (keyOf k n)) (isSeen seen (keyOf k n)) (key-same (keyOf k n) (keyOf k n) refl) in
       let its-seen : isSeen (keyOf k n ∷ seen) (keyOf k l) ≡ true = or-second (sameKey (keyOf k n) (keyOf k l)) (isSeen seen (keyOf k l)) (c (keyOf k l) (b .0) value) in
