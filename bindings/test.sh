@@ -37,7 +37,7 @@ replays() {
 }
 
 reads_lines() {
-    [ "$(printf '  ret\nret\n' | "$here/run.sh" "$made/lines")" = "$(printf '0143\n15 0')" ]
+    [ "$(printf 'nop\n nop\n' | "$here/run.sh" "$made/lines")" = "$(printf '0143\n15 0')" ]
 }
 
 fuzzes() {
