@@ -1,16 +1,9 @@
 # Part of the scripts that need the Rattle kit or run x86-64 programs. $target is the repository's folder target.
 
-# The kit that linked the program, as rt wrote it down.
-linked_with() {
-    sed -n 's|^linked .*[=,]\(/[^,]*\)/lib/libos_c\.a.*|\1|p' "$target/log/mortarbee.say" 2>/dev/null | head -n 1
-}
-
-# The kit's folder: RATTLE_HOME, where rt stands, the one that linked the program, as it was remembered, or where rt has its guide. What is found is
-# remembered.
+# The kit's folder: RATTLE_HOME, where rt stands, as it was remembered, or where rt has its guide. What is found is remembered.
 find_kit() {
     kit=${RATTLE_HOME-}
     [ -n "$kit" ] || kit=$(dirname -- "$(dirname -- "$(readlink -f -- "$(command -v rt || echo /none)")")")
-    [ -f "$kit/KIT-ID" ] || kit=$(linked_with)
     [ -f "$kit/KIT-ID" ] || kit=$(cat "$target/kit" 2>/dev/null || echo /none)
     [ -f "$kit/KIT-ID" ] || kit=$(dirname -- "$(dirname -- "$(rt doc 2>/dev/null || echo /none)")")
     [ -f "$kit/KIT-ID" ] || return 1
