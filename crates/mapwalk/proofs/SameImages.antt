@@ -30,7 +30,8 @@ use Rattle.promises.proofs.Sounds.{SoundStmt}
 use Rattle.promises.proofs.WritesBack.{judge-writeBack, writeBack-plain, inner-end}
 use Rattle.decoding.proofs.Tables.{shaped}
 use Rattle.paths.specs.Walk.{Oracle, going, Walk, isCode, holdsNone, walk, startAt, run, meets}
-use Rattle.paths.specs.SamePath.{itself, Agrees, Alike, Starts, at-zero, at-kept, SameWorth, stemOf}
+use Rattle.paths.specs.SamePath.{itself, Agrees, Alike, Starts, at-zero, at-kept, SameWorth}
+use Rattle.walk.specs.SameWalk.{stemOf}
 use Rattle.paths.proofs.Runs.{run-same}
 use Rattle.paths.proofs.Compacts.{meets-rank}
 use Rattle.paths.proofs.Shapes.{shape-names, shape-context}

@@ -21,7 +21,8 @@ use Rattle.rules.specs.Names.{contextAt, Entry, placed}
 use Rattle.rules.specs.Judging.{worth, worthOf, namesOf, positionsFit}
 use Rattle.rules.specs.Rewriting.{movingOf, isChangeJump}
 use Rattle.promises.proofs.Weights.{instr-inside}
-use Rattle.paths.specs.Walk.{Oracle, Class, jumps, calls, returns, tests, plain, class, plainForm, takenOn, Event, front, event, Ending, going, offTheEnd, inData, inside, leaves, computed, clouded, unreturned, noAddress, Spot, here, done, State, startAt, Move, stop, on, pick, sameTest, acts, isCode, codeAt, toSpot, labelsFrom, isFollowed, aimAt, holdsNone, isClouded, entersInstr, entersAt, meetsAt, meets, Walk, halts, follow, run, walk}
+use Rattle.walk.specs.Walk.{sameTest}
+use Rattle.paths.specs.Walk.{Oracle, Class, jumps, calls, returns, tests, plain, class, plainForm, takenOn, Event, front, event, Ending, going, offTheEnd, inData, inside, leaves, computed, clouded, unreturned, noAddress, Spot, here, done, State, startAt, Move, stop, on, pick, acts, isCode, codeAt, toSpot, labelNames, isFollowed, aimAt, holdsNone, isClouded, entersInstr, entersAt, meetsAt, meets, Walk, halts, follow, run, walk}
 use Rattle.paths.specs.SamePath.{itself, SameWorth}
 use Rattle.decoded.specs.Decoded.{asWorth, numbered, Decodes}
 use Rattle.decoded.specs.Bytes.{spotOf}
@@ -140,7 +141,7 @@ module _ (base : Program) where
   -- where a target leads, by its number in the image
   target-tell : (p : Program) (k : ℕ) (x : Operand) → targetAs (cond (followed p k x) asCode asAside) (numbered (namesOf p) p k x) ≡ tellSpot (aimAt p k x)
   target-tell p k (register r) = spot-tell (worthOf (namesOf p) p k (register r))
-  target-tell p k (value e) = split (isFollowed (labelsFrom 0 p) (movingOf p) k e)
+  target-tell p k (value e) = split (isFollowed (labelNames p) (movingOf p) k e)
     where
       split : (b : Bool) → targetAs (cond b asCode asAside) (asWorth e (worth (namesOf p) k e)) ≡ tellSpot (cond b (toSpot (worth (namesOf p) k e)) (done (computed k e)))
       split true = spot-value (namesOf p) k e (worth (namesOf p) k e) refl ∙ spot-tell (worth (namesOf p) k e)

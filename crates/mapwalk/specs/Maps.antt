@@ -10,13 +10,13 @@ use Rattle.rules.specs.Names.{contextAt}
 use Rattle.rules.specs.Judging.{namesOf}
 use Rattle.rules.specs.Rewriting.{movingOf, isChangeJump, optimized}
 use Rattle.rules.specs.Output.{writeBack, shown}
-use Rattle.paths.specs.Walk.{isCode, isClouded, isFollowed, labelsFrom, holdsNone}
+use Rattle.paths.specs.Walk.{isCode, isClouded, isFollowed, labelNames, holdsNone}
 use Rattle.mapwalk.specs.Stands.{Sort, asCode, asAside, asStop, asData, Stand}
 
 -- a target that is no expression is followed
 abbrev pub followed : Program → (k : ℕ) → Operand → Bool
 followed p k (register r) = true
-followed p k (value e) = isFollowed (labelsFrom 0 p) (movingOf p) k e
+followed p k (value e) = isFollowed (labelNames p) (movingOf p) k e
 followed p k (inner i o) = true
 
 abbrev pub sortAt : Program → (i : Placeℕ) → Sort
