@@ -36,10 +36,8 @@ pub use run::*;
 #[cfg(feature = "all")]
 mod people;
 #[cfg(feature = "all")]
-mod soon;
-#[cfg(feature = "all")]
 mod store;
 #[cfg(feature = "all")]
 mod telling;
 #[cfg(feature = "all")]
-pub use {people::*, soon::*, store::*, telling::*};
+pub use {people::*, store::*, telling::*};

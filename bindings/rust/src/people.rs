@@ -2,18 +2,11 @@
 
 use crate::{raw, Refusal, Saved};
 
-/// A room for a text that is never too short.
-pub const TEXT_ROOM: usize = 86_016;
 /// A room for the listing of a text or of an image that is never too short.
 pub const READ_ROOM: usize = 50_176;
 /// Rooms that are never too short for `salvage`: listing and report.
 pub const SALVAGE_ROOM: usize = 58_373;
 pub const REPORT_ROOM: usize = 9_223;
-
-/// C-16: writes a listing of either form as text for people, one line a statement, and gives the text's length.
-pub fn text(listing: &[u8], text: &mut [u8]) -> Result<usize, Refusal> {
-    raw::text(listing, text).done().map(|done| done.listing)
-}
 
 /// C-19: reads a text for people, writes its listing in the old form, and gives the listing's length. 15 has the column, from 0, of the
 /// first byte that no good line could have there.

@@ -43,3 +43,10 @@ pub fn optimize_jumps_under(
 ) -> Result<Done, Refusal> {
     raw::optimize_jumps_under(store, family, edition, listing, out, image).done()
 }
+
+/// C-24: what place k of a store holds, 0 to 31: its family and its edition; nothing from 32 on.
+pub fn show_place(store: &[u8], k: usize) -> Result<Option<(u16, Edition)>, Refusal> {
+    let r = raw::show_place(store, k);
+    let settings = Settings { comments: r.comments != 0, callf: r.callf != 0, folds: r.folds != 0 };
+    r.told.unless((r.held != 0).then_some((r.family as u16, Edition { number: r.edition as u16, settings })))
+}

@@ -12,7 +12,7 @@ mod rest;
 #[cfg(feature = "all")]
 pub use rest::*;
 
-use crate::{Refusal, Settings, Targets, IMAGE_ROOM, LISTING_ROOM, STEMS_ROOM, TARGETS_ROOM};
+use crate::{Refusal, Settings, Targets, IMAGE_ROOM, LISTING_ROOM, STEMS_ROOM, TARGETS_ROOM, TEXT_ROOM};
 
 /// A finished run.
 #[derive(Clone, Debug, PartialEq, Eq)]
@@ -71,4 +71,11 @@ pub fn targets(asked: Settings, listing: &[u8]) -> Result<(Vec<u8>, Targets), Re
     let mut out = vec![0; TARGETS_ROOM];
     let told = crate::targets(asked, listing, &mut out)?;
     Ok((cut(out, 45 * told.transfers), told))
+}
+
+/// The listing for people.
+pub fn text(listing: &[u8]) -> Result<Vec<u8>, Refusal> {
+    let mut text = vec![0; TEXT_ROOM];
+    let n = crate::text(listing, &mut text)?;
+    Ok(cut(text, n))
 }

@@ -1,13 +1,7 @@
 //! The answers of what libborder.a has beside the core, in vectors.
 
 use super::cut;
-use crate::{NotCompared, Refusal, Settings, DIFFERENCES_ROOM, READ_ROOM, REPORT_ROOM, SALVAGE_ROOM, STEPS_ROOM, TEXT_ROOM, WHY_ROOM};
-
-pub fn text(listing: &[u8]) -> Result<Vec<u8>, Refusal> {
-    let mut text = vec![0; TEXT_ROOM];
-    let n = crate::text(listing, &mut text)?;
-    Ok(cut(text, n))
-}
+use crate::{NotCompared, Refusal, Settings, DIFFERENCES_ROOM, READ_ROOM, REPORT_ROOM, SALVAGE_ROOM, STEPS_ROOM, WHY_ROOM};
 
 pub fn read(text: &[u8]) -> Result<Vec<u8>, Refusal> {
     let mut listing = vec![0; READ_ROOM];

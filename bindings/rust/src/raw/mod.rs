@@ -69,3 +69,18 @@ pub struct TargetsReply {
     pub transfers: u64,
     pub marked: u64,
 }
+
+#[repr(C)]
+pub struct PrintedReply {
+    pub told: Told,
+    pub page: u64,
+    pub listing: u64,
+    pub rewrites: u64,
+    pub image: u64,
+}
+
+#[repr(C)]
+pub struct CountedReply {
+    pub told: Told,
+    pub statements: u64,
+}

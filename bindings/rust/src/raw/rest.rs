@@ -58,9 +58,19 @@ pub struct FoundReply {
     pub folds: u64,
 }
 
+#[repr(C)]
+pub struct ShownReply {
+    pub told: Told,
+    pub held: u64,
+    pub family: u64,
+    pub edition: u64,
+    pub comments: u64,
+    pub callf: u64,
+    pub folds: u64,
+}
+
 extern "C" {
     fn mortarbee_read_back(image: *const u8, image_len: usize, start: usize, listing: *mut u8, listing_len: usize) -> Reply;
-    fn mortarbee_text(listing: *const u8, listing_len: usize, text: *mut u8, text_len: usize) -> Reply;
     fn mortarbee_read(text: *const u8, text_len: usize, listing: *mut u8, listing_len: usize) -> ReadReply;
     fn mortarbee_salvage(
         text: *const u8,
@@ -111,6 +121,7 @@ extern "C" {
     fn mortarbee_add_edition(room: *mut u8, room_len: usize, family: u16, comments: u8, callf: u8, folds: u8) -> NumberedReply;
     fn mortarbee_get_edition(room: *const u8, room_len: usize, family: u16, edition: u16) -> FoundReply;
     fn mortarbee_get_newest(room: *const u8, room_len: usize, family: u16) -> FoundReply;
+    fn mortarbee_show_place(room: *const u8, room_len: usize, k: usize) -> ShownReply;
     fn mortarbee_drop_old(room: *mut u8, room_len: usize, family: u16) -> NumberedReply;
     fn mortarbee_optimize_jumps_under(
         store: *const u8,
@@ -128,10 +139,6 @@ extern "C" {
 
 pub fn read_back(image: &[u8], start: usize, listing: &mut [u8]) -> Reply {
     unsafe { mortarbee_read_back(image.as_ptr(), image.len(), start, listing.as_mut_ptr(), listing.len()) }
-}
-
-pub fn text(listing: &[u8], text: &mut [u8]) -> Reply {
-    unsafe { mortarbee_text(listing.as_ptr(), listing.len(), text.as_mut_ptr(), text.len()) }
 }
 
 pub fn read(text: &[u8], listing: &mut [u8]) -> ReadReply {
@@ -185,6 +192,10 @@ pub fn get_edition(store: &[u8], family: u16, edition: u16) -> FoundReply {
 
 pub fn get_newest(store: &[u8], family: u16) -> FoundReply {
     unsafe { mortarbee_get_newest(store.as_ptr(), store.len(), family) }
+}
+
+pub fn show_place(store: &[u8], k: usize) -> ShownReply {
+    unsafe { mortarbee_show_place(store.as_ptr(), store.len(), k) }
 }
 
 pub fn drop_old(store: &mut [u8], family: u16) -> NumberedReply {
