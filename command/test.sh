@@ -18,7 +18,7 @@ count() {
                 set -- $line
                 passed=$((passed + $4)) failed=$((failed + $6))
                 ;;
-            'test '*' ... ok' | '' | 'running '*) ;;
+            'test '*' ... ok' | '' | 'running '* | Running* | Compiling* | Finished* | Doc-tests*) ;;
             *) printf '%s\n' "$line" ;;
         esac
     done <"$1"
