@@ -1,0 +1,43 @@
+#!/bin/sh
+# usage: build.sh SOURCES ARCHIVE OUT [WHICH..]
+# SOURCES  the folder with waterbear's published files (lib.rs, asm.rs ..)
+# ARCHIVE  the folder of libborder.a (rt staticlib border)
+# OUT      gets bin/wb-orig (waterbear's own optimizer), bin/wb-doc (its own with document 01's patterns), bin/wb-drop (the drop-in) and bin/wb-tested (the
+#          drop-in with the variables for tests). No text of waterbear is kept elsewhere. WHICH: orig, doc, drop, tested; all four if none is named.
+# Status 3: rustc, cargo or a crate of Debian is missing; it says which.
+set -eu
+[ $# -ge 3 ] || { sed -n 2,7p "$0" >&2; exit 2; }
+here=$(cd "$(dirname "$0")" && pwd); top=$(cd "$here/../.." && pwd)
+"$here/needs.sh" || exit $?
+sources=$(cd "$1" && pwd); archive=$(cd "$2" && pwd)
+for name in asm ast cheader debug env expression files img input instruction lexer lib location optimize parser; do
+    [ -f "$sources/$name.rs" ] || { echo "build.sh: no $name.rs in $1" >&2; exit 2; }
+done
+mkdir -p "$3/derive/src" "$3/bin" "$3/gen" "$3/.cargo"; out=$(cd "$3" && pwd); shift 3
+cp "$top/tools/oracle/derive/lib.rs" "$out/derive/src/lib.rs"
+printf '[package]\nname = "waterbear_instruction_derive"\nversion = "0.0.0"\nedition = "2024"\n[lib]\nproc-macro = true\n' > "$out/derive/Cargo.toml"
+printf '[source.crates-io]\nreplace-with = "debian"\n[source.debian]\ndirectory = "%s"\n[net]\noffline = true\n' "$("$here/needs.sh" --registry)" \
+    > "$out/.cargo/config.toml"
+python3 "$top/tools/oracle/extract.py" "$sources" "$out/gen"
+
+for which in ${*:-orig doc drop tested}; do
+    crate=$out/$which; rm -rf "$crate/src"; mkdir -p "$crate/src"
+    cp "$sources"/*.rs "$here"/stand-ins/*.rs "$crate/src/"; chmod u+w "$crate"/src/*.rs
+    : > "$crate/src/builtin_macros.s"
+    line=
+    case $which in
+    orig) ;;
+    doc) sed 's/crate::count_rewrite();//' "$out/gen/optimize_doc.rs" > "$crate/src/optimize.rs" ;;
+    drop | tested)
+        # The two lines of README.md.
+        line="mortarbee-waterbear = { path = \"$here\" }"
+        [ "$which" = drop ] || line="mortarbee-waterbear = { path = \"$here\", features = [\"tests\"] }"
+        sed -i "s|^mod optimize;|#[path = \"$here/optimize/mod.rs\"] mod optimize;|" "$crate/src/lib.rs"
+        rm "$crate/src/optimize.rs" ;;
+    *) echo "build.sh: no build $which" >&2; exit 2 ;;
+    esac
+    sed -e "s|@WHICH@|$which|" -e "s|@HERE@|$here|" -e "s|@OUT@|$out|" -e "s|@MORTARBEE@|$line|" "$here/stand-ins/Cargo.toml.in" > "$crate/Cargo.toml"
+    (cd "$crate" && RUSTC_VERSION=$(rustc --version) CARGO_VERSION=$(cargo --version) GITSHA=published MORTARBEE_ARCHIVE="$archive" \
+        CARGO_TARGET_DIR="$out/target" RUSTFLAGS="-A warnings" cargo build --quiet --release --offline -j "${JOBS:-1}")
+    cp "$out/target/release/wb-$which" "$out/bin/"
+done
