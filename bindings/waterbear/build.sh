@@ -2,22 +2,37 @@
 # usage: build.sh SOURCES ARCHIVE OUT [WHICH..]
 # SOURCES  the folder with waterbear's published files (lib.rs, asm.rs ..)
 # ARCHIVE  the folder of libborder.a (rt staticlib border)
-# OUT      gets bin/wb-orig (waterbear's own optimizer), bin/wb-doc (its own with document 01's patterns), bin/wb-drop (the drop-in) and bin/wb-tested (the
-#          drop-in with the variables for tests). No text of waterbear is kept elsewhere. WHICH: orig, doc, drop, tested; all four if none is named.
+# OUT      gets bin/wb-orig (waterbear's own optimizer), bin/wb-doc (its own with document 01's patterns), bin/wb-drop (the drop-in) and
+#          bin/wb-tested (the drop-in with the variables for tests). No text of waterbear is kept elsewhere.
+# WHICH    orig, doc, drop, tested; all four if none is named
 # Status 3: rustc, cargo or a crate of Debian is missing; it says which.
 set -eu
-[ $# -ge 3 ] || { sed -n 2,7p "$0" >&2; exit 2; }
+[ $# -ge 3 ] || { sed -n 2,8p "$0" >&2; exit 2; }
 here=$(cd "$(dirname "$0")" && pwd); top=$(cd "$here/../.." && pwd)
 "$here/needs.sh" || exit $?
 sources=$(cd "$1" && pwd); archive=$(cd "$2" && pwd)
 for name in asm ast cheader debug env expression files img input instruction lexer lib location optimize parser; do
     [ -f "$sources/$name.rs" ] || { echo "build.sh: no $name.rs in $1" >&2; exit 2; }
 done
+[ -f "$archive/libborder.a" ] || { echo "build.sh: no libborder.a in $2: run 'rt staticlib border' first" >&2; exit 2; }
 mkdir -p "$3/derive/src" "$3/bin" "$3/gen" "$3/.cargo"; out=$(cd "$3" && pwd); shift 3
 cp "$top/tools/oracle/derive/lib.rs" "$out/derive/src/lib.rs"
-printf '[package]\nname = "waterbear_instruction_derive"\nversion = "0.0.0"\nedition = "2024"\n[lib]\nproc-macro = true\n' > "$out/derive/Cargo.toml"
-printf '[source.crates-io]\nreplace-with = "debian"\n[source.debian]\ndirectory = "%s"\n[net]\noffline = true\n' "$("$here/needs.sh" --registry)" \
-    > "$out/.cargo/config.toml"
+cat > "$out/derive/Cargo.toml" <<END
+[package]
+name = "waterbear_instruction_derive"
+version = "0.0.0"
+edition = "2024"
+[lib]
+proc-macro = true
+END
+cat > "$out/.cargo/config.toml" <<END
+[source.crates-io]
+replace-with = "debian"
+[source.debian]
+directory = "$("$here/needs.sh" --registry)"
+[net]
+offline = true
+END
 python3 "$top/tools/oracle/extract.py" "$sources" "$out/gen"
 
 for which in ${*:-orig doc drop tested}; do
@@ -36,8 +51,9 @@ for which in ${*:-orig doc drop tested}; do
         rm "$crate/src/optimize.rs" ;;
     *) echo "build.sh: no build $which" >&2; exit 2 ;;
     esac
-    sed -e "s|@WHICH@|$which|" -e "s|@HERE@|$here|" -e "s|@OUT@|$out|" -e "s|@MORTARBEE@|$line|" "$here/stand-ins/Cargo.toml.in" > "$crate/Cargo.toml"
+    sed -e "s|@WHICH@|$which|" -e "s|@HERE@|$here|" -e "s|@OUT@|$out|" -e "s|@MORTARBEE@|$line|" "$here/stand-ins/Cargo.toml.in" \
+        > "$crate/Cargo.toml"
     (cd "$crate" && RUSTC_VERSION=$(rustc --version) CARGO_VERSION=$(cargo --version) GITSHA=published MORTARBEE_ARCHIVE="$archive" \
         CARGO_TARGET_DIR="$out/target" RUSTFLAGS="-A warnings" cargo build --quiet --release --offline -j "${JOBS:-1}")
-    cp "$out/target/release/wb-$which" "$out/bin/"
+    cp -f "$out/target/release/wb-$which" "$out/bin/"
 done

@@ -1,6 +1,8 @@
-"""compare.py BIN [--programs FOLDER] [--count N --seed S] [--levels 0123] [--longer FILE] [--keep FOLDER]: holds the drop-in (BIN/wb-tested) against waterbear
-(BIN/wb-orig, BIN/wb-doc): exit status, messages, image and debug information, each program at each level. A program of FOLDER has its class in its first line; a
-random one passes with any known class. FILE gets a line for each image that is longer than waterbear's own. The last line is `N passed, M failed`."""
+"""compare.py BIN [--programs FOLDER] [--count N --seed S] [--levels 0123] [--longer FILE] [--keep FOLDER] [--stop]
+
+Holds the drop-in (BIN/wb-tested) against waterbear (BIN/wb-orig, BIN/wb-doc): exit status, messages, image and debug information, each
+program at each level. A program of FOLDER has its class in its first line; a random one passes with any known class. FILE gets a line for
+each image that is longer than waterbear's own. With --stop the first failure is the last program. The last line is `N passed, M failed`."""
 import argparse
 import collections
 import glob
@@ -20,6 +22,7 @@ parser.add_argument("--seed", type=int, default=1)
 parser.add_argument("--levels", default="0123")
 parser.add_argument("--longer")
 parser.add_argument("--keep")
+parser.add_argument("--stop", action="store_true")
 options = parser.parse_args()
 counts = {level: collections.Counter() for level in options.levels}
 lengths = collections.Counter()
@@ -36,7 +39,8 @@ def measure(runner, name, source):
     lengths["shorter" if b < a else "longer" if b > a else "as long"] += 1
     if b > a:
         doc, stay = runner.run("doc", source), runner.run("tested", source, options.levels[0], constants="stay")
-        longer.append("%s: waterbear's %d, document 01's patterns in it %d, ours with C-15 off %d, ours %d" % (name, a, len(doc.image), len(stay.image), b))
+        sizes = (a, len(doc.image), len(stay.image), b)
+        longer.append("%s: waterbear's %d, document 01's patterns in it %d, ours with C-15 off %d, ours %d" % ((name,) + sizes))
 
 
 def one(runner, name, source):
@@ -50,15 +54,22 @@ def one(runner, name, source):
     measure(runner, name, source)
 
 
-with tempfile.TemporaryDirectory() as folder:
-    runner = Runner(options.bin, folder)
-    sources = sorted(glob.glob(os.path.join(options.programs, "[0-9]*.s"))) if options.programs else []
-    for source in sources:
-        one(runner, os.path.basename(source), source)
+def programs(folder):
+    """Names and sources: those by hand, then random ones."""
+    for source in sorted(glob.glob(os.path.join(options.programs, "[0-9]*.s"))) if options.programs else []:
+        yield os.path.basename(source), source
     for n in range(options.count):
         where = os.path.join(options.keep or folder, "p%d" % n)
         Program(options.seed * 1000003 + n).write(where)
-        one(runner, "seed %d, number %d" % (options.seed, n), os.path.join(where, "main.s"))
+        yield "seed %d, number %d" % (options.seed, n), os.path.join(where, "main.s")
+
+
+with tempfile.TemporaryDirectory() as folder:
+    runner = Runner(options.bin, folder)
+    for name, source in programs(folder):
+        one(runner, name, source)
+        if failed and options.stop:
+            break
 for line in failed:
     print(line)
 for level, found in counts.items():

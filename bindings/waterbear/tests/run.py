@@ -1,12 +1,20 @@
-"""One program through waterbear with its own optimizer (orig), with document 01's patterns in it (doc) and with the drop-in (tested): what comes out, and
-which known difference explains it."""
+"""One program through waterbear with its own optimizer (orig), with document 01's patterns in it (doc) and with the drop-in (tested): what
+comes out, and which known difference explains it."""
 import json
 import os
 import re
 import subprocess
 
 # Reasons for which the drop-in may refuse what waterbear takes.
-LIMITS = ("an .org goes back", "the program passes n bytes", "a value passes n bits", "an expression takes n bytes", "after packing it has n statements")
+LIMITS = (
+    "an .org goes back",
+    "the program passes n bytes",
+    "a value passes n bits",
+    "an expression takes n bytes",
+    "after packing it has n statements",
+)
+# A transfer to a number, nothing else before it.
+TRANSFER = r"(?:jmpf?|brf?|bn?z|callf?|callr) (\d+)"
 
 
 def plain_numbers(text):
@@ -48,14 +56,15 @@ class Runner:
     def __init__(self, binaries, folder):
         self.binaries, self.folder, self.kept = binaries, folder, {}
 
-    def run(self, which, source, level=None, **more):
-        key = (which, source, level, tuple(sorted(more.items())))
+    def run(self, which, source, level=None, optimize=True, **more):
+        key = (which, source, level, optimize, tuple(sorted(more.items())))
         if key not in self.kept:
             out = os.path.join(self.folder, which + ".bin")
             env = dict(os.environ, **({"MORTARBEE_" + name.upper(): value for name, value in more.items()}))
             if level is not None:
                 env["MORTARBEE_LEVEL"] = str(level)
-            command = [os.path.join(self.binaries, "wb-" + which), "assemble", source, "-o", out, "--optimize-jumps", "--debug"]
+            command = [os.path.join(self.binaries, "wb-" + which), "assemble", source, "-o", out, "--debug"]
+            command += ["--optimize-jumps"] if optimize else []
             self.kept[key] = Result(subprocess.run(command, capture_output=True, env=env), out)
         return self.kept[key]
 
@@ -76,6 +85,31 @@ def explained(name, ours, theirs):
     return name + ", BUT OTHER DEBUG INFORMATION " + str([(a["text"], b["text"]) for a, b in pairs if a != b][:3]), False
 
 
+def places(info):
+    """The instructions by address, and those whose place in the source is theirs alone by that place."""
+    by_address, by_place = {}, {}
+    for instruction in info["instructions"]:
+        place = json.dumps(instruction["span"], sort_keys=True)
+        by_address[instruction["offset"]] = place
+        by_place[place] = None if place in by_place else instruction
+    return by_address, by_place
+
+
+def stale(before, after):
+    """A transfer to a number that named an instruction and names another one now, or None. A change jump keeps its number."""
+    was, old = places(before)
+    now, new = places(after)
+    last = ""
+    for instruction in before["instructions"]:
+        change, last = last.startswith("not1"), instruction["text"]
+        place = json.dumps(instruction["span"], sort_keys=True)
+        kept = new.get(place) if old[place] else None
+        first, second = (re.fullmatch(TRANSFER, i["text"].lower()) if i else None for i in (instruction, kept))
+        if first and second and int(first[1]) in was and was[int(first[1])] != now.get(int(second[1])) and not change:
+            return instruction["text"], kept["text"]
+    return None
+
+
 def smaller_multiples(source):
     """The same program with multiples of 256 in the place of larger ones, or None if it has none."""
     text = open(source).read()
@@ -91,11 +125,15 @@ def classify(runner, source, level):
     """The class of a program at a level, and whether it is a known one."""
     orig, drop = runner.run("orig", source), runner.run("tested", source, level)
     if orig.message is not None:
-        alike = drop.message == orig.message
-        return ("refused by waterbear, same message", True) if alike else ("OTHERWISE THAN WATERBEAR: " + str(drop.message or "done"), False)
+        if drop.message == orig.message:
+            return "refused by waterbear, same message", True
+        return "OTHERWISE THAN WATERBEAR: " + str(drop.message or "done"), False
     if drop.message is not None:
         why = refusal(drop)
         return "refused by the drop-in: " + why, why.startswith(LIMITS)
+    wrong = stale(runner.run("orig", source, optimize=False).info, drop.info)
+    if wrong:
+        return "A NUMBER WENT STALE: %s is %s" % wrong, False
     if drop.same(orig):
         return explained("same image and debug info", drop, orig)
     doc, stay = runner.run("doc", source), runner.run("tested", source, level, constants="stay")
