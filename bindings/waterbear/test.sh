@@ -35,6 +35,8 @@ against_waterbear() {
     "$here/build.sh" "$sources" "$archive" "$out"
     python3 "$here/tests/compare.py" "$out/bin" --programs "$here/tests/programs" --count 300 --seed 1 > "$out/compare.log" 2>&1 || true
     sum "$out/compare.log"
+    python3 "$here/tests/example.py" "$out/bin" > "$out/example.log" 2>&1 || true
+    sum "$out/example.log"
     [ -n "$long" ] || { leave_out "wrong copies of the drop-in (--long)"; return 0; }
     python3 "$here/tests/mutants.py" "$out" "$archive" > "$out/mutants.log" 2>&1 || true
     sum "$out/mutants.log"
