@@ -1,5 +1,5 @@
-//! A drop-in for waterbear's src/optimize.rs: the same function, over Mortarbee's proved optimizer (crate mortarbee-waterbear). Each
-//! result is assembled by waterbear and held against Mortarbee's image, byte by byte; a difference is an error, never an image.
+//! A drop-in for waterbear's src/optimize.rs: the same function, over Mortarbee's proved optimizer (crate mortarbee-waterbear). waterbear
+//! assembles what goes in and what comes back, and each byte is held against Mortarbee's images; a difference is an error, never an image.
 mod instr;
 mod statements;
 
@@ -22,8 +22,9 @@ pub(crate) fn optimize_jumps(statements: &Statements) -> Result<Statements, Asse
     let mut round = 0;
     loop {
         let outcome = rewrite(&program(&current)?, round == 0).map_err(|stopped| error(&current, stopped))?;
+        held(&current, &current, &outcome.inert, &outcome.before)?;
         let pinned = rewritten(&current, &outcome, true)?;
-        let image = held(&current, &pinned, &outcome)?;
+        let image = held(&current, &pinned, &left(&outcome), &outcome.image)?;
         if outcome.pins.is_empty() {
             return Ok(pinned);
         }
@@ -88,22 +89,25 @@ fn rewritten(statements: &Statements, outcome: &Outcome, pinned: bool) -> Result
     Ok(statements.with_statements(result))
 }
 
-/// waterbear's image of what came back, if it is Mortarbee's wherever this one has more than sizes; waterbear's may be longer by zeros,
-/// behind an org.
-fn held(old: &Statements, new: &Statements, outcome: &Outcome) -> Result<Vec<u8>, AssemblyError> {
+/// Of the statements that are left, which are inert.
+fn left(outcome: &Outcome) -> Vec<bool> {
+    let both = outcome.fates.iter().zip(&outcome.inert);
+    both.filter(|(fate, _)| **fate != Fate::Gone).map(|(_, inert)| *inert).collect()
+}
+
+/// waterbear's image, if it is Mortarbee's wherever this one has more than sizes; waterbear's may be longer by zeros, behind an org.
+fn held(old: &Statements, new: &Statements, inert: &[bool], image: &[u8]) -> Result<Vec<u8>, AssemblyError> {
     let text = "what comes back does not assemble; please report this program";
     let bytes = assemble(new, false).map_err(|_| error(old, Stopped { statement: None, text: text.to_owned() }))?.bytes;
     let mut shown = bytes.clone();
-    let inert = outcome.fates.iter().zip(&outcome.inert).filter(|(fate, _)| **fate != Fate::Gone).map(|(_, inert)| *inert);
     let mut position = 0;
     for (statement, inert) in new.iter().zip(inert) {
         let next = position + size(statement, position)?;
-        if inert {
+        if *inert {
             shown[position as usize..next as usize].fill(0);
         }
         position = next;
     }
-    let image = &outcome.image;
     if shown.starts_with(image) && shown[image.len()..].iter().all(|b| *b == 0) {
         return Ok(bytes);
     }

@@ -1,7 +1,9 @@
-//! The one place that calls Mortarbee: a listing goes in, the new frames, their stems and the image come out.
+//! The one place that calls Mortarbee: a listing goes in, its image, the new frames, their stems and the new image come out.
 use crate::frames::frames_of;
 
 pub struct Answer {
+    /// The image of the listing as it stands.
+    pub before: Vec<u8>,
     /// The new listing's frames, without their source lines.
     pub frames: Vec<Vec<u8>>,
     /// The place that each of them stems from.
@@ -20,9 +22,11 @@ pub fn optimized(listing: &[u8]) -> Result<Answer, Refusal> {
     let mut out = vec![0; mortarbee::LISTING_ROOM];
     let mut image = vec![0; mortarbee::IMAGE_ROOM];
     let mut list = vec![0; mortarbee::STEMS_ROOM];
-    let (done, count) = mortarbee::optimize_stems(mortarbee::Settings::default(), listing, &mut out, &mut image, &mut list)
-        .map_err(|refusal| Refusal { number: refusal.number, place: refusal.place, line: refusal.to_string() })?;
+    let told = |refusal: mortarbee::Refusal| Refusal { number: refusal.number, place: refusal.place, line: refusal.to_string() };
+    let before = mortarbee::assemble(listing, &mut image).map(|done| image[..done.image].to_vec()).map_err(told)?;
+    let settings = mortarbee::Settings::default();
+    let (done, count) = mortarbee::optimize_stems(settings, listing, &mut out, &mut image, &mut list).map_err(told)?;
     image.truncate(done.image);
     let stems = list[..2 * count].chunks(2).map(|pair| 256 * pair[0] as usize + pair[1] as usize).collect();
-    Ok(Answer { frames: frames_of(&out[..done.listing]), stems, image })
+    Ok(Answer { before, frames: frames_of(&out[..done.listing]), stems, image })
 }

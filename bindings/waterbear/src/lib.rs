@@ -1,6 +1,6 @@
 //! waterbear's programs through Mortarbee: statements become a listing with source lines, Mortarbee rewrites it, and by the stems each
-//! statement comes back as it was unless its form or target changed. Nothing here decides a rewrite; the caller holds what comes back
-//! against the image.
+//! statement comes back as it was unless its form or target changed. Nothing here decides a rewrite; the caller holds what goes in and
+//! what comes back against the images.
 //!
 //! MORTARBEE_DUMP=PREFIX writes PREFIX.lst (the listing handed over) and PREFIX.names (number and name, a line each).
 //! MORTARBEE_SKELETON=1 and MORTARBEE_BARE=1 allow the levels of these names where nothing else fits.
@@ -39,7 +39,8 @@ pub struct Stopped {
 pub struct Outcome {
     /// What became of each statement.
     pub fates: Vec<Fate>,
-    /// The image with zeros for the statements that are inert. It ends with the last byte of a statement that has bytes.
+    /// The image before and after, with zeros for the statements that are inert. It ends with the last byte of a statement that has bytes.
+    pub before: Vec<u8>,
     pub image: Vec<u8>,
     pub inert: Vec<bool>,
     /// Pads that C-11 does not have (a multiple over 256): in the image they are orgs to these locations.
@@ -83,7 +84,7 @@ fn at_level(program: &Program, values: &Values, shape: &Shape, options: Options,
     let behind = pins.first().map_or(i32::MAX, |(place, _)| program.statements[*place].at);
     let numbers = program.statements.iter().filter_map(|s| values.constant(s.target()?));
     let numbers_behind_pins = numbers.into_iter().any(|number| number >= behind);
-    Ok(Outcome { fates, image: answer.image, inert, pins, numbers_behind_pins })
+    Ok(Outcome { fates, before: answer.before, image: answer.image, inert, pins, numbers_behind_pins })
 }
 
 pub fn internal() -> Stopped {

@@ -3,10 +3,10 @@ long that takes; with --orig how long waterbear's own optimizer takes on the sam
 labels, 34 plain instructions, 15 transfers, 9 lines of eight data bytes, 5 constants."""
 import os
 import random
+import resource
 import subprocess
 import sys
 import tempfile
-import time
 
 BIN = sys.argv[1]
 MIX = {"comment": 25, "label": 12, "plain": 34, "transfer": 15, "data": 9, "constant": 5}
@@ -60,16 +60,21 @@ class Firmware:
         self.out.append("k%d = %d" % (self.n, self.n & 255))
 
 
+def used():
+    children = resource.getrusage(resource.RUSAGE_CHILDREN)
+    return children.ru_utime + children.ru_stime
+
+
 def run(which, count, folder, leave):
-    """Seconds, or None if the program is too long."""
+    """Seconds of the processor, or None if the program is too long."""
     source, out = os.path.join(folder, "f.s"), os.path.join(folder, "f.bin")
     open(source, "w").write(Firmware(count).text())
-    begun = time.time()
+    begun = used()
     command = [os.path.join(BIN, "wb-" + which), "assemble", source, "-o", out, "--optimize-jumps"]
     process = subprocess.run(command, capture_output=True, env=dict(os.environ, **leave))
     if process.returncode and b"the limit is passed here" not in process.stderr:
         sys.exit(process.stderr.decode())
-    return None if process.returncode else time.time() - begun
+    return None if process.returncode else used() - begun
 
 
 with tempfile.TemporaryDirectory() as folder:
