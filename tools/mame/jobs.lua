@@ -1,15 +1,18 @@
 -- Run by MAME's -autoboot_script: the jobs of the file that MAME_JOBS names, one a line.
 --   dasm IMAGE OUT START LENGTH   LENGTH bytes from START (hexadecimal) of IMAGE to OUT, by MAME's own disassembler
 --   each IMAGE OUT START LENGTH   the same, begun anew at every address
---   walks IMAGE OUT FILE          a line of FILE is MILLISECONDS WORDS: the state is set and IMAGE is run so long, or until it stands still. OUT has a
---                                 line `T NUMBER` for each, then every instruction behind the state before it; OUT.w the same line, then what was written
--- WORDS are pc=, sp=, a=, psw= and so on, and AAA=V for memory, all hexadecimal. reads=AAA:V,V/.. gives what the reads of an address get, in order, the
--- last one for ever. What is not named is 0, but EXT is 8 (the memory is the rom) and SP 7F.
+--   walks IMAGE OUT FILE          a line of FILE is MILLISECONDS WORDS: the state is set and IMAGE is run so long, or until it
+--                                 stands still. OUT has a line `T NUMBER` for each, then every instruction behind the state before
+--                                 it; OUT.w has the same line, then what was written
+-- WORDS are pc=, sp=, a=, psw= and so on, and AAA=V for memory, all hexadecimal. reads=AAA:V,V/.. gives what the reads of an
+-- address get, in order, the last one for ever. What is not named is 0, but EXT is 8 (the memory is the rom) and SP 7F.
 local machine = manager.machine
 local cpu = machine.devices[":maincpu"]
 local data, program = cpu.spaces["data"], cpu.spaces["program"]
 local rom = machine.memory.regions[":bios"]
 local debugger = machine.debugger
+local states = {}               -- looked up once: a look costs more than a step of the CPU
+for name, state in pairs(cpu.state) do states[name] = state end
 local SLICE = 1                 -- milliseconds between two looks at whether a walk stands still
 local HOME = 0xfff0             -- where the flash has a JMPF to itself
 local log = nil                 -- where the taps write
@@ -35,25 +38,26 @@ local function load(file)
     for i = 0, 65535, 4 do rom:write_u32(i, (string.unpack("<I4", s, i + 1))) end
 end
 
-local function put(...)
-    if log then log:write(string.format(...)) end
+local function put(shape, offset, value)
+    log:write(string.format(shape, states.CURPC.value, offset, value))
 end
 
 taps[1] = data:install_write_tap(0, 0x1ff, "w", function(offset, value)
+    if not log then return end
     if offset == 0x10d and value ~= 8 then left_rom = true end
-    put("W %04X %03X %02X\n", cpu.state["CURPC"].value, offset, value)
+    put("W %04X %03X %02X\n", offset, value)
 end)
 taps[2] = data:install_read_tap(0, 0xff, "r", function(offset)
     local s = scripted[offset]
     if not s or not log then return end
     s.at = s.at + 1
     local v = s[math.min(s.at, #s)]
-    put("R %04X %03X %02X\n", cpu.state["CURPC"].value, offset, v)
+    put("R %04X %03X %02X\n", offset, v)
     return v
 end)
 taps[3] = program:install_write_tap(0, 0xffff, "f", function(offset, value)
     wrote_flash = true
-    put("F %04X %04X %02X\n", cpu.state["CURPC"].value, offset, value)
+    if log then put("F %04X %04X %02X\n", offset, value) end
 end)
 
 -- The flash as every walk finds it: bytes that differ from address to address, each an instruction that does no harm, and the way home.
@@ -75,8 +79,8 @@ end
 local function go_home()
     left_rom = false
     debugger:command("tracelog \"H\\n\"")
-    cpu.state["EXT"].value = 8
-    cpu.state["PC"].value = HOME
+    states.EXT.value = 8
+    states.PC.value = HOME
     emu.wait(0.0001)
 end
 
@@ -91,15 +95,15 @@ end
 local function fresh(words, first)
     log, scripted = nil, {}
     if wrote_flash then fill_flash() end
-    for _, name in ipairs({ "A", "B", "C", "PSW", "TRL", "TRH", "PC" }) do cpu.state[name].value = 0 end
-    for i = 0, 0xff do data:write_u8(i, 0) end
+    for _, name in ipairs({ "A", "B", "C", "PSW", "TRL", "TRH", "PC" }) do states[name].value = 0 end
+    for i = 0, 0xff do inside["0/m_mram"]:write(i, 0) end
     inside["0/m_irq_lev"]:write(0, 0)
     inside["0/m_after_reti"]:write(0, 0)
-    cpu.state["EXT"].value = 8
-    cpu.state["SP"].value = 0x7f
+    states.EXT.value = 8
+    states.SP.value = 0x7f
     for i = first, #words do
         local k, v = words[i]:match("^(%w+)=(.*)$")
-        local register = cpu.state[k:upper()]
+        local register = states[k:upper()]
         if k == "reads" then script_reads(v)
         elseif k:match("^%x%x%x?$") or not register then data:write_u8(tonumber(k, 16), tonumber(v, 16))
         else register.value = tonumber(v, 16) end
@@ -117,7 +121,7 @@ local function run(milliseconds)
     while left > 0 do
         emu.wait(math.min(left, SLICE) / 1000)
         left = left - SLICE
-        local pc = cpu.state["PC"].value
+        local pc = states.PC.value
         if pc == last then return end
         last = pc
     end

@@ -1,23 +1,25 @@
 """Random programs, many in one listing, each behind an org of its own: few runs of the program, and one of MAME, serve them all."""
 import random
+import time
 
 import bee
 from programs import TABLE, Names, Random, Unreachable
 from walks import Pair, Run
 
 SWITCHES = ("--comments", "--no-callf", "--no-folds")
+SETS = [0, 1, 2, 4, 3, 5, 6, 7]  # of the switches, as bits: each alone comes first
 MOST = 1000, 20000, 0xF000      # statements, frame bytes and addresses of a listing
 TIME = 12                       # milliseconds of a walk: some 600 cycles
-CHUNK = 48                      # listings in one run of MAME
+CHUNK = 16                      # listings in one run of MAME
 
 
 class Pack:
-    """A listing of random programs. The seed and its number make it: the switches are the number's last three bits, the next says whether it has
-    source lines."""
+    """A listing of random programs. The seed and its number make it, the number its switches and whether it has source lines."""
 
     def __init__(self, seed, number):
         self.seed, self.number, self.drawn = seed, number, 0
-        self.flags = tuple(switch for i, switch in enumerate(SWITCHES) if number >> i & 1)
+        self.has_lines = (number >> 3 ^ number) & 1
+        self.flags = tuple(switch for i, switch in enumerate(SWITCHES) if SETS[number % 8] >> i & 1)
         self.rng = random.Random("%s/%d" % (seed, number))
         table = [self.rng.randrange(256) for _ in TABLE]
         self.head = [bee.data(*table[i:i + 16]) for i in range(0, len(table), 16)]
@@ -49,7 +51,7 @@ class Pack:
     def listing(self, only=None):
         frames = self.head + [f for i, (_, fs) in enumerate(self.programs) if only in (None, i) for f in fs]
         rng = random.Random("%s/%d/lines" % (self.seed, self.number))
-        lines = [rng.choice([0, 1, 7, i, 0xFFFFFFFF]) for i in range(len(frames))] if self.number >> 3 & 1 else None
+        lines = [rng.choice([0, 1, 7, i, 0xFFFFFFFF]) for i in range(len(frames))] if self.has_lines else None
         return bee.listing_of(frames, lines)
 
     def states(self):
@@ -78,10 +80,10 @@ def paired(packs):
     return [(pack, Pair(texts[i], pack.flags, answers[i])) for i, pack in enumerate(packs)]
 
 
-def run(seed, count, folder, counts, say=lambda _: None):
-    """So many programs or a few more. What differs: [(listing of the program alone, switches, state, what)]."""
+def run(seed, count, folder, counts, until=None, say=lambda _: None):
+    """So many programs or a few more, or those of the time that is left. What differs: [(listing of the program alone, switches, state, what)]."""
     differences, number = [], 0
-    while counts["programs"] < count:
+    while counts["programs"] < count and (until is None or time.time() < until):
         packs, wanted = [], count - counts["programs"]
         while len(packs) < CHUNK and sum(len(pack.programs) for pack in packs) < wanted:
             packs.append(Pack(seed, number))
@@ -97,7 +99,7 @@ def run_chunk(packs, folder, counts):
         owners[id(pair)] = pack
         here.add(pair, pack.states())
         counts.update({"programs": len(pack.programs), "listings": 1, "statements": len(pair.sides[0].listing.split()),
-                       "rewrites": pair.rewrites, "drawn again": pack.drawn, "listings with source lines": pack.number >> 3 & 1})
+                       "rewrites": pair.rewrites, "drawn again": pack.drawn, "listings with source lines": pack.has_lines})
         counts.update({"listings under " + flag: 1 for flag in pack.flags})
         for rule in pair.rules.values():
             counts["rewritten by rule %d" % rule] += 1

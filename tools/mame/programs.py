@@ -1,5 +1,5 @@
-"""Programs for the controller, as statements whose frames are made once the layout is known; and random ones: work on a few bytes of memory,
-branches, patterns that fold, calls and returns, a table, pads and gaps."""
+"""Programs for the controller, as statements whose frames are made once the layout is known; and random ones: work on a few bytes of
+memory, branches, patterns that fold, calls and returns, a table, pads and gaps."""
 import bee
 from bee import BY, FORMS, instruction, name, number
 
@@ -62,7 +62,10 @@ class Program:
 
     def ins(self, form, *args, free=True, inner=False):
         form = BY[form]
-        made = self.put(lambda: instruction(form, [a.frame() if isinstance(a, Target) else a for a in args]), form.size, free=free, inner=inner)
+
+        def frame():
+            return instruction(form, [a.frame() if isinstance(a, Target) else a for a in args])
+        made = self.put(frame, form.size, free=free, inner=inner)
         self.transfers += [(made, form, a) for a in args if isinstance(a, Target)]
         return made
 

@@ -1,5 +1,5 @@
-"""Written programs: every pattern that folds, both ways; calls nested and returned; Ldc, Ldf, Stf and Reti; entries in the middle of a statement; pads
-and gaps that are run through; a jump that leaves the memory."""
+"""Written programs: every pattern that folds, both ways; calls nested and returned; Ldc, Ldf, Stf and Reti; entries in the middle of a
+statement; pads and gaps that are run through; a jump that leaves the memory."""
 import random
 
 import bee
@@ -61,8 +61,8 @@ def trampoline(p, kind):
 
 
 def trampoline_at_edge(p, kind):
-    """A branch that has an opposite folds as a trampoline only where the inverted fold does not assemble: three bytes less take the Jmp, and not what it
-    names, over the edge of a page; six take both."""
+    """A branch that has an opposite folds as a trampoline only where the inverted fold does not assemble: three bytes less take the Jmp,
+    and not what it names, over the edge of a page; six take both."""
     there, over, away, beyond = [p.names.new_local() for _ in range(4)]
     p.branch(kind, p.to(there))
     p.ins("Jmpf", p.to(over))
@@ -204,8 +204,10 @@ def missing(pair, made, marks, counts):
     lacks = ["%04X: marks %s instead of %s" % (routine.start, sorted(set().union(*marks[routine.start])), sorted(routine.marks))
              for routine, _ in made if set().union(*marks[routine.start]) != routine.marks]
     folds = {(rule, bee.FORMS[pair.forms[place]].name) for place, rule in pair.rules.items() if rule < 3}
-    lacks += ["no fold by rule %d of %s" % pair_ for pair_ in sorted({(1, k) for k in INVERSE} | {(2, k) for k in CONDITIONAL}) if pair_ not in folds]
+    wanted = {(1, kind) for kind in INVERSE} | {(2, kind) for kind in CONDITIONAL}
+    lacks += ["no fold by rule %d of %s" % one for one in sorted(wanted - folds)]
     lacks += ["%s was not run" % kind for kind in NEEDED if not counts["form", bee.BY[kind].number]]
     if not counts["deepest", DEEPEST]:
         lacks.append("no call was %d deep" % DEEPEST)
-    return lacks + ["never: " + what for what in ("left the memory", "entered inside a statement", "entered inside zeros", "zeros run, long") if not counts[what]]
+    met = ("left the memory", "entered inside a statement", "entered inside zeros", "zeros run, long")
+    return lacks + ["never: " + what for what in met if not counts[what]]

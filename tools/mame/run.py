@@ -61,6 +61,7 @@ class Judge:
 
     def __init__(self, options):
         self.options, self.failed = options, 0
+        self.until = options.seconds and time.time() + options.seconds
 
     def walked(self, name, differences, counts, lacks=()):
         self.put(name, summary(counts), ["from %s: %s" % (state, what) for _, _, state, what in differences] + list(lacks))
@@ -76,6 +77,10 @@ class Judge:
         for one in differences[:10]:
             print("  DIFFERENCE " + one, flush=True)
 
+    def say(self, text):
+        if self.options.count > 500:
+            print("  " + text, flush=True)
+
     def go(self, part):
         self.began, counts = time.time(), Counter()
         self.folder = os.path.join(self.options.folder, part)
@@ -83,8 +88,7 @@ class Judge:
         if part == "random":
             for seed in self.options.seeds:
                 self.began, counts = time.time(), Counter()
-                say = (lambda text: print("  seed %s: %s" % (seed, text), flush=True)) if self.options.count > 500 else (lambda _: None)
-                self.walked("random, seed %s" % seed, packs.run(seed, self.options.count, self.folder, counts, say), counts)
+                self.walked("random, seed %s" % seed, packs.run(seed, self.options.count, self.folder, counts, self.until, self.say), counts)
         elif part == "tray":
             self.walked(part, tray.run(self.folder, counts), counts)
         elif part == "routines":
@@ -119,9 +123,10 @@ def parse():
     parser.add_argument("--part", action="append", choices=SHORT + LONG, help="this part alone")
     parser.add_argument("--seeds", nargs="+", default=["1"], help="of the random programs")
     parser.add_argument("--count", type=int, help="random programs for each seed")
+    parser.add_argument("--seconds", type=int, help="no random programs are begun after so many")
     parser.add_argument("--folder", help="for scratch files")
     parser.add_argument("--switch", action="append", default=[], help="for --listing: comments, no-callf, no-folds")
-    parser.add_argument("--listing", nargs="+", metavar=("FILE", "WORD"), help="one listing, and the state it is begun in: a=1 20=ff reads=12:1,0")
+    parser.add_argument("--listing", nargs="+", metavar=("FILE", "WORD"), help="one listing, and its first state: a=1 20=ff reads=12:1,0")
     options = parser.parse_args()
     options.switch = ["--" + switch for switch in options.switch]
     options.count = options.count or (1000 if options.long else 50)

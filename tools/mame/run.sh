@@ -1,6 +1,7 @@
 #!/bin/sh
 # usage: run.sh [--long] [--part NAME] [--seeds S ..] [--count N] [--listing FILE [WORD ..]]
-# Holds the program against the emulated controller of MAME (README.md). Status 0 without a difference, 1 with one, 2 where something fails, 3 without MAME.
+# Holds the program against the emulated controller of MAME (tools/README.md).
+# Status 0 without a difference, 1 with one, 2 where something fails, 3 without MAME.
 here=$(cd "$(dirname "$0")" && pwd)
 command -v mame >/dev/null || [ -x /usr/games/mame ] || {
     echo "run.sh: MAME is not installed (Debian: apt-get install --no-install-recommends mame); nothing was compared" >&2

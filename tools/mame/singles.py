@@ -16,8 +16,10 @@ TIME = .1                       # milliseconds: some five cycles
 def targets_at(form, behind):
     """Addresses that a transfer may name, both ends of its reach among them."""
     page = behind & 0xF000
-    found = {"rel8": [behind + d for d in (-128, -127, -2, -1, 0, 1, 126, 127)], "a12": [page | low for low in (0, 0xFFF, 0x7FF, 0x800, 0x345)],
-             "a16": [0, 0xFFFF, 0x1234, 0xFF, 0x8000], "rel16": [0, 1, 0xFFFF, 0x8000, 0x7FFF] + [behind + d for d in (0, -1, -2, 1, -256)]}
+    found = {"rel8": [behind + d for d in (-128, -127, -2, -1, 0, 1, 126, 127)],
+             "a12": [page | low for low in (0, 0xFFF, 0x7FF, 0x800, 0x345)],
+             "a16": [0, 0xFFFF, 0x1234, 0xFF, 0x8000],
+             "rel16": [0, 1, 0xFFFF, 0x8000, 0x7FFF] + [behind + d for d in (0, -1, -2, 1, -256)]}
     return [t for t in found[form.operands[-1]] if 0 <= t < 65536]
 
 
@@ -87,7 +89,8 @@ def go_on(folder):
             if [step.pc for step in steps] == [place, wanted]:
                 forms[form.name] += 1
             else:
-                differences.append("%s at %04X %s, %s: wanted %04X, MAME %s" % (form.name, place, args, words(state), wanted, [s.show() for s in steps]))
+                said = [step.show() for step in steps]
+                differences.append("%s at %04X %s, %s: wanted %04X, MAME %s" % (form.name, place, args, words(state), wanted, said))
     return "%d single steps of %d forms in %d listings go on where they must" % (sum(forms.values()), len(forms), len(packs)), differences
 
 
@@ -118,7 +121,8 @@ def pair_tests(rng):
                 yield left, right, args, state, flags
     for left, right in SHRUNK:
         for x in range(64):
-            yield left, right, [], {"a": rng.randrange(256), "21": x, "sp": rng.randrange(0x1F, 0x2E)}, rng.choice(FLAGS)     # pushed to 20 .. 2F
+            state = {"a": rng.randrange(256), "21": x, "sp": rng.randrange(0x1F, 0x2E)}     # what is pushed is seen: 20 to 2F
+            yield left, right, [], state, rng.choice(FLAGS)
 
 
 def pairs(folder):

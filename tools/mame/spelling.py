@@ -1,4 +1,5 @@
-"""Instructions as bytes and as text, held against MAME's disassembler: those that a listing writes, and those that an image is read back as."""
+"""Instructions as bytes and as text, held against MAME's disassembler: those that a listing writes, and those that an image is read
+back as."""
 import random
 import re
 

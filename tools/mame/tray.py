@@ -6,8 +6,10 @@ import bee
 import routines
 from walks import START, Pair, Run
 
-SCRIPTS = ["1,0,1,ff", "0,0,1,0,1,0", "1,5", "1,0," + "1,0," * 8 + "1,0", "1,0," + "1,0," * 8 + "1,3"]      # what the tray answers, read at 18
-INVERSE = {"Bz": 0x10, "Bnz": 0x10, "Bp": 0xE0, "Bn": 0xE0, "Be": 0x70, "Bne": 0x70}     # the bits in which the first bytes of a pair differ
+# What the tray answers, read at 18.
+SCRIPTS = ["1,0,1,ff", "0,0,1,0,1,0", "1,5", "1,0," + "1,0," * 8 + "1,0", "1,0," + "1,0," * 8 + "1,3"]
+# The bits in which the first bytes of a pair differ.
+INVERSE = {"Bz": 0x10, "Bnz": 0x10, "Bp": 0xE0, "Bn": 0xE0, "Be": 0x70, "Bne": 0x70}
 TIME = 20
 
 
@@ -91,7 +93,8 @@ OTHERWISE = [[SET1, JMPF], [NOT1, "0143", JMPF], [NOT1, "012E018001", JMPF, "028
 
 
 def memory(folder):
-    """Rule 1 keeps the jump right behind Not1 10D,0. Any other way to change the memory is not seen: the short one stays, the long one leaves."""
+    """Rule 1 keeps the jump right behind Not1 10D,0. Other ways to change the memory it does not know: the long one leaves, the short one
+    stays."""
     here, listings = Run(folder), [AS_RULE_1] + OTHERWISE
     for lines in listings:
         here.add(Pair("".join(line + "\n" for line in lines)), ["2 pc=0 a=1"])

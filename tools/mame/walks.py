@@ -1,5 +1,5 @@
-"""A listing and what it shrinks to, run side by side on MAME's CPU: the same statements in the same order, the same state before each, the same
-writes; and cycles. A walk is compared until it leaves the listing, or the memory, or its time is up."""
+"""A listing and what it shrinks to, run side by side on MAME's CPU: the same statements in the same order, the same state before each, the
+same writes; and cycles. A walk is compared until it leaves the listing, or the memory, or its time is up."""
 import os
 from collections import Counter
 
@@ -13,8 +13,8 @@ AROUND, BACK = object(), (None, "came back", "br")
 
 
 class Side:
-    """A listing with its image, and what stands at each address: place, offset and word. The zeros of a pad have no word, nor those of the gap before
-    an org, which no statement owns: there the offset is 0 at the first, else the address."""
+    """A listing with its image, and what stands at each address: place, offset and word. The zeros of a pad have no word, nor those of the
+    gap before an org, which no statement owns: there the offset is 0 at the first, else the address."""
 
     def __init__(self, listing, image, stems=None):
         self.listing, self.at = listing, [None] * 65536
@@ -123,8 +123,10 @@ def compared(long, short, counts):
     dropped, zeros = long.passed(n, "dropped"), [walk.passed(n, "zeros") for walk in (long, short)]
     if saved != 2 * dropped + zeros[0] - zeros[1]:
         return "cycles: %d saved, with %d jumps dropped and %d and %d zeros passed" % (saved, dropped, *zeros)
-    counts.update({"walks": 1, "steps": n, "writes": min(len(long.writes), len(short.writes)), "dropped jumps run in the long one": dropped,
-                   "zeros run, long": zeros[0], "zeros run, short": zeros[1], "cycles, long": long.cycles(n), "cycles, short": short.cycles(n)})
+    writes = min(len(long.writes), len(short.writes))
+    counts.update({"walks": 1, "steps": n, "writes": writes, "dropped jumps run in the long one": dropped})
+    for side, walk, passed in (("long", long, zeros[0]), ("short", short, zeros[1])):
+        counts.update({"zeros run, " + side: passed, "cycles, " + side: walk.cycles(n)})
     return None
 
 
