@@ -81,7 +81,8 @@ def paired(packs):
 
 
 def run(seed, count, folder, counts, until=None, say=lambda _: None):
-    """So many programs or a few more, or those of the time that is left. What differs: [(listing of the program alone, switches, state, what)]."""
+    """So many programs or a few more, or fewer where the time is up. What differs: [(listing of the program alone, switches, state,
+    what)]."""
     differences, number = [], 0
     while counts["programs"] < count and (until is None or time.time() < until):
         packs, wanted = [], count - counts["programs"]
@@ -89,7 +90,7 @@ def run(seed, count, folder, counts, until=None, say=lambda _: None):
             packs.append(Pack(seed, number))
             number += 1
         differences += run_chunk(packs, folder, counts)
-        say("%d programs, %d differences" % (counts["programs"], len(differences)))
+        say(differences)
     return differences
 
 

@@ -38,7 +38,7 @@ def summary(counts):
     plain += ["%s: %d" % pair for pair in sorted(rules.items())]
     plain.append("kinds of inverted folds and of trampolines run: %d, %d" % (len(kinds[1]), len(kinds[2])))
     never = [form.name for form in bee.FORMS if form.number not in forms]
-    plain.append("forms run: %d%s" % (len(forms), "; never " + " ".join(never) if never else ""))
+    plain.append("forms run: %d%s" % (len(forms), "; not " + " ".join(never) if 0 < len(never) < 20 else ""))
     plain.append("deepest call: %d" % max([key[1] for key in counts if key[0] == "deepest"] + [0]))
     return "\n    ".join(plain)
 
@@ -71,15 +71,18 @@ class Judge:
             listing = small(listing, flags, state, self.folder)
             print(listing + Pair(listing, flags).show(), flush=True)
 
+    def say(self, differences, counts):
+        """Now and then in a long run, so that what was done is known also where it is broken off."""
+        if self.options.count > 500:
+            shown = ("programs", "walks", "steps", "writes", "rewrites", "cycles, long", "cycles, short")
+            done = ["%s %d" % (what, counts[what]) for what in shown]
+            print("  %s, differences %d (%.0f s)" % (", ".join(done), len(differences), time.time() - self.began), flush=True)
+
     def put(self, name, said, differences):
         self.failed += len(differences)
         print("%s: %s: %d differences (%.0f s)" % (name, said, len(differences), time.time() - self.began), flush=True)
         for one in differences[:10]:
             print("  DIFFERENCE " + one, flush=True)
-
-    def say(self, text):
-        if self.options.count > 500:
-            print("  " + text, flush=True)
 
     def go(self, part):
         self.began, counts = time.time(), Counter()
@@ -88,7 +91,8 @@ class Judge:
         if part == "random":
             for seed in self.options.seeds:
                 self.began, counts = time.time(), Counter()
-                self.walked("random, seed %s" % seed, packs.run(seed, self.options.count, self.folder, counts, self.until, self.say), counts)
+                found = packs.run(seed, self.options.count, self.folder, counts, self.until, lambda found: self.say(found, counts))
+                self.walked("random, seed %s" % seed, found, counts)
         elif part == "tray":
             self.walked(part, tray.run(self.folder, counts), counts)
         elif part == "routines":
