@@ -85,6 +85,7 @@ prove() {
 link() {
     command -v cargo >/dev/null || stop "the command is not built yet, and cargo (Rust 1.89 or newer) is not on the PATH"
     log=$target/command/cargo-$size.log
+    say "the command is compiled (some seconds)"
     # The texts are there sooner without the compiler's best.
     case $size in texts) profile=dev folder=debug ;; *) profile=release folder=release ;; esac
     (cd "$here" && exec cargo build --profile "$profile" --offline --quiet --no-default-features --features "${size#texts}" \

@@ -13,11 +13,13 @@ pub struct Answer {
     pub status: i32,
     /// A refused answer never reaches a file.
     pub refused: bool,
+    /// What was done already, for one that cannot be written.
+    pub done: String,
 }
 
 impl Answer {
     pub fn good(out: impl Into<Vec<u8>>) -> Answer {
-        Answer { out: out.into(), said: String::new(), status: 0, refused: false }
+        Answer { out: out.into(), said: String::new(), status: 0, refused: false, done: String::new() }
     }
 
     #[cfg(feature = "core")]
@@ -29,7 +31,7 @@ impl Answer {
     /// The 7E line, and why in words.
     #[cfg(feature = "core")]
     pub fn refused(refusal: border::Refusal, said: String) -> Answer {
-        Answer { out: format!("{}\n", refusal.line()).into_bytes(), said, status: 1, refused: true }
+        Answer { said, status: 1, refused: true, ..Answer::good(format!("{}\n", refusal.line())) }
     }
 }
 
@@ -84,7 +86,11 @@ pub fn finish(word: &Word, made: Result<Written, Stop>) -> i32 {
     match put {
         Ok(Put::Whole) => {}
         Ok(Put::NobodyReads) => return answer.status,
-        Err(stop) => return complain(Some(word), stop),
+        Err(stop) => {
+            let status = complain(Some(word), stop);
+            say(&answer.done);
+            return status;
+        }
     }
     if answer.status == 0 {
         say(&answer.said);

@@ -237,6 +237,16 @@ fn eight_at_once_get_eight_editions() {
     assert!(f.has("s") && f.is_clean());
 }
 
+/// What was done before an answer could not be written is told.
+#[test]
+fn what_was_done_already_is_told() {
+    let f = Folder::new("done");
+    assert!(f.said("m settings add 7 --store s >/dev/full").contains("s has the new edition, 1\n"));
+    assert_eq!(f.wrote("m settings add 7 --store s"), "2\n");
+    assert!(f.said("m optimize --listing new.lst good.lst >/dev/full").contains("the files are written\n"));
+    assert_eq!(f.read("new.lst"), SHORT);
+}
+
 #[test]
 fn there_is_no_cap() {
     let f = Folder::new("cap");

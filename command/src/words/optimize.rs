@@ -36,7 +36,7 @@ fn is_parted(call: &Call) -> bool {
 /// The listing without its last line, the image and the stems, each to its file: all or none. The line 7F is the answer.
 fn parts(call: &Call, settings: Settings) -> Result<Answer, Stop> {
     let mut wanted: Vec<(&OsStr, Vec<u8>)> = vec![];
-    let answer = answer::of_listing(call, |input| {
+    let mut answer = answer::of_listing(call, |input| {
         let (made, said) = together(|| print_run(settings, &input.bytes), || marked(&input.name, settings, &input.bytes));
         let made = made?;
         let (listing, last) = made.parts();
@@ -50,6 +50,7 @@ fn parts(call: &Call, settings: Settings) -> Result<Answer, Stop> {
     })?;
     if !answer.refused {
         put_parts(&wanted)?;
+        answer.done = "mortarbee: the files are written\n".into();
     }
     Ok(answer)
 }

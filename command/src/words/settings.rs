@@ -21,7 +21,11 @@ pub fn run(call: &Call) -> Result<Answer, Stop> {
 fn add(call: &Call, family: u16) -> Result<Answer, Stop> {
     let mut store = store::take(call, true)?;
     match border::add_edition(&mut store.bytes, family, call.settings()) {
-        Ok(edition) => store.put().map(|()| Answer::good(format!("{edition}\n"))),
+        Ok(edition) => {
+            store.put()?;
+            let done = format!("mortarbee: {} has the new edition, {edition}\n", store.name);
+            Ok(Answer { done, ..Answer::good(format!("{edition}\n")) })
+        }
         Err(refusal) => Ok(Answer::refused(refusal, store.refusal(refusal, Some(family)))),
     }
 }

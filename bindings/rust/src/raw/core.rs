@@ -1,6 +1,6 @@
 //! What libborder_core.a has: the main job, and what it needs to be told.
 
-use super::{CountedReply, PrintedReply, Reply, SitsReply, StemsReply, TargetsReply};
+use super::{tell, CountedReply, PrintedReply, Reply, SitsReply, StemsReply, TargetsReply};
 use crate::{Refusal, Settings, IMAGE_ROOM, LINE_ROOM, PAGE_ROOM, POSITIONS};
 
 extern "C" {
@@ -93,8 +93,7 @@ pub fn stems(asked: Settings, listing: &[u8], out: &mut [u8], image: &mut [u8], 
 }
 
 pub fn targets(asked: Settings, listing: &[u8], out: &mut [u8]) -> TargetsReply {
-    let (comments, callf, folds) = (asked.comments as u8, asked.callf as u8, asked.folds as u8);
-    unsafe { mortarbee_targets(comments, callf, folds, listing.as_ptr(), listing.len(), out.as_mut_ptr(), out.len()) }
+    tell(mortarbee_targets, asked, listing, out)
 }
 
 pub fn where_sits(listing: &[u8], n: usize) -> SitsReply {

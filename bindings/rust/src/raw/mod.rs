@@ -12,7 +12,16 @@ pub use self::core::*;
 #[cfg(feature = "all")]
 pub use rest::*;
 
-use crate::{Done, Refusal};
+use crate::{Done, Refusal, Settings};
+
+/// A function that takes the settings of a run, a listing and a room.
+type Telling<R> = unsafe extern "C" fn(u8, u8, u8, *const u8, usize, *mut u8, usize) -> R;
+
+/// Only functions of the archive are handed over.
+fn tell<R>(entry: Telling<R>, asked: Settings, listing: &[u8], out: &mut [u8]) -> R {
+    let (comments, callf, folds) = (asked.comments as u8, asked.callf as u8, asked.folds as u8);
+    unsafe { entry(comments, callf, folds, listing.as_ptr(), listing.len(), out.as_mut_ptr(), out.len()) }
+}
 
 /// The four numbers that each answer of mortarbee.h begins with: a struct in a struct lies as its fields do.
 #[repr(C)]

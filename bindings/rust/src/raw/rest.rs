@@ -1,6 +1,6 @@
 //! What libborder.a has beside the core: texts for people, images read back, differences, what a run did and left, and C-24's store.
 
-use super::{Reply, Told};
+use super::{tell, Reply, Told};
 use crate::Settings;
 
 #[repr(C)]
@@ -172,13 +172,11 @@ pub fn audit(asked: Settings, listing: &[u8], shipped: &[u8]) -> AuditReply {
 }
 
 pub fn steps(asked: Settings, listing: &[u8], out: &mut [u8]) -> StepsReply {
-    let (comments, callf, folds) = (asked.comments as u8, asked.callf as u8, asked.folds as u8);
-    unsafe { mortarbee_steps(comments, callf, folds, listing.as_ptr(), listing.len(), out.as_mut_ptr(), out.len()) }
+    tell(mortarbee_steps, asked, listing, out)
 }
 
 pub fn why(asked: Settings, listing: &[u8], out: &mut [u8]) -> StepsReply {
-    let (comments, callf, folds) = (asked.comments as u8, asked.callf as u8, asked.folds as u8);
-    unsafe { mortarbee_why(comments, callf, folds, listing.as_ptr(), listing.len(), out.as_mut_ptr(), out.len()) }
+    tell(mortarbee_why, asked, listing, out)
 }
 
 pub fn add_edition(store: &mut [u8], family: u16, settings: Settings) -> NumberedReply {
