@@ -18,7 +18,7 @@ use Rattle.rules.specs.Rewriting.{noInnerLabelBetween, noInteriorLabelAt, accep
 use Rattle.promises.proofs.Steps.{Inverted, Trampoline, Shrunk}
 
 -- ---- looks that find what stands there
-bind-is : {A B : Type 0} (o : Option A) (a : A) (f : A → Option B) → o ≡ some a → bind o f ≡ f a
+pub bind-is : {A B : Type 0} (o : Option A) (a : A) (f : A → Option B) → o ≡ some a → bind o f ≡ f a
 unfolding bind
 bind-is o a f e = rw e
 

@@ -33,10 +33,13 @@ scan-is P n i h t f = ⊎-elim (λ l. both-ways (P (scan P n 0)) (scan-true P n 
     from l = ⊎-elim (λ k. both-ways (P i) t (scan-least P n 0 i (omega arith) k)) (λ k. omega arith) (lt-or-le i (scan P n 0))
 
 -- what is the same is not changed
+pub same-seat : (a b : Seat) → a ≡ b → sameSeat a b ≡ true
+same-seat a b e =
+    and-both (eqb (a .form) (b .form)) (eqb (a .carried) (b .carried)) (eq-eqb (a .form) (b .form) (ap (λ (s : Seat). s .form) e))
+    (eq-eqb (a .carried) (b .carried) (ap (λ (s : Seat). s .carried) e))
+
 unchanged : (a : Seat) → isChanged a a ≡ false
-unchanged a =
-    second-false (not (eqb (a .form) 70)) (not (sameSeat a a))
-    (ap not (and-both (eqb (a .form) (a .form)) (eqb (a .carried) (a .carried)) (eq-eqb (a .form) (a .form) refl) (eq-eqb (a .carried) (a .carried) refl)))
+unchanged a = second-false (not (eqb (a .form) 70)) (not (sameSeat a a)) (ap not (same-seat a a refl))
 
 -- another form, or another target
 pub other-form : (a b : Seat) → (a .form ≡ 70 → ⊥) → (a .form ≡ b .form → ⊥) → isChanged a b ≡ true

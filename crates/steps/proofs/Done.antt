@@ -6,11 +6,12 @@ use Prim.Native.Nat.{ℕ, zero, suc}
 use native.Mathlib.Omega.{arith}
 use lib.ListN.{length}
 use Rattle.laws.specs.Options.{bind}
+use Rattle.laws.proofs.Options.{given-true}
 use Rattle.laws.proofs.Tests.{clash}
 use Rattle.laws.specs.Lists.{total}
 use Rattle.rules.specs.declared.Settings.{Settings}
 use Rattle.rules.specs.Forms.{sizeAt}
-use Rattle.rules.specs.Programs.{Placeℕ, Program}
+use Rattle.rules.specs.Programs.{Placeℕ, Program, at}
 use Rattle.rules.specs.Rewriting.{anchor, step, chain, instrBytes, optimized}
 use Rattle.rules.specs.Run.{rewritten}
 use Rattle.promises.specs.Demand2.{Input}
@@ -18,11 +19,11 @@ use Rattle.promises.proofs.Listings.{read-made}
 use Rattle.promises.proofs.Steps.{Step, invert, bounce, shrink, step-some}
 use Rattle.promises.proofs.Chains.{chain-stop, chain-more}
 use Rattle.steps.specs.declared.Seat.{Seat}
-use Rattle.steps.specs.Steps.{Rule, inverting, bouncing, ruleOf, Rewrite, rewriteAt, rewriteOf, stepsIn, steps, doingAs, doing, doingAll}
+use Rattle.steps.specs.Steps.{seatOf, sameSeat, changed, Rule, inverting, bouncing, ruleOf, Rewrite, rewriteAt, rewriteOf, stepsIn, steps, doingAs, doing, doingAll}
 use Rattle.steps.specs.Promise.{AsDone}
-use Rattle.steps.proofs.Again.{inverted-again, trampoline-again, shrunk-again}
+use Rattle.steps.proofs.Again.{bind-is, inverted-again, trampoline-again, shrunk-again}
 use Rattle.steps.proofs.Rules.{rule-invert, rule-bounce, rule-shrink}
-use Rattle.steps.proofs.Changes.{told-inverted, told-trampoline, told-shrunk, Once, once-step, once-trampoline, once-made}
+use Rattle.steps.proofs.Changes.{same-seat, told-inverted, told-trampoline, told-shrunk, Once, once-step, once-trampoline, once-made}
 
 -- ---- the list, where a rewrite remains and where none does
 pub steps-stop : (asked : Settings) (n : ℕ) (p : Program) → step asked p ≡ none → stepsIn asked n p ≡ []
@@ -37,8 +38,14 @@ steps-more asked n p q e = rw (e, stepsIn)
 -- ---- one rewrite done again
 doing-as : (p q : Program) (i : Placeℕ) (a b : Seat) (r : Rule) → rewriteOf p q ≡ rewriteAt i a b → (rewriteAt i a b) .rule ≡ r
     → doingAs r p i (a .form) (b .form) ≡ some q → doing p (rewriteOf p q) ≡ some q
-unfolding doing
-doing-as p q i a b r e k d = ap (doing p) e ∙ ap (λ (x : Rule). doingAs x p i (a .form) (b .form)) k ∙ d
+unfolding doing rewriteOf
+doing-as p q i a b r e k d =
+    let place : changed p q ≡ i = ap (λ (x : Rewrite). x .place) e in
+    let here : seatOf (at p i) ≡ a = ap (λ (j : Placeℕ). seatOf (at p j)) (sym place) ∙ ap (λ (x : Rewrite). x .old) e in
+    let there : seatOf (at q i) ≡ b = ap (λ (j : Placeℕ). seatOf (at q j)) (sym place) ∙ ap (λ (x : Rewrite). x .new) e in
+    let o = doingAs (rewriteAt i a b .rule) p i (a .form) (b .form) in
+    ap (doing p) e ∙ given-true (sameSeat (seatOf (at p i)) a) _ (same-seat _ a here)
+    ∙ bind-is o q _ (ap (λ (x : Rule). doingAs x p i (a .form) (b .form)) k ∙ d) ∙ given-true (sameSeat (seatOf (at q i)) b) (some q) (same-seat _ b there)
 
 -- an inverted fold's forms are two
 inverts-apart : (f g : ℕ) → ruleOf f g ≡ inverting → f ≡ g → ⊥

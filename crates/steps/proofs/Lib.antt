@@ -1,5 +1,6 @@
 -- ---- what is promised
 pub mod Done
+pub mod ToldDone
 -- ---- what the proofs share
 pub mod Again
 pub mod Changes

@@ -67,14 +67,18 @@ stepsIn asked (suc n) p = elim (step asked p) [ none ↦ [] | some q ↦ rewrite
 unfoldable pub steps : Settings → Program → List Rewrite
 steps asked p = stepsIn asked (total instrBytes p) (anchor p)
 
--- ---- doing one, on another program too: only its rule, its place and its forms are asked
+-- ---- doing one, on another program too: by its rule, its place and its forms
 abbrev pub doingAs : Rule → Program → (i : Placeℕ) (old new : ℕ) → Option Program
 doingAs inverting p i old new = patternAt p (inverted old new) i
 doingAs bouncing p i old new = patternAt p (trampoline old) i
 doingAs shrinking p i old new = bind (asInstr (at p i)) (λ x. given (noInteriorLabelAt p i) (candidate (set p i (instr new (x .args) (x .carried)))))
 
+-- where what it says stood there stands there, carried place and all, and what it says stands there now does then
 unfoldable pub doing : Program → Rewrite → Option Program
-doing p r = doingAs (r .rule) p (r .place) (r .old .form) (r .new .form)
+doing p r =
+    given (sameSeat (seatOf (at p (r .place))) (r .old))
+    (bind (doingAs (r .rule) p (r .place) (r .old .form) (r .new .form)) (λ q.
+    given (sameSeat (seatOf (at q (r .place))) (r .new)) (some q)))
 
 -- and all, one by one
 unfoldable pub doingAll : Program → List Rewrite → Option Program
