@@ -57,7 +57,7 @@ solid-stmt q (words es) h e = omega (arith, h .0)
 solid-stmt q (pad add m) h e = false-true e
 
 -- and are left where they stand
-code-kept : (s : Stmt) → isCode s ≡ true → (isGone s ≡ false) × (insignificant s ≡ false)
+pub code-kept : (s : Stmt) → isCode s ≡ true → (isGone s ≡ false) × (insignificant s ≡ false)
 code-kept gone e = false-true e
 code-kept (instr f xs c) e = (refl, refl)
 code-kept (label n) e = false-true e
