@@ -2,7 +2,9 @@
 pub mod Applies
 pub mod Says
 pub mod Kept
+pub mod TextBack
 pub mod Whole
+pub mod Refused
 pub mod Coincide
 -- ---- runs
 pub mod Runs

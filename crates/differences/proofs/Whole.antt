@@ -1,6 +1,6 @@
 -- An accepted run says changes that lead from the first listing to the second, with a pairing and without, in order, each told right.
 use mathlib.Core.Path.{_≡_, refl, sym, ap, ap₂, _∙_}
-use mathlib.Core.Option.{Option}
+use mathlib.Core.Option.{Option, some}
 use mathlib.Core.List.{List, [], _∷_, _++_, append-nil}
 use mathlib.Core.Bool.{Bool, true, false, cond}
 use Prim.Native.Nat.{ℕ, zero, suc, _+_, _-_, _≤_, _<_}
@@ -9,6 +9,7 @@ use lib.Dec.{leb, eqb}
 use lib.ListN.{length, getD}
 use borrow.Author.Tests.{eqb-true}
 use Rattle.laws.specs.Lists.{each, same}
+use Rattle.laws.specs.Options.{bind}
 use Rattle.laws.proofs.Lists.{each-append, same-refl}
 use Rattle.laws.proofs.Tests.{clash, true-false}
 use Rattle.rules.specs.declared.Refusal.{Refusal}
@@ -21,13 +22,14 @@ use Rattle.pairing.specs.Pairings.{Frame, Frames, Pair, framesOf, goodEntries, 
 use Rattle.pairing.specs.Promise.{InOrder}
 use Rattle.pairing.proofs.Orders.{pairs-order}
 use Rattle.differences.specs.Changes.{Change, kept, removed, added, changed, paired}
-use Rattle.differences.specs.Changes.{removedFrom, addedFrom, between, changesOf, apply, textOf}
+use Rattle.differences.specs.Changes.{removedFrom, addedFrom, between, changesOf, apply, textOf, changesIn}
 use Rattle.differences.specs.Differences.{Differing, text, ofFirst, ofSecond, ofBoth}
 use Rattle.differences.specs.Differences.{after, sameForm, readSecond, compared, differences}
 use Rattle.differences.specs.Promise.{applied, pairIn, RemovedFirst, ToldRight, Exact}
 use Rattle.differences.proofs.Applies.{gives-second}
 use Rattle.differences.proofs.Says.{says-both}
 use Rattle.differences.proofs.Bytes.{text-of-frames}
+use Rattle.differences.proofs.TextBack.{text-back}
 
 -- ---- which pairs are said
 removed-pairs : (a : Frames) (n i : ℕ) → each (λ d. pairIn d) (removedFrom a n i) ≡ []
@@ -170,12 +172,17 @@ same-form-is newForm oldForm e = true-false (sym e)
 same-form-is newForm newForm e = refl
 
 leads-to : (first second : List ℕ) (ds : List Change) (p q : Program) → readListing first ≡ ok p → readSecond first second ≡ ok q
-    → apply ds (framesOf first) ≡ framesOf second → applied ds first ≡ second
-unfolding readSecond
+    → apply ds (framesOf first) ≡ some (framesOf second) → applied ds first ≡ some second
+unfolding readSecond bind
 leads-to first second ds p q e f g =
     let h = required (sameForm (formIn (linesOf first)) (formIn (linesOf second))) (Broken (atPlace 0)) (readListing second) q f in
     let w = same-form-is (formIn (linesOf first)) (formIn (linesOf second)) (h .0) in
-    ap₂ (λ (w : ListingForm) (a : Frames). markOf w ++ each (λ f. lineOf f) a) w g ∙ sym (text-of-frames second q (h .1))
+    ap (λ (o : Option Frames). bind o (λ fs. some (markOf (formIn (linesOf first)) ++ each (λ f. lineOf f) fs))) g
+    ∙ ap some (ap (λ (v : ListingForm). markOf v ++ each (λ f. lineOf f) (framesOf second)) w ∙ sym (text-of-frames second q (h .1)))
+
+second-read : (first second : List ℕ) (q : Program) → readSecond first second ≡ ok q → readListing second ≡ ok q
+unfolding readSecond
+second-read first second q f = required (sameForm (formIn (linesOf first)) (formIn (linesOf second))) (Broken (atPlace 0)) (readListing second) q f .1
 
 -- ---- the whole
 after-text : {A : Type 0} (told : Refusal → Differing) (x : Judged A) (f : A → Differing) (t : List ℕ)
@@ -198,11 +205,17 @@ exact first second pairing room t e =
     let h = required (leb (length (textOf (changesOf a b ps))) room) (Room (length (p .0))) (ok (textOf (changesOf a b ps))) (c .0)
     (g .1) in
     let order = pairs-order a b pairing (eqb-true good (length (entriesIn pairing)) (g .0)) in
+    let both = says-both a b ps order in
+    let says : t ≡ textOf (changesOf a b ps) = cc (c .2, h .1) in
+    let back : changesIn t ≡ changesOf a b ps =
+    ap changesIn says ∙ text-back first second (p .0) (q .0) (p .1) (second-read first second (q .0) (q .1)) (changesOf a b ps) both in
     record {
       changes = changesOf a b ps;
-      says = cc (c .2, h .1);
-      leads = leads-to first second (changesOf a b ps) (p .0) (q .0) (p .1) (q .1) (gives-second a b ps order);
-      both = says-both a b ps order;
+      says = says;
+      back = back;
+      leads = ap (λ (ds : List Change). applied ds first) back
+          ∙ leads-to first second (changesOf a b ps) (p .0) (q .0) (p .1) (q .1) (gives-second a b ps order);
+      both = both;
       pairs = said-pairs a b 0 0 ps;
       order = in-order a b 0 0 ps;
       right = right-at (changesOf a b ps) (all-right a b 0 0 ps);

@@ -1,11 +1,15 @@
 -- Document 02, C-13: "Give exact differences of two listings: each statement kept, removed, added or changed, with its places and frames."
-use mathlib.Core.List.{List, [], _∷_, _++_}
+use mathlib.Core.List.{List, [], _∷_, _++_, map}
+use mathlib.Core.Option.{Option, none, some}
 use mathlib.Core.Bool.{cond}
-use Prim.Native.Nat.{ℕ, zero, suc, _-_}
-use lib.ListN.{length, getD}
+use Prim.Native.Nat.{ℕ, zero, suc, _+_, _-_, _*_}
+use lib.Dec.{eqb}
+use lib.ListN.{length, getD, take, drop}
 use Rattle.laws.specs.Lists.{each, same}
+use Rattle.laws.specs.Options.{given, bind}
 use Rattle.rules.specs.Expressions.{pair}
 use Rattle.rules.specs.Programs.{Placeℕ}
+use Rattle.rules.specs.Listing.{linesOf, unhex}
 use Rattle.rules.specs.Output.{lineOf}
 use Rattle.pairing.specs.Pairings.{Frame, Frames, Pair}
 
@@ -42,17 +46,23 @@ between a b i j (p ∷ ps) =
 unfoldable pub changesOf : (a b : Frames) → List Pair → List Change
 changesOf a b ps = between a b 0 0 ps
 
+-- the next statement of the first, which has to be the one that is mentioned
+abbrev pub taking : Frame → Frames → (Frames → Option Frames) → Option Frames
+taking f [] go = none
+taking f (x ∷ a) go = given (same f x) (go a)
+
+abbrev pub onto : Frame → Option Frames → Option Frames
+onto f o = bind o (λ b. some (f ∷ b))
+
 -- "Applying the differences to the first": a kept statement is taken from it, a removed one is left out, an added one is put in, a
--- changed one is put for the one that stands there
-unfoldable pub apply : List Change → Frames → Frames
-apply [] a = []
-apply (kept i j f ∷ ds) [] = apply ds []
-apply (kept i j f ∷ ds) (x ∷ a) = x ∷ apply ds a
-apply (removed i f ∷ ds) [] = apply ds []
-apply (removed i f ∷ ds) (x ∷ a) = apply ds a
-apply (added j f ∷ ds) a = f ∷ apply ds a
-apply (changed i j old new ∷ ds) [] = new ∷ apply ds []
-apply (changed i j old new ∷ ds) (x ∷ a) = new ∷ apply ds a
+-- changed one is put for the one that stands there. They are no differences of it where a statement is not mentioned
+unfoldable pub apply : List Change → Frames → Option Frames
+apply [] [] = some []
+apply [] (x ∷ a) = none
+apply (kept i j f ∷ ds) a = taking f a (λ rest. onto f (apply ds rest))
+apply (removed i f ∷ ds) a = taking f a (λ rest. apply ds rest)
+apply (added j f ∷ ds) a = onto f (apply ds a)
+apply (changed i j old new ∷ ds) a = taking old a (λ rest. onto new (apply ds rest))
 
 -- ---- the differences as text, one a line: 70 kept, place, place, frame; 71 removed, place, frame; 72 added, place, frame; 73 changed,
 -- place, place, the count of the old frame's bytes in one byte, the old frame, the new frame
@@ -65,3 +75,19 @@ bytesOf (changed i j old new) = 0x73 ∷ (pair i ++ (pair j ++ (length old ∷ (
 
 unfoldable pub textOf : List Change → List ℕ
 textOf ds = each (λ d. lineOf (bytesOf d)) ds
+
+-- ---- and read again, from the bytes that were handed out
+
+-- two bytes from byte k on
+abbrev pub twoAt : (s : List ℕ) (k : ℕ) → ℕ
+twoAt s k = getD s k 0 * 256 + getD s (k + 1) 0
+
+unfoldable pub changeIn : (s : List ℕ) → Change
+changeIn s =
+    cond (eqb (getD s 0 0) 0x70) (kept (twoAt s 1) (twoAt s 3) (drop 5 s))
+    (cond (eqb (getD s 0 0) 0x71) (removed (twoAt s 1) (drop 3 s))
+    (cond (eqb (getD s 0 0) 0x72) (added (twoAt s 1) (drop 3 s))
+    (changed (twoAt s 1) (twoAt s 3) (take (getD s 5 0) (drop 6 s)) (drop (getD s 5 0) (drop 6 s)))))
+
+unfoldable pub changesIn : (text : List ℕ) → List Change
+changesIn text = map (λ l. changeIn (unhex (l .chars))) (linesOf text)
