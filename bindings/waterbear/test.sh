@@ -32,7 +32,7 @@ against_waterbear() {
     [ -f "$archive/libborder.a" ] || { leave_out "the drop-in against waterbear: no $archive/libborder.a"; return 0; }
     [ -n "$sources" ] || { leave_out "the drop-in against waterbear: no SOURCES, the folder with its published files"; return 0; }
     "$here/needs.sh" || { leave_out "the drop-in against waterbear: what is missing is said above"; return 0; }
-    "$here/build.sh" "$sources" "$archive" "$out"
+    OPT=${OPT:-1} "$here/build.sh" "$sources" "$archive" "$out"
     python3 "$here/tests/compare.py" "$out/bin" --programs "$here/tests/programs" --count 300 --seed 1 > "$out/compare.log" 2>&1 || true
     sum "$out/compare.log"
     python3 "$here/tests/example.py" "$out/bin" > "$out/example.log" 2>&1 || true

@@ -52,11 +52,11 @@ def build(out, archive, crate, folder, copy):
     """The build of build.sh with the copy for the drop-in; waterbear itself is not optimized here, which takes less time."""
     for name in ("Cargo.toml", "src/lib.rs"):
         text = open(os.path.join(out, "tested", name)).read().replace(folder, copy).replace(copy + "/stand-ins", folder + "/stand-ins")
-        more = '[profile.release.package."wb"]\nopt-level = 0\n' if name == "Cargo.toml" else ""
-        open(os.path.join(crate, name), "w").write(text + more)
+        open(os.path.join(crate, name), "w").write(text)
     env = dict(os.environ, RUSTC_VERSION="x", CARGO_VERSION="x", GITSHA="x", MORTARBEE_ARCHIVE=archive, RUSTFLAGS="-A warnings",
                CARGO_TARGET_DIR=os.path.join(out, "target"))
-    subprocess.run(["cargo", "build", "-q", "--release", "--offline", "-j", "1"], cwd=crate, env=env, check=True)
+    subprocess.run(["cargo", "build", "-q", "--release", "--offline", "-j", "1", "--config", "profile.release.package.wb.opt-level=0"],
+                   cwd=crate, env=env, check=True)
 
 
 def told(binaries, count, level):

@@ -151,6 +151,6 @@ def classify(runner, source, level):
         found, known = classify(runner, less, level)
         os.remove(less)
         if known:
-            return "other: a .cnop of a multiple over 256 (DIFF-34)", True
+            return "other: a .cnop of a multiple over 256 (S-1)", True
         return found, False
     return "NOT EXPLAINED", False
