@@ -2,6 +2,8 @@
 pub mod SameImages
 pub mod MapRows
 pub mod Entry
+-- ---- runs
+pub mod Examples
 -- ---- what the proofs share
 pub mod Seeks
 pub mod Tells
