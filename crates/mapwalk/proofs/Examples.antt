@@ -15,14 +15,14 @@ use Rattle.rules.proofs.Computed.{lines, all, freely}
 use Rattle.decoding.specs.Cells.{placeIn, allCells, cellsOf}
 use Rattle.decoding.specs.Opcodes.{formAmong, formOfByte}
 use Rattle.decoding.specs.Operands.{bitsOf, heldBit, heldIn, operandsFrom}
-use Rattle.paths.specs.Walk.{Ending, offTheEnd, going, noAddress, inside, class, plainForm, takenOn, event, labelsFrom, isClouded, run}
+use Rattle.paths.specs.Walk.{Ending, offTheEnd, going, noAddress, inside, class, plainForm, takenOn, event, namesBefore, labelNames, isClouded, run}
 use Rattle.paths.proofs.Examples.{stacked, is, holdsOf}
 use Rattle.mapwalk.specs.Stands.{covering, isBelow, seek, imageStep, imageWalk}
 use Rattle.mapwalk.specs.Maps.{standsUp, standsOf, inSlots}
 
 -- the walk of the long image of these lines from 0 in n steps, of the short one in m, and of the long one as f leaves it in n
 unfoldable walks : String → (n m : ℕ) → List ℕ → Ending → (f : List ℕ → List ℕ) → List ℕ → Ending → Bool
-unfolding freely same class plainForm takenOn event run labelsFrom isClouded formAmong formOfByte bitsOf heldBit heldIn operandsFrom placeIn allCells cellsOf covering isBelow seek imageStep imageWalk standsUp standsOf
+unfolding freely same class plainForm takenOn event run namesBefore labelNames isClouded formAmong formOfByte bitsOf heldBit heldIn operandsFrom placeIn allCells cellsOf covering isBelow seek imageStep imageWalk standsUp standsOf
 walks text n m told e f told′ e′ =
     holdsOf (λ p. is told e (imageWalk (stacked true) n (standsOf p p) (orD (judge p) []) 0)
     && (is told e (imageWalk (stacked true) m (standsOf p (inSlots asDocument01 p)) (rewritten asDocument01 p .image) 0)
