@@ -22,6 +22,7 @@ use Rattle.promises.proofs.Positions.{fit-cons}
 use Rattle.decoding.specs.Opcodes.{formAmong, formOfByte}
 use Rattle.paths.specs.Walk.{isCode, codeFrom, codeAt}
 use Rattle.paths.proofs.Layouts.{climbs, code-is, code-off}
+use Rattle.endings.proofs.Comes.{ComesFrom, nowhere, comes, comes-from}
 use Rattle.decoded.specs.Decoded.{Decodes}
 use Rattle.mapwalk.specs.Stands.{Stand, covers, covering, isBelow, Found, standing, past, outside, nop, foundIn, seek}
 use Rattle.mapwalk.specs.Maps.{standAt, standsIn, standsUp, standsOf}
@@ -48,40 +49,6 @@ low-from i k q (s ∷ p) u (suc j) e = low-from (suc i) (enter k s) (after q s) 
 low : (p : Program) → positionsFit (placed p) ≡ ok tt → (j : Placeℕ) → isCode (at p j) ≡ true → position p j + sizeIn p j ≤ 65536
 unfolding position placed
 low p u j e = low-from 0 0 0 p u j e
-
--- ---- the statement that an address comes to, taken apart
-data ComesFrom (a i q : ℕ) (p : Program) : Option Origin → Type 0 where
-  nowhere : ((c : ℕ) → isCode (at p c) ≡ true → positionFrom q p c + byteCount (positionFrom q p c) (at p c) ≤ a) → ComesFrom a i q p none
-  comes : (b : ℕ) → isCode (at p b) ≡ true → a < positionFrom q p b + byteCount (positionFrom q p b) (at p b)
-      → ((c : ℕ) → c < b → isCode (at p c) ≡ true → positionFrom q p c + byteCount (positionFrom q p c) (at p c) ≤ a)
-      → ComesFrom a i q p (some (record { place = i + b; offset = a - positionFrom q p b }))
-
-comes-from : (a i q : ℕ) (p : Program) → ComesFrom a i q p (codeFrom i q p a)
-unfolding codeFrom positionFrom
-comes-from a i q [] = nowhere (λ c e. false-true e)
-comes-from a i q (s ∷ p) = split (isCode s) (ltb a (q + byteCount q s)) refl refl (comes-from a (suc i) (after q s) p)
-  where
-    more : {o : Option Origin} → (isCode s ≡ true → q + byteCount q s ≤ a) → ComesFrom a (suc i) (after q s) p o → ComesFrom a i q (s ∷ p) o
-    more h (nowhere k) = nowhere each
-      where
-        each : (c : ℕ) → isCode (at (s ∷ p) c) ≡ true → positionFrom q (s ∷ p) c + byteCount (positionFrom q (s ∷ p) c) (at (s ∷ p) c) ≤ a
-        each zero e = h e
-        each (suc c) e = k c e
-    more h (comes b e l k) =
-        let z : i + suc b ≡ suc i + b = omega arith in
-        subst (λ (n : ℕ). ComesFrom a i q (s ∷ p) (some (record { place = n; offset = a - positionFrom (after q s) p b }))) z (comes (suc b) e l before)
-      where
-        before : (c : ℕ) → c < suc b → isCode (at (s ∷ p) c) ≡ true → positionFrom q (s ∷ p) c + byteCount (positionFrom q (s ∷ p) c) (at (s ∷ p) c) ≤ a
-        before zero m x = h x
-        before (suc c) m x = k c (omega arith) x
-
-    split : (t u : Bool) → isCode s ≡ t → ltb a (q + byteCount q s) ≡ u → ComesFrom a (suc i) (after q s) p (codeFrom (suc i) (after q s) p a)
-        → ComesFrom a i q (s ∷ p) (cond (t && u) (some (record { place = i; offset = a - q })) (codeFrom (suc i) (after q s) p a))
-    split true true e l below =
-        let z : i + 0 ≡ i = omega arith in
-        subst (λ (n : ℕ). ComesFrom a i q (s ∷ p) (some (record { place = n; offset = a - q }))) z (comes 0 e (ltb-true a (q + byteCount q s) l) (λ c h x. absurd (omega arith)))
-    split true false e l below = more (λ x. ltb-false a (q + byteCount q s) l) below
-    split false u e l below = more (λ x. true-false (sym x ∙ e)) below
 
 -- ---- the rows of a range of places
 both : (b : Bool) → b && false ≡ false

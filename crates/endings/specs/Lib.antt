@@ -1,0 +1,2 @@
+-- Which statements can end a walk. Definitions only.
+pub mod Endings
