@@ -29,9 +29,17 @@ use Rattle.promises.proofs.SoundEnd.{written-sound}
 use Rattle.promises.proofs.Sounds.{SoundStmt}
 use Rattle.promises.proofs.WritesBack.{judge-writeBack, writeBack-plain, inner-end}
 use Rattle.decoding.proofs.Tables.{shaped}
+<<<<<<< HEAD
 use Rattle.paths.specs.Walk.{Oracle, going, Walk, isCode, holdsNone, walk, startAt, run, meets}
 use Rattle.paths.specs.SamePath.{itself, Agrees, Alike, Starts, at-zero, at-kept, SameWorth}
 use Rattle.walk.specs.SameWalk.{stemOf}
+=======
+use Rattle.walk.proofs.Links.{position-zero}
+use Rattle.endings.specs.Endings.{Open, report}
+use Rattle.endings.proofs.WalksOn.{input-walks-on}
+use Rattle.paths.specs.Walk.{Oracle, Ending, going, offTheEnd, inData, inside, leaves, computed, clouded, unreturned, noAddress, Walk, isCode, holdsNone, walk, startAt, run, meets}
+use Rattle.paths.specs.SamePath.{itself, Agrees, Alike, Starts, at-zero, at-kept, SameWorth, stemOf}
+>>>>>>> 707999e (mapwalk: both images of a program of which nothing is listed walk to their end)
 use Rattle.paths.proofs.Runs.{run-same}
 use Rattle.paths.proofs.Compacts.{meets-rank}
 use Rattle.paths.proofs.Shapes.{shape-names, shape-context}
@@ -179,15 +187,21 @@ module _ (asked : Settings) (p : Program) (in-p : Input p) where
       at-kept (rank q b) (ap insignificant (at-rank q b (k .0)) ∙ k .1) in
       rw (stems-rank q b 0 (k .0) .1, position-rank q b (k .0)) at x
 
+  long-told : (a : ℕ) (o : Oracle) (n : ℕ) → imageWalk o n (standsOf p p) (in-p .image) a ≡ tellWalk p (walk (tellOracle p o) itself n p a)
+  long-told a o n =
+      image-tells p p (in-p .image) (decodes p (in-p .image) (in-p .assembles) (made .sound)) (record { worths = λ d l x z. refl }) o (passes-p .laid)
+      (λ j c. solid-stmt (position p j) (at p j) (made .sound j) c) n a
+
+  short-told : (a : ℕ) (o : Oracle) (n : ℕ) → imageWalk o n (standsOf p q) (assembled .0) a ≡ tellWalk p (walk (tellOracle p o) itself n q a)
+  short-told a o n =
+      image-tells p q (assembled .0) (decodes q (assembled .0) short-judged sound-q) (record { worths = λ d l x z. worths-q d x z }) o (passes-q .laid)
+      (λ j c. solid-stmt (position q j) (at q j) (sound-q j) c) n a
+
   alike : (a b : ℕ) → Starts p (outputProgram asked p) (stemOf asked p) a b
       → Alike (λ o n. imageWalk o n (standsOf p p) (in-p .image) a) (λ o n. imageWalk o n (standsOf p q) (rewritten asked p .image) b)
   alike a b s =
       rw image-is
-      (alike-told p (λ o n. walk o itself n p a) (λ o n. walk o itself n q b) _ _
-      (λ o n. image-tells p p (in-p .image) (decodes p (in-p .image) (in-p .assembles) (made .sound)) (record { worths = λ d l x z. refl }) o (passes-p .laid)
-      (λ j c. solid-stmt (position p j) (at p j) (made .sound j) c) n a)
-      (λ o n. image-tells p q (assembled .0) (decodes q (assembled .0) short-judged sound-q) (record { worths = λ d l x z. worths-q d x z }) o (passes-q .laid)
-      (λ j c. solid-stmt (position q j) (at q j) (sound-q j) c) n b)
+      (alike-told p (λ o n. walk o itself n p a) (λ o n. walk o itself n q b) _ _ (long-told a) (short-told b)
       (alike-as _ _ _ (short-walk b) (same-path asked p in-p .alike a b s)))
 
   -- same-images: the image that is handed out walks as the input's, by the map alone
@@ -198,3 +212,25 @@ module _ (asked : Settings) (p : Program) (in-p : Input p) where
         from-zero = alike 0 0 at-zero;
         from-row = λ x h. let r = among-up p q 0 (length q) x h in rw (r .2) (alike (position p (r .0)) (position q (r .0)) (row-start (r .0) (r .1)));
       }
+
+  -- ---- a program of which the report lists nothing
+  open-told : (x : Ending) → Open x → Open (tellEnding p x)
+  open-told (going i) h = tt
+  open-told offTheEnd h = tt
+  open-told (inData i) h = absurd h
+  open-told (inside i n) h = absurd h
+  open-told (leaves i xs) h = absurd h
+  open-told (computed k x) h = absurd h
+  open-told (clouded i) h = absurd h
+  open-told unreturned h = absurd h
+  open-told noAddress h = absurd h
+
+  -- images-walk-on: both images walk out of the code or go on for ever
+  pub images-walk-on : report p ≡ [] → (o : Oracle) (n : ℕ) → Open (imageWalk o n (standsOf p p) (in-p .image) 0 .ending) × Open (imageWalk o n (standsOf p q) (rewritten asked p .image) 0 .ending)
+  images-walk-on h o n = let k = same-images .from-zero .back o n in (long n, subst (λ (w : Walk). Open (w .ending)) (sym (k .same)) (long (k .steps)))
+    where
+      long : (m : ℕ) → Open (imageWalk o m (standsOf p p) (in-p .image) 0 .ending)
+      long m =
+          subst (λ (w : Walk). Open (w .ending)) (sym (long-told 0 o m))
+          (open-told (walk (tellOracle p o) itself m p 0 .ending)
+          (subst (λ (a : ℕ). Open (walk (tellOracle p o) itself m p a .ending)) (position-zero p) (input-walks-on p in-p h (tellOracle p o) 0 m)))
