@@ -29,17 +29,12 @@ use Rattle.promises.proofs.SoundEnd.{written-sound}
 use Rattle.promises.proofs.Sounds.{SoundStmt}
 use Rattle.promises.proofs.WritesBack.{judge-writeBack, writeBack-plain, inner-end}
 use Rattle.decoding.proofs.Tables.{shaped}
-<<<<<<< HEAD
-use Rattle.paths.specs.Walk.{Oracle, going, Walk, isCode, holdsNone, walk, startAt, run, meets}
-use Rattle.paths.specs.SamePath.{itself, Agrees, Alike, Starts, at-zero, at-kept, SameWorth}
-use Rattle.walk.specs.SameWalk.{stemOf}
-=======
 use Rattle.walk.proofs.Links.{position-zero}
 use Rattle.endings.specs.Endings.{Open, report}
 use Rattle.endings.proofs.WalksOn.{input-walks-on}
 use Rattle.paths.specs.Walk.{Oracle, Ending, going, offTheEnd, inData, inside, leaves, computed, clouded, unreturned, noAddress, Walk, isCode, holdsNone, walk, startAt, run, meets}
-use Rattle.paths.specs.SamePath.{itself, Agrees, Alike, Starts, at-zero, at-kept, SameWorth, stemOf}
->>>>>>> 707999e (mapwalk: both images of a program of which nothing is listed walk to their end)
+use Rattle.paths.specs.SamePath.{itself, Agrees, Alike, Starts, at-zero, at-kept, SameWorth}
+use Rattle.walk.specs.SameWalk.{stemOf}
 use Rattle.paths.proofs.Runs.{run-same}
 use Rattle.paths.proofs.Compacts.{meets-rank}
 use Rattle.paths.proofs.Shapes.{shape-names, shape-context}

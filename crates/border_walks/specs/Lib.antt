@@ -1,0 +1,2 @@
+-- What the functions for C answer: the map.
+pub mod Maps
