@@ -1,6 +1,7 @@
 -- ---- what is promised
 pub mod SameImages
 pub mod MapRows
+pub mod Exact
 pub mod Entry
 -- ---- runs
 pub mod Examples
