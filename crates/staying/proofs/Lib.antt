@@ -2,5 +2,6 @@
 pub mod Stays
 pub mod Complete
 pub mod Listed
+pub mod Exactly
 pub mod Few
 pub mod Runs

@@ -3,3 +3,4 @@ pub mod Reasons
 pub mod Lines
 -- ---- what is shown
 pub mod Promise
+pub mod Exactly
