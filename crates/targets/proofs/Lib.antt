@@ -1,6 +1,8 @@
 -- ---- what is promised
 pub mod SaidSame
 pub mod ToldSame
+pub mod InOutput
+pub mod Unmarked
 pub mod NeverShort
 -- ---- what the proofs share
 pub mod Coming
