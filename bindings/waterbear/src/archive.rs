@@ -22,7 +22,10 @@ pub fn optimized(listing: &[u8]) -> Result<Answer, Refusal> {
     let mut out = vec![0; mortarbee::LISTING_ROOM];
     let mut image = vec![0; mortarbee::IMAGE_ROOM];
     let mut list = vec![0; mortarbee::STEMS_ROOM];
-    let told = |refusal: mortarbee::Refusal| Refusal { number: refusal.number, place: refusal.place, line: refusal.to_string() };
+    let told = |refusal: mortarbee::Refusal| {
+        let line = format!("7E{:02X}{:04X}{:02X}{:08X}", refusal.number, refusal.place, refusal.argument, refusal.amount);
+        Refusal { number: refusal.number, place: refusal.place, line }
+    };
     let before = mortarbee::assemble(listing, &mut image).map(|done| image[..done.image].to_vec()).map_err(told)?;
     let settings = mortarbee::Settings::default();
     let (done, count) = mortarbee::optimize_stems(settings, listing, &mut out, &mut image, &mut list).map_err(told)?;

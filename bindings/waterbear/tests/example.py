@@ -33,7 +33,7 @@ def main(binaries):
             "tray/long.hex": assembled(orig, out),
             "waterbear/original.hex": assembled(orig, out, "--optimize-jumps"),
             "tray/short.hex": assembled(drop, out, "--optimize-jumps", MORTARBEE_DUMP=dump),
-            "waterbear/tray.lst": open(dump + ".lst").read(),
+            "waterbear/tray.listing": open(dump + ".lst").read(),
             "waterbear/tray.names": open(dump + ".names").read(),
         }
     other = [name for name, text in found.items() if open(os.path.join(EXAMPLES, name)).read() != text]
