@@ -49,14 +49,14 @@ def copied(crate, folder, name, old, new):
 
 
 def build(out, archive, crate, folder, copy):
-    """The build of build.sh with the copy for the drop-in; waterbear itself is not optimized here, which takes less time."""
+    """The build of build.sh with the copy for the drop-in; nothing is optimized here, which takes less time."""
     for name in ("Cargo.toml", "src/lib.rs"):
         text = open(os.path.join(out, "tested", name)).read().replace(folder, copy).replace(copy + "/stand-ins", folder + "/stand-ins")
         open(os.path.join(crate, name), "w").write(text)
     env = dict(os.environ, RUSTC_VERSION="x", CARGO_VERSION="x", GITSHA="x", MORTARBEE_ARCHIVE=archive, RUSTFLAGS="-A warnings",
                CARGO_TARGET_DIR=os.path.join(out, "target"))
-    subprocess.run(["cargo", "build", "-q", "--release", "--offline", "-j", "1", "--config", "profile.release.package.wb.opt-level=0"],
-                   cwd=crate, env=env, check=True)
+    fast = [part for name in ("wb", "mortarbee-waterbear") for part in ("--config", "profile.release.package.%s.opt-level=0" % name)]
+    subprocess.run(["cargo", "build", "-q", "--release", "--offline", "-j", "1", *fast], cwd=crate, env=env, check=True)
 
 
 def told(binaries, count, level):
