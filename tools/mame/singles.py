@@ -1,4 +1,5 @@
 """Single instructions on MAME's CPU: where each of the seventy forms goes on, and what both forms of a pair leave."""
+import itertools
 import random
 from collections import Counter
 
@@ -7,7 +8,8 @@ import mame
 from bee import BY, FORMS
 from conditions import cell, state_for, words
 
-PLACES = [0x300, 0xF85, 0xFFC, 0xFFD, 0xFFE, 0xFFF, 0x1000, 0x7FFE, 0xEFFE, 0xF000, 0xFFF0, 0xFFFC, 0xFFFD]
+BEFORE = [0x80, 4, 3, 2, 1, 0]  # how far before the end of a page an instruction begins
+LAST = [0xFFF0, 0xFFFC, 0xFFFD]  # before the end of the memory
 CELLS = [0x20, 0x2F, 0x102, 0x103]
 ALWAYS = ("Br", "Jmp", "Jmpf", "Brf", "Call", "Callf", "Callr")
 TIME = .1                       # milliseconds: some five cycles
@@ -23,20 +25,30 @@ def targets_at(form, behind):
     return [t for t in found[form.operands[-1]] if 0 <= t < 65536]
 
 
+def pages():
+    """The ends of the pages but the last, one after the other, again and again, so that a listing holds many."""
+    return itertools.cycle(range(0x1000, 0x10000, 0x1000))
+
+
 def single_steps(rng):
     """(form, place, arguments, where it goes on, words)"""
+    ends = pages()
     for form in FORMS:
-        for place in PLACES if form.is_transfer else PLACES[:5]:
-            behind = place + form.size
-            if behind > 65535:
-                continue
-            for i, target in enumerate(targets_at(form, behind) if form.is_transfer else [None] * 8):
-                args = [{"reg": i & 1, "bit": i & 7, "d9": CELLS[i % 4]}.get(kind, rng.randrange(256)) for kind in form.operands]
-                yield from outcomes(form, place, args if target is None else args[:-1] + [target], target, rng)
+        for before in BEFORE:
+            for i in range(8):
+                yield from outcomes(form, next(ends) - before, i, rng)
+        for place in LAST:
+            for i in (0, 7) if form.is_transfer and place + form.size < 65536 else ():
+                yield from outcomes(form, place, i, rng)
 
 
-def outcomes(form, place, args, target, rng):
-    behind = place + form.size
+def outcomes(form, place, i, rng):
+    """With the i-th of its targets and other arguments."""
+    behind, target = place + form.size, None
+    args = [{"reg": i & 1, "bit": i & 7, "d9": CELLS[i % 4]}.get(kind, rng.randrange(256)) for kind in form.operands]
+    if form.is_transfer:
+        target = targets_at(form, behind)[i % len(targets_at(form, behind))]
+        args[-1] = target
     if form.name in ("Ret", "Reti"):
         yield form, place, args, 0x3412, {"sp": 0x81, "80": 0x12, "81": 0x34}
     elif target is None:
@@ -49,16 +61,16 @@ def outcomes(form, place, args, target, rng):
 
 
 def packed(tests):
-    """Listings with many tests each: an org only rises."""
+    """Listings with many tests each. An org only rises, so they are taken by their places, each into the first listing that ends before."""
     packs = []
-    for test in tests:
+    for test in sorted(tests, key=lambda test: test[1]):
         form, place = test[:2]
-        fitting = [pack for pack in packs[-40:] if pack[0] <= place and len(pack[1]) < 400]
+        fitting = next((pack for pack in packs if pack[0] <= place), None)
         if not fitting:
-            packs.append([0, []])
-            fitting = packs[-1:]
-        fitting[0][0] = place + form.size
-        fitting[0][1].append(test)
+            fitting = [0, []]
+            packs.append(fitting)
+        fitting[0] = place + form.size
+        fitting[1].append(test)
     return [tests for _, tests in packs]
 
 

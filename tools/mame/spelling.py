@@ -6,7 +6,7 @@ import re
 import bee
 import mame
 from bee import FORMS
-from singles import packed
+from singles import packed, pages
 
 BYTES = [0, 1, 0x7F, 0x80, 0xFE, 0xFF]
 CELLS = [0, 1, 0x0D, 0x7F, 0x80, 0xFF, 0x100, 0x101, 0x10D, 0x17F, 0x180, 0x1FE, 0x1FF]
@@ -14,7 +14,7 @@ NEAR = [-128, -127, -2, -1, 0, 1, 126, 127]
 LOW = [0, 1, 0xFF, 0x100, 0x345, 0x7FF, 0x800, 0x801, 0xEFF, 0xF00, 0xFFE, 0xFFF] + [1 << k for k in range(12)]
 FAR = [0, 1, 0xFF, 0x100, 0x1234, 0x7FFF, 0x8000, 0xFF00, 0xFFFF] + [1 << k for k in range(16)]
 STARTS = [0x100, 0xF80, 0x1F00, 0x7F00, 0xEF00]
-EDGES = [0xFFC, 0xFFD, 0xFFE, 0xFFF, 0x1000, 0x1FFD, 0x1FFE, 0x7FFE, 0x7FFF, 0xEFFD, 0xEFFE, 0xEFFF, 0xFFFA, 0xFFFB, 0xFFFC, 0xFFFD, 0xFFFE]
+LAST = [0xFFFA, 0xFFFB, 0xFFFC, 0xFFFD, 0xFFFE]
 SHORT = {form.word for form in FORMS if form.operands[-1:] == ["rel8"]}
 SPELLED = [(r"#\$([0-9a-f]{2})", "#%d"), (r"\(\$([0-9a-f]{3})\)", "%d"), (r"@([0-3])", "@R%d"), (r"([0-9a-f]{4}|[0-7])", "%d")]
 
@@ -78,15 +78,24 @@ def listings_in_rows():
 
 def edge_tests():
     """Transfers at the edges of pages and of the memory, to both ends of their reach."""
+    ends = pages()
     for form in (form for form in FORMS if form.is_transfer):
-        for place in (place for place in EDGES if place + form.size <= 65536):
-            behind = place + form.size
-            page = behind & 0xF000
-            ends = {"rel8": [behind + d for d in (-128, -1, 0, 127)], "a12": [page, page | 0xFFF, page | 0x345], "a16": [0, 0xFFFF, 0x1234],
-                    "rel16": [0, 1, behind & 0xFFFF, (behind - 1) & 0xFFFF, (behind - 2) & 0xFFFF, 0xFFFF, 0x8000]}[form.operands[-1]]
-            others = [{"reg": 2, "bit": 5, "d9": 0x123, "i8": 0x45}[kind] for kind in form.operands[:-1]]
-            for target in (target for target in ends if 0 <= target < 65536):
-                yield form, place, others + [target]
+        for before in (4, 3, 2, 1, 0):
+            for i in range(7):
+                yield edge_test(form, next(ends) - before, i)
+        for place in (place for place in LAST if place + form.size <= 65536):
+            for i in (0, 1):
+                yield edge_test(form, place, i)
+
+
+def edge_test(form, place, i):
+    behind = place + form.size
+    page = behind & 0xF000
+    reach = {"rel8": [behind + d for d in (-128, -1, 0, 127)], "a12": [page, page | 0xFFF, page | 0x345], "a16": [0, 0xFFFF, 0x1234],
+             "rel16": [behind & 0xFFFF, 0, 1, (behind - 1) & 0xFFFF, (behind - 2) & 0xFFFF, 0xFFFF, 0x8000]}[form.operands[-1]]
+    reach = [target for target in reach if 0 <= target < 65536]
+    others = [{"reg": 2, "bit": 5, "d9": 0x123, "i8": 0x45}[kind] for kind in form.operands[:-1]]
+    return form, place, others + [reach[i % len(reach)]]
 
 
 def listings_at_edges():
