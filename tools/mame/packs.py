@@ -10,7 +10,7 @@ SWITCHES = ("--comments", "--no-callf", "--no-folds")
 SETS = [0, 1, 2, 4, 3, 5, 6, 7]  # of the switches, as bits: each alone comes first
 MOST = 1000, 20000, 0xF000      # statements, frame bytes and addresses of a listing
 TIME = 12                       # milliseconds of a walk: some 600 cycles
-CHUNK = 16                      # listings in one run of MAME
+CHUNK = 8                       # listings in one run of MAME
 
 
 class Pack:

@@ -22,7 +22,6 @@ from walks import START, Pair, Run
 
 SHORT = ["back", "edges", "pairs", "routines", "tray", "mutants", "memory", "random"]
 LONG = ["listings", "go-on", "routine-mutants"]
-TRIES = 150                     # runs that are spent on making a listing small
 
 
 def summary(counts):
@@ -43,7 +42,7 @@ def summary(counts):
     return "\n    ".join(plain)
 
 
-def small(listing, flags, state, folder):
+def small(listing, flags, state, folder, tries):
     """The smallest listing that was found in which a walk from this state still differs."""
     def differs(text):
         try:
@@ -53,7 +52,7 @@ def small(listing, flags, state, folder):
         except (bee.Refused, UnicodeDecodeError):
             return False
     text = listing.encode()
-    return reduced(text, differs, TRIES).decode() if differs(text) else listing
+    return reduced(text, differs, tries).decode() if differs(text) else listing
 
 
 class Judge:
@@ -68,7 +67,7 @@ class Judge:
         if differences:
             listing, flags, state, _ = differences[0]
             print("  made small (%s, from %s):" % (" ".join(flags) or "no switch", state), flush=True)
-            listing = small(listing, flags, state, self.folder)
+            listing = small(listing, flags, state, self.folder, self.options.tries)
             print(listing + Pair(listing, flags).show(), flush=True)
 
     def say(self, differences, counts):
@@ -128,6 +127,7 @@ def parse():
     parser.add_argument("--seeds", nargs="+", default=["1"], help="of the random programs")
     parser.add_argument("--count", type=int, help="random programs for each seed")
     parser.add_argument("--seconds", type=int, help="no random programs are begun after so many")
+    parser.add_argument("--tries", type=int, default=150, help="runs that are spent on making a listing small")
     parser.add_argument("--folder", help="for scratch files")
     parser.add_argument("--switch", action="append", default=[], help="for --listing: comments, no-callf, no-folds")
     parser.add_argument("--listing", nargs="+", metavar=("FILE", "WORD"), help="one listing, and its first state: a=1 20=ff reads=12:1,0")
