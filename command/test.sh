@@ -7,7 +7,10 @@ set -u
 here=$(cd "$(dirname -- "$0")" && pwd)
 top=$(cd "$here/.." && pwd)
 MORTARBEE_ARCHIVE=${1:-$top/target/staticlib}
-export MORTARBEE_ARCHIVE
+case $MORTARBEE_ARCHIVE in /*) ;; *) MORTARBEE_ARCHIVE=$PWD/$MORTARBEE_ARCHIVE ;; esac
+MORTARBEE_LEFT_OUT=$(mktemp) || exit 2
+export MORTARBEE_ARCHIVE MORTARBEE_LEFT_OUT
+trap 'rm -f "$MORTARBEE_LEFT_OUT"' EXIT
 passed=0 failed=0
 
 # What cargo's tests say is shown, but for those that are as they should be; their results are added.
@@ -51,5 +54,6 @@ else
         try "the command over libborder_core.a" "$here" --release --no-default-features --features core --test core
     fi
 fi
+sort -u "$MORTARBEE_LEFT_OUT"
 echo "$passed passed, $failed failed"
 [ "$failed" = 0 ]

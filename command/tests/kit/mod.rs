@@ -2,6 +2,7 @@
 #![allow(dead_code)]
 
 use std::fs;
+use std::io::Write;
 use std::path::PathBuf;
 use std::process::{Command, Output};
 
@@ -75,9 +76,14 @@ pub fn has_command(name: &str) -> bool {
     Command::new("sh").args(["-c", &format!("command -v {name} >/dev/null")]).status().is_ok_and(|status| status.success())
 }
 
-/// A test that cannot be run here is left out by its name.
+/// A test that cannot be run here is left out by its name, which is written to the file that MORTARBEE_LEFT_OUT names, too.
 pub fn leave_out(test: &str, why: &str) {
-    println!("left out: {test}: {why}");
+    let said = format!("left out: {test}: {why}\n");
+    print!("{said}");
+    if let Some(file) = std::env::var_os("MORTARBEE_LEFT_OUT") {
+        let file = fs::OpenOptions::new().append(true).create(true).open(file);
+        file.and_then(|mut file| file.write_all(said.as_bytes())).expect("the list of tests that are left out");
+    }
 }
 
 pub fn is_root() -> bool {
