@@ -227,6 +227,24 @@ struct mortarbee_aimed mortarbee_targets(uint8_t comments, uint8_t callf, uint8_
 /* A room that is never too short: 1,024 lines. */
 #define MORTARBEE_TARGETS_ROOM 46080
 
+/* ---- Where each instruction and each piece of data of the listing stands, a line of 37 characters each, by place: 78, or 79 for what was dropped; 00 for an
+   instruction, 01 for data; then in four bytes each the address of its first byte and the one behind its last in the listing's own image, and both in the
+   image of the output (the same address twice where it was dropped). What no line holds is zero: a gap of an org, or a pad. Refusals: the listing's,
+   then 12 with the count. */
+struct mortarbee_mapped {
+    uint64_t number;
+    uint64_t place;
+    uint64_t argument;
+    int64_t amount;
+    uint64_t lines; /* bytes written to the room: 37 a row */
+    uint64_t rows;
+};
+
+struct mortarbee_mapped mortarbee_map(uint8_t comments, uint8_t callf, uint8_t folds, const uint8_t *listing, size_t listing_len, uint8_t *out, size_t out_len);
+
+/* A room that is never too short: 1,024 lines. */
+#define MORTARBEE_MAP_ROOM 37888
+
 /* ---- Why something stays: for each form or pattern that is tried on the end form, by place, a line of 27 characters: 75, what is tried (a form; 0x80 and up a
    pattern by its place in rule 3's order), the place in two bytes, the reason (1 a change jump, 2 an inner label inside, 3 one between the pattern's
    statements, 4 an offset beyond a pad, 5 the candidate is refused), and for 5 the refusal's number, place (two bytes), argument and amount (four bytes).

@@ -6,7 +6,7 @@
 #include "../mortarbee.h"
 #include "rooms.h"
 
-static uint64_t audits, told_rewrites, told_targets, told_reasons;
+static uint64_t audits, told_rewrites, told_targets, told_reasons, told_rows;
 static uint8_t run_image[MORTARBEE_IMAGE_ROOM], shipped_bytes[MORTARBEE_IMAGE_ROOM + 1];
 
 /* The settings by number: 1 keeps comments, 2 lets Callf shrink, 4 lets folds run. */
@@ -63,6 +63,51 @@ static void try_targets(unsigned set, const uint8_t *from, size_t n) {
         check(ask_targets(set, from, n, r.lines - 1).number == 12, "a room that is too short for the targets, and no 12");
     }
     told_targets += r.transfers;
+}
+
+static struct mortarbee_mapped ask_map(unsigned set, const uint8_t *from, size_t n, size_t room) {
+    lend(&listing_room, n, 0);
+    memcpy(listing_room.start, from, n);
+    lend(&out_room, room, next());
+    begin_call();
+    struct mortarbee_mapped r = mortarbee_map(set & 1, set & 2, set & 4, listing_room.start, n, out_room.start, room);
+    end_call();
+    check(memcmp(listing_room.start, from, n) == 0, "the listing was changed");
+    check(kept_from(&out_room, r.number ? 0 : r.lines), "a byte changed on refusal or behind the rows");
+    return r;
+}
+
+static uint64_t address_in(const uint8_t *digits) {
+    uint64_t a = 0;
+    for (int i = 0; i < 8; i++) {
+        a = 16 * a + (digits[i] <= '9' ? digits[i] - '0' : digits[i] - 'A' + 10);
+    }
+    return a;
+}
+
+/* Rows rise in both images, a dropped one has no byte in the short one, and what no row holds of the run's image is zero. */
+static void try_map(unsigned set, const uint8_t *from, size_t n, size_t image_n) {
+    struct mortarbee_mapped r = ask_map(set, from, n, MORTARBEE_MAP_ROOM);
+    check(r.number == 0 && r.lines == 37 * r.rows, "the count of the rows");
+    uint64_t long_end = 0, short_end = 0;
+    for (uint64_t i = 0; i < r.rows; i++) {
+        const uint8_t *line = out_room.start + 37 * i;
+        int dropped = line[1] == '9';
+        uint64_t a = address_in(line + 4), b = address_in(line + 12), c = address_in(line + 20), d = address_in(line + 28);
+        check(line[0] == '7' && (dropped || line[1] == '8') && line[36] == '\n', "a row is no line");
+        check(long_end <= a && a < b && short_end <= c && (dropped ? c == d : c < d && d <= image_n), "a row against its neighbours");
+        for (uint64_t at = short_end; at < c && at < image_n; at++) {
+            check(run_image[at] == 0, "a byte that no row holds, and no zero");
+        }
+        long_end = b, short_end = d;
+    }
+    for (uint64_t at = short_end; at < image_n; at++) {
+        check(run_image[at] == 0, "a byte behind the last row, and no zero");
+    }
+    if (r.rows > 0) {
+        check(ask_map(set, from, n, r.lines - 1).number == 12, "a room that is too short for the rows, and no 12");
+    }
+    told_rows += r.rows;
 }
 
 static struct mortarbee_told ask_why(unsigned set, const uint8_t *from, size_t n, size_t room) {
@@ -126,12 +171,15 @@ static void try_answers(unsigned set, const uint8_t *from, size_t n) {
         struct mortarbee_aimed a = ask_targets(set, from, n, 0);
         check(a.number == run.number && a.place == run.place && a.argument == run.argument && a.amount == run.amount, "the targets refused otherwise than the run");
         check(t.number == run.number && t.place == run.place && t.argument == run.argument && t.amount == run.amount, "the rewrites refused otherwise than the run");
+        struct mortarbee_mapped m = ask_map(set, from, n, 0);
+        check(m.number == run.number && m.place == run.place && m.argument == run.argument && m.amount == run.amount, "the map refused otherwise than the run");
         struct mortarbee_told w = ask_why(set, from, n, 0);
         check(w.number == run.number && w.place == run.place && w.argument == run.argument && w.amount == run.amount, "why refused otherwise than the run");
         return;
     }
     try_audit(set, from, n, run.image);
     try_targets(set, from, n);
+    try_map(set, from, n, run.image);
     struct mortarbee_told t = ask_steps(set, from, n, 21 * run.rewrites);
     check(t.number == 0 && t.rewrites == run.rewrites && t.lines == 21 * run.rewrites, "other rewrites than the run's");
     if (run.rewrites > 0) {

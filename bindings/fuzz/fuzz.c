@@ -224,8 +224,8 @@ int main(int argc, char **argv) {
     printf("; lists of stems: %llu; differences: %llu told, refused 1: %llu, 2: %llu, 13: %llu", (unsigned long long)lists_written,
            (unsigned long long)differences_told, (unsigned long long)differences_refused[1], (unsigned long long)differences_refused[2],
            (unsigned long long)differences_refused[13]);
-    printf("; audits: %llu, rewrites told: %llu, targets: %llu, reasons: %llu", (unsigned long long)audits, (unsigned long long)told_rewrites,
-           (unsigned long long)told_targets, (unsigned long long)told_reasons);
+    printf("; audits: %llu, rewrites told: %llu, targets: %llu, rows: %llu, reasons: %llu", (unsigned long long)audits,
+           (unsigned long long)told_rewrites, (unsigned long long)told_targets, (unsigned long long)told_rows, (unsigned long long)told_reasons);
     printf("; stores: %llu calls, %llu accepted runs under an edition; refused:", (unsigned long long)store_calls, (unsigned long long)under_runs);
     for (int i = 12; i <= 19; i++) {
         if (i == 12 || i >= 17) {

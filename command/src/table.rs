@@ -184,6 +184,13 @@ pub const WORDS: &[Word] = &[
         ..ROW
     },
     Word {
+        name: "map",
+        purpose: "where each instruction and each piece of data stands in the long image and in the short one",
+        options: RUN,
+        text: text!("map"),
+        ..ROW
+    },
+    Word {
         name: "why",
         purpose: "why each far jump and each pattern that is left stays; --words in words",
         options: &[&WORDS_TOO, &COMMENTS, &NO_CALLF, &NO_FOLDS],

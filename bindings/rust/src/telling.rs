@@ -1,4 +1,4 @@
-//! What a run did and left, over lent rooms: differences, an audit, the rewrites one by one, why something stays.
+//! What a run did and left, over lent rooms: differences, an audit, the rewrites one by one, the map, why something stays.
 
 use crate::{raw, Finding, NotCompared, Origin, Refusal, Settings, Whose};
 
@@ -6,6 +6,8 @@ use crate::{raw, Finding, NotCompared, Origin, Refusal, Settings, Whose};
 pub const DIFFERENCES_ROOM: usize = 129_024;
 /// A room that is never too short for `steps`.
 pub const STEPS_ROOM: usize = 64_512;
+/// A room that is never too short for `map`.
+pub const MAP_ROOM: usize = 37_888;
 /// A room that is never too short for `why`.
 pub const WHY_ROOM: usize = 55_296;
 
@@ -40,6 +42,14 @@ pub fn steps(asked: Settings, listing: &[u8], out: &mut [u8]) -> Result<usize, R
     let r = raw::steps(asked, listing, out);
     debug_assert_eq!(r.lines, 21 * r.rewrites);
     r.told.unless(r.rewrites as usize)
+}
+
+/// Writes where each instruction and each piece of data stands in the listing's own image and in that of the output, a row of 37
+/// characters each, and gives the number of rows.
+pub fn map(asked: Settings, listing: &[u8], out: &mut [u8]) -> Result<usize, Refusal> {
+    let r = raw::map(asked, listing, out);
+    debug_assert_eq!(r.lines, 37 * r.rows);
+    r.told.unless(r.rows as usize)
 }
 
 /// Writes why something stays, a line of 27 characters for each form or pattern that is tried on the end form, and gives their number.

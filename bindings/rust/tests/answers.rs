@@ -1,7 +1,7 @@
 //! An audit, the rewrites, the targets and why something stays, on document 01's whole run and beside it.
 use mortarbee::{
-    audit, optimize_jumps, steps, targets, why, Finding, Origin, Settings, Targets, IMAGE_ROOM, LISTING_ROOM, STEPS_ROOM, TARGETS_ROOM,
-    WHY_ROOM,
+    audit, map, optimize_jumps, steps, targets, why, Finding, Origin, Settings, Targets, IMAGE_ROOM, LISTING_ROOM, MAP_ROOM, STEPS_ROOM,
+    TARGETS_ROOM, WHY_ROOM,
 };
 
 const WHOLE: &[u8] = b"012E018001\n012B010001\n028001\n0143\n020001\n012B0000000005\n";
@@ -53,6 +53,18 @@ fn tells_the_targets() {
     let offset = b"012B100100010000000003\n020001\n012B010001\n0143\n";
     assert_eq!(targets(Settings::default(), offset, &mut out), Ok(Targets { transfers: 2, marked: 1 }));
     assert_eq!(&out[..45], b"740100000000000000060003000000000005FFFF0000\n");
+}
+
+#[test]
+fn maps_both_images() {
+    let mut out = vec![7; MAP_ROOM];
+    assert_eq!(map(Settings::default(), WHOLE, &mut out), Ok(4));
+    assert_eq!(&out[37..74], b"790000000002000000050000000200000002\n");
+    assert_eq!(&out[111..148], b"780000000006000000090000000300000005\n");
+    assert!(out[148..].iter().all(|&b| b == 7));
+    let mut short = [7; 147];
+    let r = map(Settings::default(), WHOLE, &mut short).unwrap_err();
+    assert_eq!((r.number, r.place, short), (12, 6, [7; 147]));
 }
 
 #[test]

@@ -14,6 +14,8 @@ mod help;
 mod image;
 #[cfg(feature = "core")]
 mod judge;
+#[cfg(feature = "all")]
+mod map;
 #[cfg(feature = "core")]
 mod optimize;
 #[cfg(feature = "all")]
@@ -79,6 +81,7 @@ fn beyond_core(name: &str) -> Option<Run> {
         "salvage" => salvage::run,
         "differences" => differences::run,
         "steps" => steps::run,
+        "map" => map::run,
         "why" => why::run,
         "page" => page::run,
         "audit" => audit::run,

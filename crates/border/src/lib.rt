@@ -3,6 +3,7 @@ mod answering; // an audit, the rewrites, and why something stays
 mod differing; // C-13
 mod exported; // C-21, C-24
 mod handed; // those of border_core
+mod placing; // the map of both images
 mod reading; // C-19
 mod replies; // answers of the store, as structs of numbers
 mod salvaging; // C-22, with its answer
@@ -20,6 +21,7 @@ pub use border_core::StemsReply;
 pub use border_core::TargetsReply;
 pub use border_differences::DiffersReply;
 pub use border_read::ReadReply;
+pub use border_walks::MapReply;
 pub use differing::mortarbee_differences;
 pub use exported::mortarbee_add_edition;
 pub use exported::mortarbee_drop_old;
@@ -38,6 +40,7 @@ pub use handed::mortarbee_stems;
 pub use handed::mortarbee_targets;
 pub use handed::mortarbee_text;
 pub use handed::mortarbee_where_sits;
+pub use placing::mortarbee_map;
 pub use reading::mortarbee_read;
 pub use replies::FoundReply;
 pub use replies::NumberedReply;

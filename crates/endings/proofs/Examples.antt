@@ -8,7 +8,7 @@ use Rattle.laws.specs.Lists.{same, each}
 use Rattle.laws.specs.Counts.{tab}
 use Rattle.rules.specs.Listing.{readListing}
 use Rattle.rules.proofs.Computed.{lines, all, freely}
-use Rattle.paths.specs.Walk.{class, codeFrom, codeAt, labelsFrom, isClouded}
+use Rattle.paths.specs.Walk.{class, codeFrom, codeAt, namesBefore, labelNames, isClouded}
 use Rattle.paths.proofs.Examples.{holdsOf}
 use Rattle.endings.specs.Endings.{Reason, isData, leavesMemory, behindCloud, computesLabel, intoMiddle, isNoAddress, isReturn, Listed, report}
 
@@ -23,7 +23,7 @@ numberOf isReturn = 7
 
 -- places and reasons, one behind the other
 unfoldable lists : String → List ℕ → Bool
-unfolding freely same class codeFrom codeAt labelsFrom isClouded report each tab
+unfolding freely same class codeFrom codeAt namesBefore labelNames isClouded report each tab
 lists text expected = holdsOf (λ p. same (each (λ (x : Listed). x .place ∷ numberOf (x .reason) ∷ []) (report p)) expected) (readListing (lines text))
 
 examples : List Bool

@@ -27,7 +27,8 @@ use Rattle.rules.specs.Judging.{worth, worthOf, namesOf, positionsFit}
 use Rattle.rules.specs.Rewriting.{movingOf, isChangeJump}
 use Rattle.promises.specs.Demand2.{Input}
 use Rattle.promises.proofs.Passes.{judge-passes}
-use Rattle.paths.specs.Walk.{Oracle, Class, jumps, calls, returns, tests, plain, class, Event, event, takenOn, Ending, going, offTheEnd, inData, inside, leaves, computed, clouded, unreturned, noAddress, Spot, here, done, State, startAt, Move, stop, on, pick, sameTest, acts, isCode, codeAt, toSpot, labelsFrom, isFollowed, aimAt, isClouded, entersInstr, entersAt, meetsAt, meets, Walk, halts, follow, run, walk}
+use Rattle.walk.specs.Walk.{sameTest}
+use Rattle.paths.specs.Walk.{Oracle, Class, jumps, calls, returns, tests, plain, class, Event, event, takenOn, Ending, going, offTheEnd, inData, inside, leaves, computed, clouded, unreturned, noAddress, Spot, here, done, State, startAt, Move, stop, on, pick, acts, isCode, codeAt, toSpot, labelNames, isFollowed, aimAt, isClouded, entersInstr, entersAt, meetsAt, meets, Walk, halts, follow, run, walk}
 use Rattle.paths.specs.SamePath.{itself}
 use Rattle.paths.proofs.Layouts.{Splits, splits-at, splits-behind}
 use Rattle.endings.specs.Endings.{Reason, isData, leavesMemory, behindCloud, computesLabel, intoMiddle, isNoAddress, isReturn, landing, valueReasons, targetReasons, classReasons, instrReasons, reasonsFor, reasonsAt, Listed, report, Lists, Named, Open}
@@ -83,7 +84,7 @@ module _ (p : Program) where
 
   target-fine : (i : Placeℕ) (k : ℕ) (x : Operand) → reasonsAt p i ≡ targetReasons p k x → FineSpot (aimAt p k x)
   target-fine i k (register r) h = value-fine i (worthOf (namesOf p) p k (register r)) h
-  target-fine i k (value e) h = split (isFollowed (labelsFrom 0 p) (movingOf p) k e) h
+  target-fine i k (value e) h = split (isFollowed (labelNames p) (movingOf p) k e) h
     where
       split : (b : Bool) → reasonsAt p i ≡ cond b (valueReasons p (worth (namesOf p) k e)) (computesLabel ∷ []) → FineSpot (cond b (toSpot (worth (namesOf p) k e)) (done (computed k e)))
       split true h = value-fine i (worth (namesOf p) k e) h

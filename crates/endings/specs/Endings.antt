@@ -16,7 +16,7 @@ use Rattle.rules.specs.Layout.{Origin}
 use Rattle.rules.specs.Names.{contextAt}
 use Rattle.rules.specs.Judging.{worth, worthOf, namesOf}
 use Rattle.rules.specs.Rewriting.{movingOf, isChangeJump}
-use Rattle.paths.specs.Walk.{Class, jumps, calls, returns, tests, plain, class, Ending, going, offTheEnd, inData, inside, leaves, computed, clouded, unreturned, noAddress, codeAt, labelsFrom, isFollowed, isClouded}
+use Rattle.paths.specs.Walk.{Class, jumps, calls, returns, tests, plain, class, Ending, going, offTheEnd, inData, inside, leaves, computed, clouded, unreturned, noAddress, codeAt, labelNames, isFollowed, isClouded}
 
 -- data, which a walk may come to; a change jump; a jump right behind a Not1 that computes with a label; a target that is computed with a label; one that
 -- falls into the middle of a statement; one that is no address; a return, which may find no address that a call has left
@@ -43,7 +43,7 @@ valueReasons p Nothing = isNoAddress ∷ []
 
 abbrev pub targetReasons : Program → (k : ℕ) → Operand → List Reason
 targetReasons p k (register r) = valueReasons p (worthOf (namesOf p) p k (register r))
-targetReasons p k (value e) = cond (isFollowed (labelsFrom 0 p) (movingOf p) k e) (valueReasons p (worth (namesOf p) k e)) (computesLabel ∷ [])
+targetReasons p k (value e) = cond (isFollowed (labelNames p) (movingOf p) k e) (valueReasons p (worth (namesOf p) k e)) (computesLabel ∷ [])
 targetReasons p k (inner i o) = valueReasons p (worthOf (namesOf p) p k (inner i o))
 
 abbrev pub classReasons : Class → (target : List Reason) → List Reason

@@ -1,7 +1,7 @@
 //! The answers of what libborder.a has beside the core, in vectors.
 
 use super::cut;
-use crate::{NotCompared, Refusal, Settings, DIFFERENCES_ROOM, READ_ROOM, REPORT_ROOM, SALVAGE_ROOM, STEPS_ROOM, WHY_ROOM};
+use crate::{NotCompared, Refusal, Settings, DIFFERENCES_ROOM, MAP_ROOM, READ_ROOM, REPORT_ROOM, SALVAGE_ROOM, STEPS_ROOM, WHY_ROOM};
 
 pub fn read(text: &[u8]) -> Result<Vec<u8>, Refusal> {
     let mut listing = vec![0; READ_ROOM];
@@ -42,6 +42,13 @@ pub fn steps(asked: Settings, listing: &[u8]) -> Result<Vec<u8>, Refusal> {
     let mut out = vec![0; STEPS_ROOM];
     let n = crate::steps(asked, listing, &mut out)?;
     Ok(cut(out, 21 * n))
+}
+
+/// The lines 78 and 79.
+pub fn map(asked: Settings, listing: &[u8]) -> Result<Vec<u8>, Refusal> {
+    let mut out = vec![0; MAP_ROOM];
+    let n = crate::map(asked, listing, &mut out)?;
+    Ok(cut(out, 37 * n))
 }
 
 /// The lines 75.

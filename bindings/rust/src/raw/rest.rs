@@ -44,6 +44,13 @@ pub struct StepsReply {
 }
 
 #[repr(C)]
+pub struct MapReply {
+    pub told: Told,
+    pub lines: u64,
+    pub rows: u64,
+}
+
+#[repr(C)]
 pub struct NumberedReply {
     pub told: Told,
     pub edition: u64,
@@ -109,6 +116,7 @@ extern "C" {
         out: *mut u8,
         out_len: usize,
     ) -> StepsReply;
+    fn mortarbee_map(comments: u8, callf: u8, folds: u8, listing: *const u8, listing_len: usize, out: *mut u8, out_len: usize) -> MapReply;
     fn mortarbee_why(
         comments: u8,
         callf: u8,
@@ -173,6 +181,10 @@ pub fn audit(asked: Settings, listing: &[u8], shipped: &[u8]) -> AuditReply {
 
 pub fn steps(asked: Settings, listing: &[u8], out: &mut [u8]) -> StepsReply {
     tell(mortarbee_steps, asked, listing, out)
+}
+
+pub fn map(asked: Settings, listing: &[u8], out: &mut [u8]) -> MapReply {
+    tell(mortarbee_map, asked, listing, out)
 }
 
 pub fn why(asked: Settings, listing: &[u8], out: &mut [u8]) -> StepsReply {
