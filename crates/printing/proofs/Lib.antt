@@ -1,5 +1,6 @@
 pub mod Places
 pub mod Lines
+pub mod OtherLines
 pub mod Pages
 -- ---- what the contracts say
 pub mod Coincide
