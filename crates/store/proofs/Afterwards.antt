@@ -67,7 +67,7 @@ number-is f e ss old h = on (find f e ss) (require-ok (leb 1 e) Unknown (known e
     on (some w) q = ap numberOf q
 
 -- a family's newest edition is held
-newest-held : (f : ℕ) (ss : Store) → 1 ≤ newest f ss → (w : ℕ) × (find f (newest f ss) ss ≡ some w)
+pub newest-held : (f : ℕ) (ss : Store) → 1 ≤ newest f ss → (w : ℕ) × (find f (newest f ss) ss ≡ some w)
 unfolding newest find
 newest-held f [] h = absurd (omega arith)
 newest-held f (s ∷ ss) h = on (eqb (s .family) f) refl h (newest-held f ss)
@@ -181,6 +181,11 @@ module _ (room : List ℕ) (f e : ℕ) (h : dropIn room f ≡ ok e) where
   unfolding getNewest
   same-newest = rw (drop-facts .newest-stays) (get-same f (newest f (storeIn room)) kept (storeIn room) (drop-facts .still-held))
 
+  other-newest : (g : ℕ) → g ≢ f → getNewest g kept ≡ getNewest g (storeIn room)
+  unfolding getNewest
+  other-newest g n =
+      rw (drop-facts .others-newest g n) (get-same g (newest g (storeIn room)) kept (storeIn room) (λ l. drop-facts .others g (newest g (storeIn room)) l n))
+
   gone : (n : ℕ) → n < e → get f n kept ≡ no Unknown
   gone zero l = get-zero f kept
   gone (suc n) l = get-none f (suc n) kept (drop-facts .old-gone (suc n) (omega arith) (omega (arith, top)))
@@ -193,6 +198,7 @@ module _ (room : List ℕ) (f e : ℕ) (h : dropIn room f ≡ ok e) where
         others =
             λ g n o. then-drop (λ ss. get g n ss) ∙ get-same g n kept (storeIn room) (λ l. drop-facts .others g n l o)
             ∙ sym (before-drop (λ ss. get g n ss));
+        others-newest = λ g o. then-drop (λ ss. getNewest g ss) ∙ other-newest g o ∙ sym (before-drop (λ ss. getNewest g ss));
         next-number = λ n a. sym (add-ok f n kept (sym (then-drop (λ ss. add f ss)) ∙ a) .2) ∙ ap suc (drop-facts .newest-stays ∙ top);
         room-back = rw (held .store, ← top) (drop-facts .room-back);
       }

@@ -7,6 +7,7 @@ pub mod Afterwards
 pub mod ShowsAll
 pub mod Never19
 pub mod Causes
+pub mod Lacking
 -- ---- what the code's contracts say
 pub mod Coincide
 -- ---- laws of the code

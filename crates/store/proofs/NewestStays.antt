@@ -120,6 +120,16 @@ module _ (f top : ℕ) where
       on false true p q below = rw (q, below) (new-more top (s .edition) (newest f ss) (not-old f top s p (eqb-true (s .family) f q)))
       on false false p q below = rw q below
 
+  newest-other : (g : ℕ) → (g ≡ f → ⊥) → (ss : Store) → newest g (kept ss) ≡ newest g ss
+  unfolding newest
+  newest-other g n [] = refl
+  newest-other g n (s ∷ ss) = on (isOld f top s) refl (newest-other g n ss)
+    where
+      on : (o : Bool) → isOld f top s ≡ o → newest g (kept ss) ≡ newest g ss → newest g (cond o free s ∷ kept ss) ≡ newest g (s ∷ ss)
+      on true p below =
+          free-newest g free (kept ss) refl ∙ below ∙ sym (rw (ne-eqb (s .family) g (λ q. n (sym q ∙ old-is f top s p .family))))
+      on false p below = ap (λ (k : ℕ). cond (eqb (s .family) g) (max (s .edition) k) k) below
+
   -- ---- still good
   range-kept : (ss : Store) → every (λ s. inRange s) ss ≡ true → every (λ s. inRange s) (kept ss) ≡ true
   unfolding every
@@ -179,6 +189,7 @@ drops ss f =
       newest-stays = newest-kept f top ss ∙ top-more top top (omega arith);
       still-held = λ l. find-kept f top f top ss l ∙ rw (eq-eqb f f refl, le-ltb top top (omega arith));
       others = λ g e l n. find-kept f top g e ss l ∙ rw (ne-eqb g f n);
+      others-newest = λ g n. newest-other f top g n ss;
       old-gone = λ e l m. find-kept f top f e ss l ∙ rw (eq-eqb f f refl, lt-ltb e top m);
       room-back = free-kept f top ss;
       good = λ k. still-good (and-true (every (λ s. inRange s) ss) (noneTwice ss) k);

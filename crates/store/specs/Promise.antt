@@ -2,19 +2,19 @@
 use mathlib.Core.Path.{_≡_}
 use mathlib.Core.Option.{none, some}
 use mathlib.Core.Bool.{true, false, cond}
-use mathlib.Core.Logic.{_≢_}
+use mathlib.Core.Logic.{_≢_, _⊎_}
 use mathlib.Core.List.{List}
 use Prim.Native.Nat.{ℕ, suc, _+_, _≤_, _<_}
 use lib.ListN.{length, take, drop, replicate}
 use Rattle.laws.specs.Lists.{total}
 use Rattle.rules.specs.declared.Refusal.{Refusal}
-use Rattle.rules.specs.declared.Refusal.the-variants.{Room, Unknown, Store as BadStore}
+use Rattle.rules.specs.declared.Refusal.the-variants.{Room, Unknown, Full, Store as BadStore}
 use Rattle.rules.specs.declared.Settings.{Settings}
 use Rattle.rules.specs.Answers.{Judged, ok, no}
 use Rattle.store.specs.declared.Setting.{Setting}
 use Rattle.store.specs.declared.Edition.{Edition}
 use Rattle.store.specs.Switches.{switchesOf, settingsOf}
-use Rattle.store.specs.Store.{Store, isFree, isOld, isGood, find, newest, added, dropped}
+use Rattle.store.specs.Store.{Store, isFree, isOld, isGood, find, newest, get, getNewest, hasFree, added, add, dropped, dropOld}
 use Rattle.store.specs.Rooms.{storeBytes, storeIn, getIn, newestIn, placeIn, addIn, dropIn, afterAdd, afterDrop}
 
 -- "a new edition, numbered one above the newest from 1 on, never alters an old one, and the newest can be asked for"
@@ -35,6 +35,7 @@ pub record Drops (ss : Store) (f : ℕ) : Type 0 where
   pub newest-stays : newest f (dropped f ss) ≡ newest f ss
   pub still-held : 1 ≤ newest f ss → find f (newest f ss) (dropped f ss) ≡ find f (newest f ss) ss
   pub others : (g e : ℕ) → 1 ≤ e → g ≢ f → find g e (dropped f ss) ≡ find g e ss
+  pub others-newest : (g : ℕ) → g ≢ f → newest g (dropped f ss) ≡ newest g ss
   pub old-gone : (e : ℕ) → 1 ≤ e → e < newest f ss → find f e (dropped f ss) ≡ none
   pub room-back : total freed (dropped f ss) ≡ total freed ss + total (λ s. cond (isOld f (newest f ss) s) 1 0) ss
   pub good : isGood ss ≡ true → isGood (dropped f ss) ≡ true
@@ -80,6 +81,7 @@ pub record Thinned (room : List ℕ) (f e : ℕ) : Type 0 where
   pub newest-stays : newestIn (afterDrop room f) f ≡ newestIn room f
   pub old-gone : (n : ℕ) → n < e → getIn (afterDrop room f) f n ≡ no Unknown
   pub others : (g n : ℕ) → g ≢ f → getIn (afterDrop room f) g n ≡ getIn room g n
+  pub others-newest : (g : ℕ) → g ≢ f → newestIn (afterDrop room f) g ≡ newestIn room g
   -- the numbers go on where they were
   pub next-number : (n : ℕ) → addIn (afterDrop room f) f ≡ ok n → n ≡ suc e
   -- "gives their room back"
@@ -91,6 +93,13 @@ pub data StoreCause {A : Type 0} (room : List ℕ) (asked : Store → Judged A) 
   short : length room < storeBytes → r ≡ Room 0 → StoreCause room asked r
   bad : storeBytes ≤ length room → isGood (storeIn room) ≡ false → r ≡ BadStore → StoreCause room asked r
   refused : storeBytes ≤ length room → isGood (storeIn room) ≡ true → asked (storeIn room) ≡ no r → StoreCause room asked r
+
+-- "unknown family or edition 17; store full after reuse, or a family at edition 65,535, 18": what a good store lacks that refuses what it is asked
+pub record Lacks (ss : Store) (f : ℕ) : Type 0 where
+  pub get-17 : (e : ℕ) (r : Refusal) → get f e ss ≡ no r → (r ≡ Unknown) × ((e ≡ 0) ⊎ (find f e ss ≡ none))
+  pub newest-17 : (r : Refusal) → getNewest f ss ≡ no r → (r ≡ Unknown) × (newest f ss ≡ 0)
+  pub drop-17 : (r : Refusal) → dropOld f ss ≡ no r → (r ≡ Unknown) × (newest f ss ≡ 0)
+  pub add-18 : (r : Refusal) → add f ss ≡ no r → (r ≡ Full) × ((hasFree ss ≡ false) ⊎ (65535 ≤ newest f ss))
 
 -- what is shown place by place is what can be asked for: each edition, and nothing else
 pub record ShownRight (room : List ℕ) : Type 0 where
