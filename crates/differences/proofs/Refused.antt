@@ -9,7 +9,7 @@ use native.Mathlib.Omega.{arith}
 use lib.Dec.{leb, ltb, eqb}
 use lib.ListN.{length, getD, drop, length-append, drop-of-length-le}
 use lib.Seq.{drop-cons}
-use borrow.Author.Tests.{leb-true, leb-false, eqb-true, eqb-false}
+use borrow.Author.Tests.{leb-true, leb-false, ltb-true, eqb-true, eqb-false}
 use Rattle.laws.specs.Lists.{total, each}
 use Rattle.laws.proofs.Lists.{total-append}
 use Rattle.laws.proofs.Tests.{clash, and-true}
@@ -25,12 +25,13 @@ use Rattle.digits.specs.Digits.{hexOf}
 use Rattle.digits.proofs.Rooms.{length-hex}
 use Rattle.listing.proofs.DigitPairs.{length-unhex}
 use Rattle.pairing.specs.Pairings.{Frame, Frames, framesOf, goodFrom, goodEntries, entriesIn, pairsOf}
-use Rattle.pairing.proofs.Accepted.{listing-read}
+use Rattle.pairing.proofs.Accepted.{accepted-lines, listing-read}
 use Rattle.pairing.proofs.Orders.{pairs-order}
 use Rattle.differences.specs.Changes.{Change, kept, removed, added, changed, changesOf, bytesOf, textOf}
 use Rattle.differences.specs.Differences.{Differing, text, ofFirst, ofSecond, ofBoth, after, sameForm, readSecond, compared, differences}
-use Rattle.differences.specs.Promise.{Entry, inFirst, inSecond, entriesFrom, BothRead, goodIn, wholeText, Cause, Causes, NeverShort}
+use Rattle.differences.specs.Promise.{Entry, inFirst, inSecond, entriesFrom, BothRead, goodIn, wholeText, Cause, Causes, NeverShort, IndexFits}
 use Rattle.differences.proofs.Says.{says-both}
+use Rattle.differences.proofs.TextBack.{count-frames}
 
 -- ---- causes
 -- no more entries are good than there are
@@ -42,6 +43,20 @@ good-few n m low j (i ∷ is) = on (leb low i && (ltb i n && ltb j m)) (good-few
     on : (b : Bool) → goodFrom n m (suc i) (suc j) is ≤ length is → cond b (suc (goodFrom n m (suc i) (suc j) is)) 0 ≤ suc (length is)
     on true h = omega arith
     on false h = omega arith
+
+-- nor more than the second listing has statements left
+good-within : (n m low j : ℕ) (is : List ℕ) → j ≤ m → goodFrom n m low j is + j ≤ m
+unfolding goodFrom
+good-within n m low j [] h = omega arith
+good-within n m low j (i ∷ is) h = on (leb low i && (ltb i n && ltb j m)) refl (good-within n m (suc i) (suc j) is)
+  where
+    on : (b : Bool) → leb low i && (ltb i n && ltb j m) ≡ b → (suc j ≤ m → goodFrom n m (suc i) (suc j) is + suc j ≤ m)
+        → cond b (suc (goodFrom n m (suc i) (suc j) is)) 0 + j ≤ m
+    on true e below =
+        let a = and-true (leb low i) (ltb i n && ltb j m) e in
+        let l = ltb-true j m (and-true (ltb i n) (ltb j m) (a .1) .1) in
+        omega (arith, below (omega arith))
+    on false e below = omega arith
 
 module _ (first second : List ℕ) (pairing : Option (List ℕ)) (room : ℕ) where
   abbrev forms : Bool
@@ -202,3 +217,23 @@ module _ (first second : List ℕ) (pairing : Option (List ℕ)) (room : ℕ) wh
       on (ofSecond r) c z = clash (cc)
       on (ofBoth r) c z =
           ⊎-elim (λ h. let y = h .1 in clash (cc)) (λ h. omega (arith, l, whole-few (c .0) (h .0), h .2)) (c .1)
+
+  -- index-fits: two bytes hold 13's index
+  pub index-fits : IndexFits first second pairing room
+  unfolding goodEntries
+  index-fits k e = on (differences first second pairing room) (causes first second pairing room) e
+    where
+      few : BothRead first second → goodIn first second pairing ≤ 1024
+      few b =
+          omega
+          (arith,
+          good-within (length (framesOf first)) (length (framesOf second)) 0 0 (entriesIn pairing) (omega arith),
+          count-frames second,
+          accepted-lines second (b .program′) (b .reads′) .few)
+
+      on : (x : Differing) → Cause first second pairing room x → x ≡ ofBoth (Pairing k) → k ≤ 1024
+      on (text t) c z = clash (cc)
+      on (ofFirst r) c z = clash (cc)
+      on (ofSecond r) c z = clash (cc)
+      on (ofBoth r) c z =
+          ⊎-elim (λ h. let y = h .1 in let same : k ≡ goodIn first second pairing = cc in omega (arith, same, few (c .0))) (λ h. let y = h .1 in clash (cc)) (c .1)

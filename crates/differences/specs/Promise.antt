@@ -137,3 +137,7 @@ Causes first second pairing room = Cause first second pairing room (differences 
 -- twice 57,344 characters, and seven more for each of twice 1,024 statements
 abbrev pub NeverShort : (first second : List ℕ) (pairing : Option (List ℕ)) (room : ℕ) → Type 0
 NeverShort first second pairing room = 129024 ≤ room → (n : ℕ) → differences first second pairing room ≡ ofBoth (Room n) → ⊥
+
+-- 13's index is one of the second listing's places, or the place behind the last
+abbrev pub IndexFits : (first second : List ℕ) (pairing : Option (List ℕ)) (room : ℕ) → Type 0
+IndexFits first second pairing room = (k : ℕ) → differences first second pairing room ≡ ofBoth (Pairing k) → k ≤ 1024
