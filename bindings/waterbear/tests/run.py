@@ -13,8 +13,7 @@ LIMITS = (
     "an expression takes n bytes",
     "after packing it has n statements",
 )
-# A transfer to a number, nothing else before it.
-TRANSFER = r"(?:jmpf?|brf?|bn?z|callf?|callr) (\d+)"
+TRANSFERS = "jmp jmpf br brf bz bnz bp bpc bn dbnz be bne call callf callr".split()
 
 
 def plain_numbers(text):
@@ -95,6 +94,13 @@ def places(info):
     return by_address, by_place
 
 
+def number_target(instruction):
+    """The target of a transfer that is a plain number, or None."""
+    mnemonic, *operands = (instruction["text"] if instruction else "").lower().split(None, 1)[:2] or [""]
+    target = operands[0].split(",")[-1].strip() if operands else ""
+    return int(target) if mnemonic in TRANSFERS and target.isdigit() else None
+
+
 def stale(before, after):
     """A transfer to a number that named an instruction and names another one now, or None. A change jump keeps its number."""
     was, old = places(before)
@@ -104,8 +110,8 @@ def stale(before, after):
         change, last = last.startswith("not1"), instruction["text"]
         place = json.dumps(instruction["span"], sort_keys=True)
         kept = new.get(place) if old[place] else None
-        first, second = (re.fullmatch(TRANSFER, i["text"].lower()) if i else None for i in (instruction, kept))
-        if first and second and int(first[1]) in was and was[int(first[1])] != now.get(int(second[1])) and not change:
+        first, second = number_target(instruction), number_target(kept)
+        if first in was and second is not None and was[first] != now.get(second) and not change:
             return instruction["text"], kept["text"]
     return None
 
