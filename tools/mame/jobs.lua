@@ -144,8 +144,9 @@ function jobs.each(w)
     out:close()
 end
 
-local STATE = "%04X %08X %02X%02X%02X %02X %02X %02X%02X %02X %08X %016X%016X | "
-local SHOWN = "curpc,totalcycles,db@100,db@102,db@103,db@101,db@106,db@105,db@104,db@10d,dd@0,dq@20,dq@28"
+-- MAME parses this again at each step: few words make it fast. 100 to 107 are A, PSW, B, C, TRL, TRH, SP and PCON, 10D is EXT.
+local STATE = "%08X %016X %02X %08X %016X%016X | "
+local SHOWN = "totalcycles,dq@100,db@10d,dd@0,dq@20,dq@28"
 
 function jobs.walks(w)
     debugger:command("trace " .. w[3] .. ",maincpu,noloop,{tracelog \"" .. STATE .. "\"," .. SHOWN .. "}")

@@ -63,11 +63,11 @@ def parted(path):
 class Step:
     """A line of a walk: where it is, how many cycles were counted, the state before it, and what MAME says stands there."""
 
-    NAMES = ("A, B, C", "PSW", "SP", "TR", "EXT", "R0 to R3", "20 to 2F")
+    NAMES = ("A, PSW, B, C, TRL, TRH, SP, PCON", "EXT", "R0 to R3", "20 to 2F")
 
     def __init__(self, line):
         head, said = line.split(" | ", 1)
-        self.pc, self.cycles, self.state = int(head[:4], 16), int(head[5:13], 16), head[14:]
+        self.pc, self.cycles, self.state = int(said[:4], 16), int(head[:8], 16), head[9:]
         self.said = said[6:].split()
 
     def show(self):
