@@ -1,6 +1,6 @@
 //! What a word hands back, and how it is written: standard output or a file, standard error, the status.
 
-use crate::files::{self, Put};
+use crate::files::{self, Put, Target};
 use crate::table::Word;
 use std::ffi::OsString;
 use std::io::Write;
@@ -15,11 +15,13 @@ pub struct Answer {
     pub refused: bool,
     /// What was done already, for one that cannot be written.
     pub done: String,
+    /// Another file that goes with it: where both are files, both are written or none.
+    pub beside: Option<(OsString, Vec<u8>)>,
 }
 
 impl Answer {
     pub fn good(out: impl Into<Vec<u8>>) -> Answer {
-        Answer { out: out.into(), said: String::new(), status: 0, refused: false, done: String::new() }
+        Answer { out: out.into(), said: String::new(), status: 0, refused: false, done: String::new(), beside: None }
     }
 
     #[cfg(feature = "core")]
@@ -70,6 +72,21 @@ pub fn complain(word: Option<&Word>, stop: Stop) -> i32 {
     2
 }
 
+fn put(answer: &Answer, output: Option<OsString>) -> Result<Put, Stop> {
+    let output = output.filter(|file| !answer.refused && *file != *"-");
+    if let Some((beside, bytes)) = &answer.beside {
+        let targets = (files::target_of(beside)?, output.as_deref().map(files::target_of).transpose()?);
+        if let (Target::File(beside), Some(Target::File(path))) = targets {
+            return files::replace_all(&[(beside, bytes.as_slice()), (path, answer.out.as_slice())]).map(|()| Put::Whole);
+        }
+        files::put_file(beside, bytes)?;
+    }
+    match output {
+        Some(file) => files::put_file(&file, &answer.out),
+        None => files::put_out(&answer.out),
+    }
+}
+
 /// Writes the answer, and gives the status. What is said of an accepted one comes last, where it is not scrolled away.
 pub fn finish(word: &Word, made: Result<Written, Stop>) -> i32 {
     let Written { answer, output } = match made {
@@ -79,11 +96,7 @@ pub fn finish(word: &Word, made: Result<Written, Stop>) -> i32 {
     if answer.status != 0 {
         say(&answer.said);
     }
-    let put = match output {
-        Some(file) if !answer.refused && file != *"-" => files::put_file(&file, &answer.out),
-        _ => files::put_out(&answer.out),
-    };
-    match put {
+    match put(&answer, output) {
         Ok(Put::Whole) => {}
         Ok(Put::NobodyReads) => return answer.status,
         Err(stop) => {

@@ -237,6 +237,19 @@ fn eight_at_once_get_eight_editions() {
     assert!(f.has("s") && f.is_clean());
 }
 
+#[test]
+fn a_report_and_its_listing_are_both_or_none() {
+    let f = Folder::new("report");
+    assert_eq!(f.status("m salvage bad.lst --report told -o new.lst"), Some(0));
+    assert_eq!((f.read("told").as_str(), f.read("new.lst").as_str()), ("7B010000\n", "0430313433\n"));
+    for output in ["no/such", ".", "/dev/full"] {
+        assert_eq!(f.status(&format!("m salvage good.lst --report told -o {output}")), Some(2), "{output}");
+    }
+    assert_eq!(f.status("m salvage good.lst --report no/such -o new.lst"), Some(2));
+    assert_eq!(f.read("new.lst"), "0430313433\n");
+    assert!(f.is_clean());
+}
+
 /// What was done before an answer could not be written is told.
 #[test]
 fn what_was_done_already_is_told() {

@@ -9,10 +9,7 @@ pub use input::look_at;
 pub use input::take;
 #[cfg(feature = "core")]
 pub use input::{input, Input};
-pub use output::{put_file, put_out, Put};
-#[cfg(feature = "core")]
-pub use output::{target_of, Target};
-#[cfg(feature = "core")]
+pub use output::{put_file, put_out, target_of, Put, Target};
 pub use replace::replace_all;
 #[cfg(feature = "all")]
 pub use replace::{folder_of, replace, resolve};

@@ -20,11 +20,9 @@ pub fn run(call: &Call) -> Result<Answer, Stop> {
     }
     let input = files::input(call)?;
     let saved = owned::salvage(&input.bytes);
-    if let Some(report) = report {
-        files::put_file(report, &saved.report)?;
-    }
     let said = wording(&input, saved.statements, &saved.report);
-    Ok(Answer::good(saved.listing).saying(said))
+    let beside = report.map(|report| (report.to_owned(), saved.report));
+    Ok(Answer { beside, ..Answer::good(saved.listing).saying(said) })
 }
 
 /// The report has a file of its own: not the one that the listing goes to, nor the text. What goes to /dev/null is not wanted.
