@@ -28,6 +28,10 @@ fn wrong_character(line: &[u8], ended: bool, at: usize) -> Reason {
         Some(b' ') => "a space stands beside operators only".into(),
         Some(b',') if line[..at].iter().filter(|c| **c == b',').count() > 14 => "16 items at most".into(),
         Some(c) if c.is_ascii_digit() && at > 0 && line[at - 1].is_ascii_digit() => "the number is too large".into(),
+        // behind a mnemonic one space is good; behind any other one an operator comes
+        Some(c) if at > 0 && line[at - 1] == b' ' && line[..at - 1].contains(&b' ') => {
+            format!("{}; a space stands beside operators only", character(*c))
+        }
         Some(c) => format!("{}, which no good line has here", character(*c)),
         None if ended => "the line ends here; more is expected".into(),
         None => "the text ends here; a line feed is expected behind each line".into(),
