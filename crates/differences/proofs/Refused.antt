@@ -225,11 +225,12 @@ module _ (first second : List ℕ) (pairing : Option (List ℕ)) (room : ℕ) wh
     where
       few : BothRead first second → goodIn first second pairing ≤ 1024
       few b =
-          omega
-          (arith,
-          good-within (length (framesOf first)) (length (framesOf second)) 0 0 (entriesIn pairing) (omega arith),
-          count-frames second,
-          accepted-lines second (b .program′) (b .reads′) .few)
+          omega (
+            arith,
+            good-within (length (framesOf first)) (length (framesOf second)) 0 0 (entriesIn pairing) (omega arith),
+            count-frames second,
+            accepted-lines second (b .program′) (b .reads′) .few,
+          )
 
       on : (x : Differing) → Cause first second pairing room x → x ≡ ofBoth (Pairing k) → k ≤ 1024
       on (text t) c z = clash (cc)
