@@ -29,6 +29,7 @@ use Rattle.staying.specs.Lines.{whyLines}
 use Rattle.staying.specs.Promise.{isReason, allStay}
 use Rattle.staying.proofs.Complete.{complete}
 use Rattle.staying.proofs.Listed.{listed}
+use Rattle.staying.proofs.Exactly.{exactly}
 use Rattle.staying.proofs.Few.{few}
 use Rattle.why.specs.Entry.{Told, endTold, chainTold, toldIn, told}
 use Rattle.why.specs.Promise.{AllTold, AsRun}
@@ -78,6 +79,7 @@ module _ (asked : Settings) (text : List ℕ) (room : ℕ) where
         reasoned = ap (every (λ (w : Why). isReason (w .reason))) at-end ∙ complete asked end .reasoned (ends (o .0));
         complete = complete asked end;
         listed = listed asked end;
+        exactly = exactly asked end;
       }
 
   -- two lines for each of 1,024 statements

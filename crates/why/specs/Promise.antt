@@ -15,10 +15,11 @@ use Rattle.rules.specs.Run.{Output, run}
 use Rattle.starting.specs.Begun.{accepted}
 use Rattle.staying.specs.Reasons.{whys}
 use Rattle.staying.specs.Promise.{isReason, Complete, Listed}
+use Rattle.staying.specs.Exactly.{Exactly}
 use Rattle.why.specs.Entry.{Told, told}
 
 -- of a listing whose reasons are told: they are those of its end form, where no rewrite remains; none says that an attempt counts, nothing is left out, and
--- each Jmpf and Callf that is left and each branch that begins a pattern has its lines
+-- each Jmpf and Callf that is left and each branch that begins a pattern has its lines, and nothing else has; each reason is the true one
 pub record AllTold (asked : Settings) (text : List ℕ) (x : Told) : Type 0 where
   pub program : Program
   pub accepted-as : accepted text ≡ ok program
@@ -27,6 +28,7 @@ pub record AllTold (asked : Settings) (text : List ℕ) (x : Told) : Type 0 wher
   pub reasoned : every (λ w. isReason (w .reason)) (x .whys) ≡ true
   pub complete : Complete asked (optimized asked program .program)
   pub listed : Listed asked (optimized asked program .program)
+  pub exactly : Exactly asked (optimized asked program .program)
 
 -- a refusal but 12 is the run's, whatever rooms that is lent; and 12 is never given of a room that holds two lines for each of 1,024 statements
 pub record AsRun (asked : Settings) (text : List ℕ) (room : ℕ) : Type 0 where
