@@ -14,7 +14,7 @@ TABLE = range(64)               # what Ldc reads: it stands first in every listi
 
 
 class Unreachable(Exception):
-    """A branch is too far from its target, or a jump in another page."""
+    """A branch is too far from its target, a jump in another page, or the program goes past the end of the memory."""
 
 
 class Target:
@@ -138,6 +138,8 @@ class Program:
     def frames(self):
         """Variables first: each is the number of its label, as people write entry addresses (C-15)."""
         self.end = self.lay_out()
+        if self.end > 65535:
+            raise Unreachable
         self.check_reach()
         return [bee.variable(v, number(self.at[n])) for n, v in self.variables.items()] + [s.frame() for s in self.statements]
 

@@ -12,7 +12,7 @@ BEFORE = [0x80, 4, 3, 2, 1, 0]  # how far before the end of a page an instructio
 LAST = [0xFFF0, 0xFFFC, 0xFFFD]  # before the end of the memory
 CELLS = [0x20, 0x2F, 0x102, 0x103]
 ALWAYS = ("Br", "Jmp", "Jmpf", "Brf", "Call", "Callf", "Callr")
-TIME = .1                       # milliseconds: some five cycles
+TIME = .3                       # milliseconds: some fifteen cycles; Mul and Div take seven
 
 
 def targets_at(form, behind):
