@@ -23,7 +23,8 @@ use Rattle.grammar.specs.Reading.{isDecimal, worth, look, spaces, touche
 use Rattle.grammar.specs.Going as going
 use Rattle.grammar.specs.Going.{Read, got, stuck, onGot, digits, fixed, classOf, leaf, paren, led, start, skip, infixOf, opAt, isSome, gap, close, Mode, alone, whole, rest, Goes, leafs, opens, signs, nones, ends, fails, firsts, sinks, stops, agains, breaks}
 use Rattle.grammar.proofs.Digits.{AllDigits, first-digit, digits-all, fixed-all}
-use Rattle.grammar.proofs.Starts.{class-digit, FineLed, fine-led, sign-starts, start-sign, paren-starts, start-paren, start-global, start-local}
+use Rattle.grammar.proofs.Classes.{class-digit, FineLed, fine-led}
+use Rattle.grammar.proofs.Starts.{sign-starts, start-sign, paren-starts, start-paren, start-global, start-local}
 use Rattle.grammar.proofs.Spaces.{skip-clear, skip-spaces, skip-over, sign-clear, infix-sign, op-at, op-other, head-look}
 use Rattle.grammar.proofs.Goings.{HasOp, touch-look}
 use Rattle.grammar.proofs.Determined.{determined}

@@ -3,6 +3,7 @@ pub mod Takes
 pub mod Digits
 pub mod Lexes
 pub mod Spaces
+pub mod Classes
 pub mod Starts
 pub mod Goings
 pub mod Determined

@@ -25,8 +25,9 @@ use Rattle.grammar.specs.Reading.{isDecimal, look, levelOf}
 use Rattle.grammar.specs.Going as going
 use Rattle.grammar.specs.Going.{Read, got, stuck, onGot, digits, fixed, Class, classOf, leaf, sign, nothing, ledBy, led, startBy, start, skip, infixOf, opAt, alone, Goes, leafs, nones}
 use Rattle.leaves.specs.Answering.{Valued, Put, Answered, codeOf, signCode}
-use Rattle.grammar.proofs.Starts as starts
-use Rattle.grammar.proofs.Starts.{class-is, class-digit, start-global, start-local, start-dot}
+use Rattle.grammar.proofs.Classes as classes
+use Rattle.grammar.proofs.Classes.{class-is, class-digit}
+use Rattle.grammar.proofs.Starts.{start-global, start-local, start-dot}
 use Rattle.grammar.proofs.Spaces.{skip-clear, op-at, op-other, infix-sign}
 
 -- ---- parts of a text
@@ -95,7 +96,7 @@ unfolding led
 sign-none [] e f g = refl
 sign-none (c ∷ t) e f g = by (classOf c) (class-is c)
   where
-    by : (k : Class) → starts.Is c k → signCode (ledBy k c t) ≡ 0
+    by : (k : Class) → classes.Is c k → signCode (ledBy k c t) ≡ 0
     by going.digit p = refl
     by going.minus p = absurd (g p)
     by going.global p = refl
@@ -121,7 +122,7 @@ sign-led (c ∷ t) = on (eqb c 32) refl
     on true q = ap signCode (space-led (c ∷ t) (eqb-true c 32 q))
     on false q = by (classOf c) (class-is c) ∙ ap (λ x. signCode (led x)) (sym (skip-clear (c ∷ t) q))
       where
-        by : (k : Class) → starts.Is c k → signCode (startBy k c t) ≡ signCode (ledBy k c t)
+        by : (k : Class) → classes.Is c k → signCode (startBy k c t) ≡ signCode (ledBy k c t)
         by going.digit p = refl
         by going.minus p = at (isDecimal (look t))
           where
@@ -161,7 +162,7 @@ unfolding led
 led-other [] m z = refl
 led-other (c ∷ t) m z = by (classOf c) (class-is c) z
   where
-    by : (k : Class) → starts.Is c k → signCode (ledBy k c t) ≡ 0 → ledBy k c t ≡ nothing (c ∷ t)
+    by : (k : Class) → classes.Is c k → signCode (ledBy k c t) ≡ 0 → ledBy k c t ≡ nothing (c ∷ t)
     by going.digit p z = refl
     by going.minus p z = absurd (m p)
     by going.global p z = refl
@@ -191,7 +192,7 @@ unfolding start
 none-starts [] d m g o b l z = refl
 none-starts (c ∷ t) d m g o b l z = by (classOf c) (class-is c) z
   where
-    by : (k : Class) → starts.Is c k → signCode (startBy k c t) ≡ 0 → startBy k c t ≡ nothing (c ∷ t)
+    by : (k : Class) → classes.Is c k → signCode (startBy k c t) ≡ 0 → startBy k c t ≡ nothing (c ∷ t)
     by going.digit p z = both-ways (isDecimal c) p d
     by going.minus p z = absurd (m p)
     by going.global p z = absurd (g p)

@@ -22,7 +22,7 @@ use Rattle.grammar.specs.Going.{Read, got, stuck}
 use Rattle.plans.specs.Plans as plans
 use Rattle.plans.specs.Plans.{Plan, expression, Alike, same, Reads, Walks, Alive}
 use Rattle.grammar.proofs.Digits.{first-digit, digits-all, fixed-all}
-use Rattle.grammar.proofs.Starts.{class-digit}
+use Rattle.grammar.proofs.Classes.{class-digit}
 use Rattle.grammar.proofs.Determined.{determined}
 use Rattle.grammar.proofs.Complete.{read-whole}
 use Rattle.plans.proofs.Planned.{behind-stop, fork-next, fine-walk, Begun, Lost}
