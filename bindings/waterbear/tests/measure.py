@@ -77,14 +77,19 @@ def run(which, count, folder, leave):
     return None if process.returncode else used() - begun
 
 
-with tempfile.TemporaryDirectory() as folder:
-    for name, leave in (("without leave", {}), ("as a skeleton", {"MORTARBEE_SKELETON": "1"}), ("bare", {"MORTARBEE_BARE": "1"})):
-        low, high = 100, 20000
-        while high - low > 10:
-            middle = (low + high) // 2
-            low, high = (low, middle) if run("drop", middle, folder, leave) is None else (middle, high)
-        seconds = min(run("drop", low, folder, leave) for _ in range(5))
-        size = os.path.getsize(os.path.join(folder, "f.bin"))
-        print("%s: %d lines, an image of %d bytes, %.2f s" % (name, low, size, seconds), flush=True)
-        if "--orig" in sys.argv:
-            print("  waterbear's own: %.2f s" % run("orig", low, folder, {}), flush=True)
+def main(orig):
+    with tempfile.TemporaryDirectory() as folder:
+        for name, leave in (("without leave", {}), ("as a skeleton", {"MORTARBEE_SKELETON": "1"}), ("bare", {"MORTARBEE_BARE": "1"})):
+            low, high = 100, 20000
+            while high - low > 10:
+                middle = (low + high) // 2
+                low, high = (low, middle) if run("drop", middle, folder, leave) is None else (middle, high)
+            seconds = min(run("drop", low, folder, leave) for _ in range(5))
+            size = os.path.getsize(os.path.join(folder, "f.bin"))
+            print("%s: %d lines, an image of %d bytes, %.2f s" % (name, low, size, seconds), flush=True)
+            if orig:
+                print("  waterbear's own: %.2f s" % run("orig", low, folder, {}), flush=True)
+
+
+if __name__ == "__main__":
+    main("--orig" in sys.argv)
