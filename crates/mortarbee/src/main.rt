@@ -6,6 +6,9 @@ use libc::STDIN_FILENO;
 use printing::page_length;
 use printing::print_run;
 use rules::Answer;
+use rules::Settings;
+ghost use mathlib.Core.Path.{_≡_};
+ghost use Rattle.rules.specs.Settings.{byDefault};
 
 // A text that is longer than the buffer is refused within it: 57,344 characters, 1,024 line feeds and the first line are the most that is accepted.
 fn main() {
@@ -14,11 +17,21 @@ fn main() {
     print_answer(&text[..n]);
 }
 
-// Comments go, Callf is tried as Call, and folds are tried: `Settings.byDefault`.
+// C-18: "By default, drop them": comments go, Callf is tried as Call, and folds are tried.
+fn by_default() -> Settings
+    ensures { λ r. ⌜ r ≡ byDefault ⌝ }
+{
+    Settings {
+        comments: false,
+        callf: true,
+        folds: true,
+    }
+}
+
 fn print_answer(text: &[u8]) {
     let mut page = [0u8; 62482];
     let mut image = [0u8; 65536];
-    let answer = print_run(desk::numbered(6), text, &mut page, &mut image);
+    let answer = print_run(by_default(), text, &mut page, &mut image);
     match answer {
         Answer::Done(_) => put_page(&page, page_length(answer)),
         Answer::Refused(r) => put_refusal(r),
