@@ -1,8 +1,11 @@
 -- What the entry answers: the count is the number of lines, and 12 is judged by it.
 use mathlib.Core.Path.{_≡_, refl, sym, ap, _∙_, subst}
 use mathlib.Core.List.{List}
+use mathlib.Core.Bool.{Bool, true, false}
+use mathlib.Core.Logic.{_⊎_, inl, inr}
 use Prim.Native.Nat.{ℕ, _*_, _≤_, _<_}
 use native.Mathlib.Omega.{arith}
+use lib.Dec.{leb}
 use lib.ListN.{length}
 use borrow.Author.Tests.{le-leb, lt-leb}
 use Rattle.rules.specs.declared.Settings.{Settings}
@@ -11,7 +14,10 @@ use Rattle.rules.specs.declared.Refusal.the-variants.{Room}
 use Rattle.rules.specs.Answers.{Judged, ok, no, _>>=_, require}
 use Rattle.rules.specs.Programs.{Program}
 use Rattle.rules.specs.Rewriting.{optimized}
+use Rattle.rules.specs.Run.{run}
+use Rattle.laws.proofs.Tests.{clash}
 use Rattle.starting.specs.Begun.{accepted}
+use Rattle.starting.proofs.Accepts.{accepted-run}
 use Rattle.digits.specs.Digits.{laid}
 use Rattle.digits.proofs.Rooms.{laid-front}
 use Rattle.mapping.specs.declared.Mapped.{Mapped}
@@ -58,6 +64,24 @@ module _ (asked : Settings) (text room : List ℕ) where
       → Leaves (mapped asked text (length room)) r room out
   unfolding mapped _>>=_ rows
   mapped-fits p r out e h = rw e h
+
+-- mapped-refusal: a refusal is the run's, whatever rooms that is lent, or 12 with the statement count
+module _ (asked : Settings) (text : List ℕ) (room : ℕ) (r : Refusal) (h : mapped asked text room ≡ no r) where
+  abbrev AsRun : Type 0
+  AsRun = ((a b : ℕ) → run asked text a b ≡ no r) ⊎ ((p : Program) × (accepted text ≡ ok p) × (r ≡ Room (length p)))
+
+  short-of : (p : Program) (b : Bool) (rs : List Row) → require b (Room (length p)) (ok rs) ≡ no r → r ≡ Room (length p)
+  unfolding require
+  short-of p true rs e = clash (cc)
+  short-of p false rs e = cc
+
+  pub mapped-refusal : AsRun
+  unfolding mapped _>>=_ fitted
+  mapped-refusal = on (accepted text) refl
+    where
+      on : (x : Judged Program) → accepted text ≡ x → AsRun
+      on (ok p) e = inr (p, e, short-of p (leb (length (rowLines (rows asked p))) room) (rows asked p) (rw e at h))
+      on (no q) e = let z : _≡_ {A = Judged (List Row)} (no q) (no r) = rw e at h in let y : q ≡ r = cc in inl (λ a b. accepted-run text asked r a b (e ∙ ap no y))
 
 -- coincide: two results that the contract allows are the same
 pub coincide : (asked : Settings) (text room : List ℕ) (r q : Mapped) (a b : List ℕ) → Leaves (mapped asked text (length room)) r room a → Leaves (mapped asked text (length room)) q room b

@@ -1,3 +1,5 @@
+-- ---- what is promised
+pub mod NeverShort
 -- ---- what the proofs share
 pub mod ReadKinds
 pub mod Listed
