@@ -1,4 +1,4 @@
 // C-21: an image read back as a listing.
 pub mod entry;
-pub mod frames;
-pub mod walks;
+mod frames; // the frame of what stands at an address
+mod walks; // over the image, first to count and then to write

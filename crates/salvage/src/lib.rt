@@ -1,9 +1,10 @@
 // C-22: a damaged listing salvaged.
 use rules::Refusal;
-use walks::Extent;
 
 pub mod entry;
-pub mod walks;
+mod walks; // over the lines, first to measure and then to write
+
+pub use walks::Extent;
 
 // What is in the lent rooms, or 12.
 pub enum Saved {
