@@ -12,7 +12,7 @@ status=0
 for program in rustc cargo python3; do
     command -v "$program" >/dev/null || { echo "needs.sh: no $program" >&2; status=3; }
 done
-if command -v rustc >/dev/null && ! "$here/../../tools/words/newer.sh" rustc 1.88; then
+if command -v rustc >/dev/null && ! "$here/../../tools/newer.sh" rustc 1.88; then
     echo "needs.sh: rustc 1.88 or newer is needed, and here is $(rustc --version)" >&2
     status=3
 fi
