@@ -1,7 +1,8 @@
 #!/bin/sh
 # usage: build.sh texts|core|all [again]
-# Builds the command into target/command/SIZE: with its texts alone, over libborder_core.a, or over libborder.a, which are proved before.
-# One build at a time: who comes later waits, and finds it built. `again` builds also what is there. Needs cargo, and for the last two rt.
+# Builds the command into target/command/SIZE: with its texts alone, over libborder_core.a, or over libborder.a. An archive that is not
+# there, or older than a source of a crate, is proved and built before. One build at a time: who comes later waits, and finds it built.
+# `again` builds also what is there. Needs cargo, flock, setsid and awk, and rt where an archive is built.
 set -u
 here=$(cd "$(dirname -- "$0")" && pwd)
 top=$(cd "$here/.." && pwd)
@@ -38,9 +39,18 @@ end_by() {
 
 # ---- the archive
 
-# The crates that the archive is made of, without it.
+# The crates that the archive is made of, without it: those on its line of crates.txt, those on theirs, and so on, bottom to top.
 crates() {
-    sed -n "s/^$archive: *//p" "$top/crates.txt"
+    awk -v archive="$archive" '
+        /^[a-z]/ { name = $1; sub(/:$/, "", name); $1 = ""; below[name] = $0; order[++all] = name }
+        END {
+            reached[count = 1] = archive
+            for (i = 1; i <= count; i++) {
+                n = split(below[reached[i]], names, " ")
+                for (j = 1; j <= n; j++) if (!seen[names[j]]++) reached[++count] = names[j]
+            }
+            for (i = 1; i <= all; i++) if (seen[order[i]]) print order[i]
+        }' "$top/crates.txt"
 }
 
 # show LOG SHOWN: what rt says, each crate as it is proved, of how many, and for how long; prints how many were shown.

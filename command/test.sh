@@ -1,8 +1,8 @@
 #!/bin/sh
 # usage: test.sh [ARCHIVES]
 # Builds bindings/rust and the command over the archives of a folder (target/staticlib) and runs their tests; the last line is `N passed,
-# M failed`. Needs cargo, rustc and a linker. On another processor than x86-64, for which the archives are, the tests are left out by
-# name.
+# M failed`. A test that is left out is told by name, and is none that passed: on another processor than x86-64, for which the archives
+# are, all are. Needs cargo, rustc and a linker.
 set -u
 here=$(cd "$(dirname -- "$0")" && pwd)
 top=$(cd "$here/.." && pwd)
@@ -55,5 +55,7 @@ else
     fi
 fi
 sort -u "$MORTARBEE_LEFT_OUT"
+# Cargo counts a test that leaves itself out as one that passed.
+passed=$((passed - $(wc -l <"$MORTARBEE_LEFT_OUT")))
 echo "$passed passed, $failed failed"
 [ "$failed" = 0 ]

@@ -10,7 +10,8 @@ use std::os::unix::fs::{symlink, PermissionsExt};
 use std::path::Path;
 use std::time::Duration;
 
-const ARCHIVES: &str = "laws:\nrules: laws\nborder_core: laws rules\nborder: laws rules\n";
+/// An archive is made of the crates that those on its line depend on, too.
+const ARCHIVES: &str = "# NAME: ..\nlaws:\nrules: laws\nother: laws\nborder_core: rules\nborder: rules border_core\n";
 
 /// A rt that takes a second for each crate, and a cargo that hands out the command that is tested. Each writes down that it was started.
 const RT: &str = "echo rt $* >>started; case $1 in
@@ -32,7 +33,7 @@ fn clone(name: &str) -> Folder {
     for folder in ["command/src", "bindings/rust/src", "docs/words", "crates/laws/src", "own", "commands"] {
         fs::create_dir_all(f.0.join(folder)).expect("a folder");
     }
-    for file in ["mortarbee", "command/build.sh", "command/install.sh", "NOTICE"] {
+    for file in ["mortarbee", "command/build.sh", "command/install.sh", "command/test.sh", "NOTICE"] {
         fs::copy(top.join(file), f.0.join(file)).expect("a file");
     }
     f.write("crates.txt", ARCHIVES);
@@ -99,6 +100,36 @@ fn newer_sources_are_told_and_built_where_asked() {
     assert!(String::from_utf8_lossy(&done.stderr).contains("warning: the command is older than crates/laws/src/lib.rt: ./mortarbee build"));
     assert_eq!(f.status(&with_own("./mortarbee build")), Some(0));
     assert_eq!(f.said("./mortarbee judge good.lst"), "");
+}
+
+/// What is installed or packed is made of the sources as they are.
+#[test]
+fn nothing_stale_is_installed() {
+    if is_left_out("nothing_stale_is_installed") {
+        return;
+    }
+    let f = clone("stale");
+    f.run(&with_own("command/build.sh all"));
+    f.write("commands/mortarbee", "#!/bin/sh\necho new\n");
+    for line in ["install there", "tarball there && tar xzf there/*.tar.gz -C there --strip-components 1"] {
+        assert_eq!(f.status(&with_own(&format!("rm -rf there; ./mortarbee {line}"))), Some(0), "{line}");
+        assert_eq!(f.wrote("there/bin/mortarbee version"), "new\n", "{line}");
+    }
+    assert_eq!(f.read("started").lines().filter(|line| line.starts_with("rt staticlib")).count(), 1);
+}
+
+#[test]
+fn tests_that_are_left_out_are_none_that_passed() {
+    let f = clone("left-out");
+    fs::create_dir_all(f.0.join("target/staticlib")).expect("a folder");
+    f.write("target/staticlib/libborder.a", "");
+    program(
+        &f,
+        "own/cargo",
+        "echo 'left out: a test: why' >>\"$MORTARBEE_LEFT_OUT\"; echo 'test result: ok. 3 passed; 0 failed; 0 ignored'",
+    );
+    let line = "command/test.sh target/staticlib";
+    assert!(f.wrote(&with_own(line)).ends_with("\nleft out: a test: why\n4 passed, 0 failed\n"), "{}", f.wrote(&with_own(line)));
 }
 
 #[test]
