@@ -1,12 +1,14 @@
 #!/bin/sh
 # usage: install.sh install PREFIX, install.sh uninstall PREFIX, install.sh tarball FOLDER
-# Puts the built command, its manual page and its completions below PREFIX, or takes them away; or packs them, with their checksums, into
-# FOLDER. What is installed needs nothing of this repository.
+# Puts the built command, its manual page, its completions and the pages and examples that they name below PREFIX, or takes them away; or
+# packs them, with their checksums, into FOLDER. What is installed needs nothing of this repository.
 set -eu
 here=$(cd "$(dirname -- "$0")" && pwd)
 top=$(cd "$here/.." && pwd)
 built=$top/target/command/all/mortarbee
-files='bin/mortarbee share/man/man1/mortarbee.1 share/doc/mortarbee/NOTICE'
+about=share/doc/mortarbee
+files="bin/mortarbee share/man/man1/mortarbee.1 $about/NOTICE $about/docs/FORMAT.md $about/docs/RULES.md"
+files="$files $(cd "$top" && find examples -type f | LC_ALL=C sort | sed "s|^|$about/|")"
 files="$files share/bash-completion/completions/mortarbee share/zsh/site-functions/_mortarbee"
 
 stop() {
@@ -25,7 +27,7 @@ put() {
             */man1/*) "$built" help --man ;;
             */completions/*) "$built" help --bash ;;
             */site-functions/*) "$built" help --zsh ;;
-            *) cat "$top/NOTICE" ;;
+            "$about"/*) cat "$top/${file#"$about/"}" ;;
         esac >"$1/$file.new" || stop "$1/$file cannot be written"
         case $file in bin/*) chmod 755 "$1/$file.new" ;; *) chmod 644 "$1/$file.new" ;; esac
         mv -f "$1/$file.new" "$1/$file" || stop "$1/$file cannot be written"

@@ -68,6 +68,9 @@ fn word_of(typed: &[OsString]) -> Result<(&'static Word, &[OsString]), String> {
     if shown.contains(['/', '.']) {
         return Err(format!("{shown}: there is no such file"));
     }
+    if let Some(said) = table::of_script(&shown) {
+        return Err(said);
+    }
     let nearest = nearest::nearest(&shown);
     Err(format!("there is no word {shown}, and no such file; the nearest word is {nearest} (mortarbee help says more)"))
 }

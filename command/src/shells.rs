@@ -6,19 +6,31 @@ fn options(word: &Word) -> impl Iterator<Item = &'static str> {
     word.options.iter().map(|option| option.name).chain(["-o", "--help"])
 }
 
+fn names() -> Vec<&'static str> {
+    WORDS.iter().map(|word| word.name).collect()
+}
+
+/// What may stand behind a word beside its options and files.
+fn behind(word: &Word) -> Vec<&'static str> {
+    match word.name {
+        "help" => names(),
+        "settings" => vec!["add", "drop", "show"],
+        _ => vec![],
+    }
+}
+
 pub fn bash() -> String {
-    let names: Vec<&str> = WORDS.iter().map(|word| word.name).collect();
     let mut out = String::from("# bash completion for mortarbee: made by mortarbee help --bash\n_mortarbee() {\n");
-    out += "    local options='' now=${COMP_WORDS[COMP_CWORD]}\n    if [ \"$COMP_CWORD\" = 1 ]; then\n";
-    out += &format!("        COMPREPLY=($(compgen -W '{}' -- \"$now\") $(compgen -f -- \"$now\"))\n", names.join(" "));
-    out += "        return\n    fi\n    case ${COMP_WORDS[1]} in\n";
+    out += "    local options='' now=${COMP_WORDS[COMP_CWORD]} word=${COMP_WORDS[1]}\n";
+    out += "    [ \"$COMP_CWORD\" != 1 ] || word=''\n    case $word in\n";
+    out += &format!("        '') options='{}' ;;\n", names().join(" "));
     for word in WORDS {
-        let all: Vec<&str> = options(word).collect();
+        let all: Vec<&str> = behind(word).into_iter().chain(options(word)).collect();
         out += &format!("        {}) options='{}' ;;\n", word.name, all.join(" "));
     }
-    out += "    esac\n    case ${COMP_WORDS[1]}$now in\n";
-    out += &format!("        help*) COMPREPLY=($(compgen -W '{}' -- \"$now\")) ;;\n", names.join(" "));
-    out += "        *) COMPREPLY=($(compgen -W \"$options\" -- \"$now\") $(compgen -f -- \"$now\")) ;;\n    esac\n}\n";
+    // A line is one name, whatever stands in it.
+    out +=
+        "    esac\n    mapfile -t COMPREPLY < <(compgen -W \"$options\" -- \"$now\"; [ \"$word\" = help ] || compgen -f -- \"$now\")\n}\n";
     out + "complete -o filenames -F _mortarbee mortarbee\n"
 }
 

@@ -4,9 +4,10 @@
 use crate::answer::Stop;
 use crate::call::Call;
 use crate::diagnose;
-use crate::files::{folder_of, replace, resolve};
+use crate::files::{self, folder_of, replace, resolve};
 use border::{get_newest, show_place, Edition, Refusal, STORE_ROOM};
 use std::fs::{self, File};
+use std::io::ErrorKind;
 use std::path::{Path, PathBuf};
 
 const MOST: u64 = 4096;
@@ -33,13 +34,10 @@ pub fn take(call: &Call, changing: bool) -> Result<Store, Stop> {
     if changing && found.is_some() && fs::OpenOptions::new().append(true).open(&path).is_err() {
         return Err(Stop::Trouble(format!("{name} is write-protected")));
     }
-    if fs::metadata(&path).is_ok_and(|found| found.len() > MOST) {
-        return Err(Stop::Trouble(format!("{name} is no store: it has more than 4,096 bytes")));
-    }
-    let (bytes, is_new) = match fs::read(&path) {
-        Ok(bytes) => (bytes, false),
-        Err(why) if why.kind() == std::io::ErrorKind::NotFound => (vec![0; STORE_ROOM], true),
-        Err(why) => return Err(Stop::Trouble(format!("{name} cannot be read: {why}"))),
+    let (bytes, is_new) = match fs::metadata(&path) {
+        Ok(found) if found.len() > MOST => return Err(Stop::Trouble(format!("{name} is no store: it has more than 4,096 bytes"))),
+        Err(why) if why.kind() == ErrorKind::NotFound => (vec![0; STORE_ROOM], true),
+        _ => (files::take(Some(path.as_os_str()))?.bytes, false),
     };
     Ok(Store { path, name, bytes, is_new, _lock: lock })
 }
@@ -62,8 +60,17 @@ impl Store {
 
     /// What is said of a store that is not there.
     pub fn absence(&self) -> String {
+        self.if_new("there is no such store; it is taken for an empty one")
+    }
+
+    /// What is said of one that was not there, and is now.
+    pub fn novelty(&self) -> String {
+        self.if_new("there was no such store; this is a new one")
+    }
+
+    fn if_new(&self, said: &str) -> String {
         if self.is_new {
-            format!("{}: warning: there is no such store; it is taken for an empty one\n", self.name)
+            format!("{}: warning: {said}\n", self.name)
         } else {
             String::new()
         }

@@ -99,9 +99,9 @@ pub const WORDS: &[Word] = &[
         purpose: "the new listing and a last line 7F",
         needs: Core,
         options: &[&COMMENTS, &NO_CALLF, &NO_FOLDS, &STORE, &FAMILY, &EDITION, &LISTING, &IMAGE, &STEMS],
-        irregular: "mortarbee optimize [--comments] [--no-callf] [--no-folds] [-o FILE] [LISTING], \
-                    or mortarbee optimize --store STORE --family F [--edition E] [LISTING]; \
-                    into files: [--listing FILE] [--image FILE] [--stems FILE]",
+        irregular: "mortarbee optimize [--comments] [--no-callf] [--no-folds] [-o FILE] [LISTING]\n   \
+                    or: mortarbee optimize --store STORE --family F [--edition E] [-o FILE] [LISTING]\n   \
+                    into files, with either: [--listing FILE] [--image FILE] [--stems FILE]",
         text: text!("optimize"),
         ..ROW
     },
@@ -218,8 +218,9 @@ pub const WORDS: &[Word] = &[
         purpose: "switches kept by family and edition in a store: add, drop, show",
         files: &["JOB", "[F]"],
         options: &[&COMMENTS, &NO_CALLF, &NO_FOLDS, &KEPT_IN],
-        irregular: "mortarbee settings add F [--comments] [--no-callf] [--no-folds] --store FILE, settings drop F --store FILE, \
-                    settings show --store FILE",
+        irregular: "mortarbee settings add F [--comments] [--no-callf] [--no-folds] --store FILE\n   \
+                    or: mortarbee settings drop F --store FILE\n   \
+                    or: mortarbee settings show --store FILE",
         text: text!("settings"),
         ..ROW
     },
@@ -261,6 +262,21 @@ pub const WORDS: &[Word] = &[
     },
 ];
 
+/// The words of the script at the top of the repository, which the command is without: what stands behind each, and its line of `help`.
+pub const OF_SCRIPT: &[(&str, &str, &str)] = &[
+    ("build", "", "makes the command again, of the sources as they are"),
+    ("install", "PREFIX", "puts the command, its manual page, its completions and what they name below PREFIX"),
+    ("uninstall", "PREFIX", "takes them away"),
+    ("tarball", "FOLDER", "packs them, with their checksums, into FOLDER"),
+];
+
+/// What is said of such a word where the command is asked for it.
+pub fn of_script(typed: &str) -> Option<String> {
+    let (name, behind, purpose) = OF_SCRIPT.iter().find(|(name, _, _)| *name == typed)?;
+    let usage = format!("./mortarbee {name} {behind}");
+    Some(format!("{name} is a word of the script at the top of the repository: {} {purpose}", usage.trim_end()))
+}
+
 impl Word {
     pub fn find(name: &str) -> Option<&'static Word> {
         WORDS.iter().find(|word| word.name == name)
@@ -288,12 +304,17 @@ impl Word {
 
     /// The word's line of `help`.
     pub fn line(&self) -> String {
-        let head = if self.shown.is_empty() { self.name.into() } else { format!("{} {}", self.name, self.shown) };
-        if head.len() < 12 {
-            format!("  {head:<13}{}\n", self.purpose)
-        } else {
-            format!("  {head}   {}\n", self.purpose)
-        }
+        line(self.name, self.shown, self.purpose)
+    }
+}
+
+/// A line of `help`.
+pub fn line(name: &str, shown: &str, purpose: &str) -> String {
+    let head = if shown.is_empty() { name.into() } else { format!("{name} {shown}") };
+    if head.len() < 12 {
+        format!("  {head:<13}{purpose}\n")
+    } else {
+        format!("  {head}   {purpose}\n")
     }
 }
 

@@ -57,3 +57,16 @@ fn a_refused_listing_has_no_page() {
     assert_eq!((done.status.code(), done.stdout.as_slice()), (Some(1), &b"7E0A00000000000080\n"[..]));
     assert!(!f.has("page.html"));
 }
+
+/// D-59: the listing with its comments, which the page shows, may pass the total limit where the one that is asked for does not.
+#[test]
+fn a_page_that_cannot_be_made_is_told() {
+    let f = Folder::new("limit");
+    let comment = |bytes: usize| format!("04{}\n", "41".repeat(bytes));
+    f.write("full.lst", &format!("0300010000000000\n012C010001\n{}{}", comment(119).repeat(204), comment(81)));
+    assert_eq!(f.wrote("m full.lst"), "0300010000000000\n012C0000000000\n7F0000000002\n");
+    let done = f.run("m page full.lst -o page.html");
+    let said = String::from_utf8_lossy(&done.stderr);
+    assert_eq!((done.status.code(), f.has("page.html")), (Some(2), false));
+    assert!(said.starts_with("mortarbee: the new listing with its comments passes the total limit"), "{said}");
+}

@@ -30,10 +30,19 @@ fn program(f: &Folder, name: &str, text: &str) {
 fn clone(name: &str) -> Folder {
     let f = Folder::new(name);
     let top = Path::new(env!("CARGO_MANIFEST_DIR")).join("..");
-    for folder in ["command/src", "bindings/rust/src", "docs/words", "crates/laws/src", "own", "commands"] {
+    for folder in ["command/src", "bindings/rust/src", "docs/words", "crates/laws/src", "own", "commands", "examples/tray"] {
         fs::create_dir_all(f.0.join(folder)).expect("a folder");
     }
-    for file in ["mortarbee", "command/build.sh", "command/install.sh", "command/test.sh", "NOTICE"] {
+    for file in [
+        "mortarbee",
+        "command/build.sh",
+        "command/install.sh",
+        "command/test.sh",
+        "NOTICE",
+        "docs/FORMAT.md",
+        "docs/RULES.md",
+        "examples/tray/tray.lst",
+    ] {
         fs::copy(top.join(file), f.0.join(file)).expect("a file");
     }
     f.write("crates.txt", ARCHIVES);
@@ -189,8 +198,12 @@ fn what_is_installed_needs_nothing_else() {
     f.run("mv crates gone; mv command gone; mv docs gone");
     assert_eq!(f.wrote("there/bin/mortarbee judge good.lst"), "good 6 9\n");
     assert!(f.wrote("there/bin/mortarbee explain 10").starts_with("10: "));
-    for file in ["share/man/man1/mortarbee.1", "share/bash-completion/completions/mortarbee", "share/zsh/site-functions/_mortarbee"] {
-        assert!(!f.read(&format!("there/{file}")).is_empty(), "{file}");
+    for file in ["man/man1/mortarbee.1", "bash-completion/completions/mortarbee", "zsh/site-functions/_mortarbee"] {
+        assert!(!f.read(&format!("there/share/{file}")).is_empty(), "{file}");
+    }
+    for file in ["NOTICE", "docs/FORMAT.md", "docs/RULES.md", "examples/tray/tray.lst"] {
+        let top = Path::new(env!("CARGO_MANIFEST_DIR")).join("..");
+        assert_eq!(f.read(&format!("there/share/doc/mortarbee/{file}")), fs::read_to_string(top.join(file)).expect("a file"), "{file}");
     }
     let f = clone("packed");
     f.run(&with_own("./mortarbee tarball packed"));

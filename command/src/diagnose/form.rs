@@ -1,7 +1,7 @@
 //! Refusals 1 and 2: where a line breaks the form of a listing, and which limit is passed.
 
 use super::frames::*;
-use super::{character, Reason};
+use super::{named, Reason};
 
 /// Why a line breaks the form.
 pub fn breach(line: &[u8], ended: bool, marked: bool) -> Reason {
@@ -19,6 +19,9 @@ fn found(cause: Cause, line: &[u8], at: usize) -> String {
         Cause::Odd => "the count of digits is odd; one more is expected".into(),
         Cause::NoLineFeed => "the text ends here; a line feed is expected behind each line".into(),
         Cause::Mark => "7D02 stands in the first line alone, and nowhere else".into(),
+        Cause::Kind if pair == 0x7F => {
+            "kind 7F; 01 to 08 are kinds. The last line of an answer is no statement: optimize --listing leaves it out".into()
+        }
         Cause::Kind => format!("kind {pair:02X}; 01 to 08 are kinds"),
         Cause::Form => format!("form {pair:02X}; 00 to 45 are forms"),
         Cause::Register => format!("register {pair:02X}; 00 to 03 are registers"),
@@ -31,15 +34,12 @@ fn found(cause: Cause, line: &[u8], at: usize) -> String {
     }
 }
 
-/// A character that is no digit of a listing. One that cannot be shown is named by its byte.
+/// A character that is no digit of a listing.
 fn other(line: &[u8], at: usize) -> String {
     match line[at] {
-        b'\r' => "a carriage return".into(),
         b' ' => "a space".into(),
-        b'\t' => "a tab".into(),
         b'a'..=b'f' => "a lower-case digit".into(),
-        0xEF if line[at..].starts_with(b"\xEF\xBB\xBF") => "the byte EF (perhaps a byte order mark)".into(),
-        c => character(c),
+        _ => named(line, at),
     }
 }
 

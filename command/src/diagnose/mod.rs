@@ -84,18 +84,25 @@ fn shown(c: u8) -> char {
     }
 }
 
-/// A character by itself, or by its byte where it cannot be shown.
-fn character(c: u8) -> String {
-    if (32..127).contains(&c) {
-        format!("the character {}", c as char)
-    } else {
-        format!("the byte {c:02X}")
+/// A character by its name or by itself, or by its byte where it cannot be shown.
+fn named(line: &[u8], at: usize) -> String {
+    match line[at] {
+        b'\r' => "a carriage return".into(),
+        b'\t' => "a tab".into(),
+        0xEF if line[at..].starts_with(b"\xEF\xBB\xBF") => "the byte EF (perhaps a byte order mark)".into(),
+        c @ 32..127 => format!("the character {}", c as char),
+        c => format!("the byte {c:02X}"),
     }
+}
+
+/// What other systems put before a line feed says nothing of what a text is.
+fn without_return(line: &[u8]) -> &[u8] {
+    line.strip_suffix(b"\r").unwrap_or(line)
 }
 
 /// The first line begins as those for people do: with a small letter or a point, and has nothing that cannot be shown.
 fn looks_like_text(text: &[u8]) -> bool {
-    let (line, _, _) = line_at(text, 0);
+    let line = without_return(line_at(text, 0).0);
     matches!(line.first(), Some(b'.' | b'a'..=b'z')) && line.iter().all(|c| (32..127).contains(c))
 }
 

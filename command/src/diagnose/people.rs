@@ -1,7 +1,7 @@
 //! Refusals of a text for people: 15 with what may stand there, and 2.
 
 use super::frames::{is_digit, line_at};
-use super::{cause_lines, character, head, quote, Reason};
+use super::{cause_lines, head, named, quote, without_return, Reason};
 use crate::files::Input;
 use border::{owned, Refusal};
 
@@ -18,7 +18,7 @@ pub fn of_text(input: &Input, refusal: Refusal) -> String {
 
 /// The first line is digit pairs, which no line for people is.
 fn looks_like_listing(text: &[u8]) -> bool {
-    let (line, _, _) = line_at(text, 0);
+    let line = without_return(line_at(text, 0).0);
     !line.is_empty() && line.len() % 2 == 0 && line.iter().all(|c| is_digit(*c))
 }
 
@@ -27,16 +27,32 @@ fn wrong_character(line: &[u8], ended: bool, at: usize) -> Reason {
     let what = match line.get(at) {
         Some(b' ') => "a space stands beside operators only".into(),
         Some(b',') if line[..at].iter().filter(|c| **c == b',').count() > 14 => "16 items at most".into(),
-        Some(c) if c.is_ascii_digit() && at > 0 && line[at - 1].is_ascii_digit() => "the number is too large".into(),
-        // behind a mnemonic one space is good; behind any other one an operator comes
-        Some(c) if at > 0 && line[at - 1] == b' ' && line[..at - 1].contains(&b' ') => {
-            format!("{}; a space stands beside operators only", character(*c))
-        }
-        Some(c) => format!("{}, which no good line has here", character(*c)),
+        Some(c) if c.is_ascii_digit() && at > 0 && line[at - 1].is_ascii_digit() => one_digit_more(line, at).into(),
+        Some(_) if is_behind_stray(line, at) => format!("{}; a space stands beside operators only", named(line, at)),
+        Some(_) => format!("{}, which no good line has here", named(line, at)),
+        None if ended && is_behind_stray(line, at) => "the line ends with a space; a space stands beside operators only".into(),
         None if ended => "the line ends here; more is expected".into(),
         None => "the text ends here; a line feed is expected behind each line".into(),
     };
     (format!("column {}: {what}", at + 1), Some(at))
+}
+
+/// A digit behind others that can have no more of them.
+fn one_digit_more(line: &[u8], at: usize) -> &'static str {
+    let digits = line[..at].iter().rev().take_while(|c| c.is_ascii_digit()).count();
+    let front = &line[..at - digits];
+    match (front.ends_with(b"g") || front.ends_with(b".l"), digits) {
+        (true, 5) => "a name has five digits",
+        (true, _) => "the name's number is too large: 32767 is the last",
+        _ => "the number is too large",
+    }
+}
+
+/// Whether what stands here is behind a space that no operator is before. Behind a mnemonic one space is good.
+fn is_behind_stray(line: &[u8], at: usize) -> bool {
+    let front = line[..at].trim_ascii_end();
+    let spaces = at - front.len();
+    spaces > 0 && (spaces > 1 || front.contains(&b' ')) && !front.last().is_some_and(|c| b"+-*/^&|<>".contains(c))
 }
 
 fn wide(line: &[u8], place: usize) -> String {

@@ -4,7 +4,7 @@ use crate::answer::{Answer, Stop};
 use crate::call::Call;
 use crate::nearest::nearest;
 use crate::shells;
-use crate::table::{Word, WORDS};
+use crate::table::{line, of_script, Word, OF_SCRIPT, WORDS};
 
 pub fn run(call: &Call) -> Result<Answer, Stop> {
     for (flag, made) in [("--bash", shells::bash as fn() -> String), ("--zsh", shells::zsh), ("--man", shells::man)] {
@@ -16,14 +16,17 @@ pub fn run(call: &Call) -> Result<Answer, Stop> {
     let typed = typed.to_string_lossy();
     match Word::find(&typed) {
         Some(word) => Ok(Answer::good(word.help())),
-        None => Err(Stop::Misuse(format!("there is no word {typed}; the nearest is {}", nearest(&typed)))),
+        None => {
+            Err(Stop::Misuse(of_script(&typed).unwrap_or_else(|| format!("there is no word {typed}; the nearest is {}", nearest(&typed)))))
+        }
     }
 }
 
-/// The line `{words}` is a line for each word.
+/// The line `{words}` is a line for each word, the line `{script}` one for each of the script's.
 const OVERVIEW: &str = include_str!("../../../docs/words/help.txt");
 
 fn all() -> String {
     let lines: String = WORDS.iter().map(|word| word.line()).collect();
-    OVERVIEW.replace("{words}\n", &lines)
+    let more: String = OF_SCRIPT.iter().map(|(name, behind, purpose)| line(name, behind, purpose)).collect();
+    OVERVIEW.replace("{words}\n", &lines).replace("{script}\n", &more)
 }

@@ -24,7 +24,7 @@ fn add(call: &Call, family: u16) -> Result<Answer, Stop> {
         Ok(edition) => {
             store.put()?;
             let done = format!("mortarbee: {} has the new edition, {edition}\n", store.name);
-            Ok(Answer { done, ..Answer::good(format!("{edition}\n")) })
+            Ok(Answer { done, ..Answer::good(format!("{edition}\n")).saying(store.novelty()) })
         }
         Err(refusal) => Ok(Answer::refused(refusal, store.refusal(refusal, Some(family)))),
     }

@@ -15,7 +15,8 @@ pub fn run(call: &Call) -> Result<Answer, Stop> {
             let mut said = diagnose::of_listing(&input.name, refusal, &input.bytes);
             if refusal.number == 14 {
                 let statements = feeds(&input.bytes).saturating_sub(usize::from(is_marked(&input.bytes)));
-                said += &format!("  the listing has {statements} statements\n");
+                let s = if statements == 1 { "" } else { "s" };
+                said += &format!("  the listing has {statements} statement{s}\n");
             }
             Answer::refused(refusal, said)
         }
