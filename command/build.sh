@@ -44,7 +44,7 @@ crates() {
     awk -v archive="$archive" '
         /^[a-z]/ { name = $1; sub(/:$/, "", name); $1 = ""; below[name] = $0; order[++all] = name }
         END {
-            reached[count = 1] = archive
+            reached[1] = archive; count = 1
             for (i = 1; i <= count; i++) {
                 n = split(below[reached[i]], names, " ")
                 for (j = 1; j <= n; j++) if (!seen[names[j]]++) reached[++count] = names[j]

@@ -7,9 +7,9 @@ use border::{owned, Refusal};
 
 pub fn of_text(input: &Input, refusal: Refusal) -> String {
     let text = &input.bytes;
-    let (line, _, ended) = line_at(text, refusal.place);
+    let (line, _, _) = line_at(text, refusal.place);
     let (cause, column) = match refusal.number {
-        15 => wrong_character(line, ended, refusal.amount as usize),
+        15 => wrong_character(line, refusal.amount as usize),
         _ => (wide(line, refusal.place), None),
     };
     let hint = if looks_like_listing(text) { "  this looks like a listing: mortarbee text writes it for people\n" } else { "" };
@@ -23,15 +23,15 @@ fn looks_like_listing(text: &[u8]) -> bool {
 }
 
 /// 15: C-19's column, "of the first byte that no good line could have there, or of the line's end".
-fn wrong_character(line: &[u8], ended: bool, at: usize) -> Reason {
+fn wrong_character(line: &[u8], at: usize) -> Reason {
     let what = match line.get(at) {
         Some(b' ') => "a space stands beside operators only".into(),
         Some(b',') if line[..at].iter().filter(|c| **c == b',').count() > 14 => "16 items at most".into(),
         Some(c) if c.is_ascii_digit() && at > 0 && line[at - 1].is_ascii_digit() => one_digit_more(line, at).into(),
         Some(_) if is_behind_stray(line, at) => format!("{}; a space stands beside operators only", named(line, at)),
         Some(_) => format!("{}, which no good line has here", named(line, at)),
-        None if ended && is_behind_stray(line, at) => "the line ends with a space; a space stands beside operators only".into(),
-        None if ended => "the line ends here; more is expected".into(),
+        None if is_behind_stray(line, at) => "the line ends with a space; a space stands beside operators only".into(),
+        None if good_to(line).is_some() => "the line ends here; more is expected".into(),
         None => "the text ends here; a line feed is expected behind each line".into(),
     };
     (format!("column {}: {what}", at + 1), Some(at))
@@ -50,7 +50,7 @@ fn one_digit_more(line: &[u8], at: usize) -> &'static str {
 
 /// Whether what stands here is behind a space that no operator is before. Behind a mnemonic one space is good.
 fn is_behind_stray(line: &[u8], at: usize) -> bool {
-    let front = line[..at].trim_ascii_end();
+    let front = line[..at.min(line.len())].trim_ascii_end();
     let spaces = at - front.len();
     spaces > 0 && (spaces > 1 || front.contains(&b' ')) && !front.last().is_some_and(|c| b"+-*/^&|<>".contains(c))
 }
