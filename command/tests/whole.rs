@@ -194,6 +194,29 @@ fn a_signal_ends_a_run_at_once_and_leaves_the_old_file() {
     assert!(f.is_clean());
 }
 
+/// Off a terminal, and on one, where the sign of life has a thread of its own.
+#[test]
+fn a_signal_between_two_files_leaves_both() {
+    for on_terminal in [false, true] {
+        let f = Folder::new("between");
+        let Some(mut command) = f.slow(on_terminal, "optimize --listing new.lst --image new.bin good.lst") else {
+            return leave_out("a_signal_between_two_files_leaves_both", "there is no cc or no script");
+        };
+        f.write("new.lst", "old\n");
+        f.write("new.bin", "old\n");
+        let mut child = command.stdout(Stdio::null()).stderr(Stdio::null()).spawn().expect("sh");
+        let began = Instant::now();
+        while f.read("new.lst") != SHORT && began.elapsed() < Duration::from_secs(20) {
+            std::thread::sleep(Duration::from_millis(10));
+        }
+        assert_eq!(f.status("kill -s TERM $(cat pid)"), Some(0));
+        let status = child.wait().expect("its end");
+        assert!(status.signal() == Some(15) || status.code() == Some(143), "{status}");
+        assert_eq!((f.read("new.lst").as_str(), fs::read(f.0.join("new.bin")).expect("an image").len()), (SHORT, 5), "{on_terminal}");
+        assert!(f.is_clean());
+    }
+}
+
 /// A small file system: 160 KB, as a mount that goes with its folder. Root makes it, or the user's own name space.
 #[test]
 fn eight_at_once_on_a_full_file_system_are_whole_or_told() {

@@ -54,8 +54,8 @@ extern "C" {
     fn pthread_sigmask(how: i32, set: *const Signals, old: *mut Signals) -> i32;
 }
 
-/// Does the work while hangup, interrupt and termination wait; one that came ends the process then. Other threads are not held: there
-/// should be none.
+/// Does the work while hangup, interrupt and termination wait; one that came ends the process then. Other threads are not held: those
+/// that there are should have been started within such work, for a thread holds what its maker held, to its end.
 pub fn while_signals_wait<T>(work: impl FnOnce() -> T) -> T {
     let (mut set, mut old) = (Signals([0; 16]), Signals([0; 16]));
     set.0[0] = ENDING;

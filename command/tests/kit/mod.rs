@@ -4,10 +4,28 @@
 use std::fs;
 use std::io::Write;
 use std::path::PathBuf;
-use std::process::{Command, Output};
+use std::process::{Command, Output, Stdio};
 
 pub const GOOD: &str = "012E018001\n012B010001\n028001\n0143\n020001\n012B0000000005\n";
 pub const SHORT: &str = "012F010001\n028001\n0143\n020001\n012C0000000002\n";
+
+/// Waits behind each rename, and refuses those whose numbers are in FAILS.
+const SLOW: &str = "#include <errno.h>
+#include <fcntl.h>
+#include <stdio.h>
+#include <stdlib.h>
+#include <string.h>
+#include <unistd.h>
+int rename(const char *from, const char *to) {
+    static int calls;
+    const char *fails = getenv(\"FAILS\");
+    calls += 1;
+    if (fails != NULL && strchr(fails, '0' + calls) != NULL) { errno = EIO; return -1; }
+    int done = renameat(AT_FDCWD, from, AT_FDCWD, to);
+    usleep(400000);
+    return done;
+}
+";
 
 pub struct Folder(pub PathBuf);
 
@@ -57,6 +75,20 @@ impl Folder {
 
     pub fn wrote(&self, line: &str) -> String {
         String::from_utf8_lossy(&self.run(line).stdout).into()
+    }
+
+    /// A line of sh in which `rename` is the one of SLOW, started as it would be typed on a terminal or off one; none without a C compiler
+    /// or a terminal to be had.
+    pub fn slow(&self, on_terminal: bool, line: &str) -> Option<Command> {
+        self.write("slow.c", SLOW);
+        self.write("line", &format!("echo $$ >pid; LD_PRELOAD=$PWD/slow.so exec \"{}\" {line}", env!("CARGO_BIN_EXE_mortarbee")));
+        let typed = "script -qec true /dev/null >/dev/null 2>&1 </dev/null";
+        if self.status("cc -shared -fPIC -o slow.so slow.c 2>/dev/null") != Some(0) || (on_terminal && self.status(typed) != Some(0)) {
+            return None;
+        }
+        let mut command = self.shell("sh", if on_terminal { "exec script -qec 'sh line' /dev/null" } else { "exec sh line" });
+        command.env("SHELL", "/bin/sh").env("TERM", "xterm").env_remove("NO_COLOR").stdin(Stdio::null());
+        Some(command)
     }
 
     /// Nothing is left beside the files.
