@@ -80,6 +80,12 @@ impl Call {
     pub fn file(&self, k: usize) -> Option<&OsStr> {
         self.files.get(k).map(|file| file.as_os_str())
     }
+
+    /// Where the answer goes.
+    #[cfg_attr(not(feature = "core"), allow(dead_code))]
+    pub fn out(&self) -> &OsStr {
+        self.output.as_deref().filter(|output| *output != "-").unwrap_or("/dev/stdout".as_ref())
+    }
 }
 
 #[cfg(feature = "core")]

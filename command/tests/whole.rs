@@ -135,6 +135,30 @@ fn parts_are_all_or_none() {
     assert!(f.is_clean());
 }
 
+/// What goes to two names of one file would be lost, whether the file is there or not.
+#[test]
+fn a_new_file_has_one_name() {
+    let f = Folder::new("names");
+    fs::create_dir(f.0.join("folder")).expect("a folder");
+    for (line, made) in [
+        ("m optimize --listing r --image ./r good.lst", "r"),
+        ("m optimize --image folder/../r --stems $PWD/r good.lst", "r"),
+        ("ln -s folder way; m optimize --listing way/r --stems folder/r good.lst", "folder/r"),
+        ("m optimize --listing r -o r good.lst", "r"),
+        ("m optimize --stems folder/r -o folder/./r good.lst", "folder/r"),
+        ("m salvage --report r -o ./r good.lst", "r"),
+        ("m salvage --report r -o r good.lst", "r"),
+    ] {
+        assert_eq!((f.status(line), f.has(made)), (Some(2), false), "{line}");
+    }
+    for line in ["m optimize --listing r good.lst >r", "m salvage --report r good.lst >r", "m optimize --image r good.lst -o - >r"] {
+        assert_eq!((f.status(line), f.read("r").as_str()), (Some(2), ""), "{line}");
+    }
+    assert_eq!(f.status("m optimize --listing r --image folder/r -o r.out good.lst"), Some(0));
+    assert_eq!((f.read("r").as_str(), f.read("r.out").as_str()), (SHORT, "7F0002000005\n"));
+    assert!(f.is_clean());
+}
+
 #[test]
 fn a_read_only_folder_is_told() {
     let f = Folder::new("locked");

@@ -16,6 +16,13 @@ pub use replace::{folder_of, replace, resolve};
 
 use crate::answer::Stop;
 use std::io;
+#[cfg(feature = "core")]
+use std::{
+    ffi::OsStr,
+    fs,
+    os::unix::fs::MetadataExt,
+    path::{Path, PathBuf},
+};
 
 fn trouble(what: &str, why: io::Error) -> Stop {
     Stop::Trouble(format!("{what}: {}", in_words(&why)))
@@ -30,12 +37,19 @@ fn in_words(why: &io::Error) -> String {
     }
 }
 
-/// Whether two names are the same file.
+/// Whether two names are the same file, or would be: one that is not there yet is its folder and its name.
 #[cfg(feature = "core")]
-pub fn same(one: &std::ffi::OsStr, other: &std::ffi::OsStr) -> bool {
-    use std::os::unix::fs::MetadataExt;
-    match (std::fs::metadata(one), std::fs::metadata(other)) {
+pub fn same(one: &OsStr, other: &OsStr) -> bool {
+    match (fs::metadata(one), fs::metadata(other)) {
         (Ok(a), Ok(b)) => a.dev() == b.dev() && a.ino() == b.ino(),
-        _ => one == other,
+        (Err(_), Err(_)) => one == other || place_of(one).is_some_and(|place| place_of(other) == Some(place)),
+        _ => false,
     }
+}
+
+/// The folder behind its links, and the name there.
+#[cfg(feature = "core")]
+fn place_of(file: &OsStr) -> Option<(PathBuf, &OsStr)> {
+    let path = Path::new(file);
+    Some((fs::canonicalize(replace::folder_of(path)).ok()?, path.file_name()?))
 }

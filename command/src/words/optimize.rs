@@ -49,20 +49,23 @@ fn parts(call: &Call, settings: Settings) -> Result<Answer, Stop> {
         Ok(Answer::good(last).saying(said))
     })?;
     if !answer.refused {
-        put_parts(&wanted)?;
+        put_parts(call.out(), &wanted)?;
         answer.done = "mortarbee: the files are written\n".into();
     }
     Ok(answer)
 }
 
-/// Files are replaced, and nothing else is written to: a pipe could not be given back.
-fn put_parts(wanted: &[(&OsStr, Vec<u8>)]) -> Result<(), Stop> {
+/// Files are replaced, and nothing else is written to: a pipe could not be given back. Each is another than the answer's.
+fn put_parts(out: &OsStr, wanted: &[(&OsStr, Vec<u8>)]) -> Result<(), Stop> {
     let mut all = vec![];
     for (k, (file, bytes)) in wanted.iter().enumerate() {
         if wanted[..k].iter().any(|(other, _)| files::same(other, file)) {
             return Err(Stop::Misuse(format!("{} is named twice", file.to_string_lossy())));
         }
         match files::target_of(file)? {
+            Target::File(_) if files::same(file, out) => {
+                return Err(Stop::Misuse(format!("{} is where the line 7F goes, too: it needs another file", file.to_string_lossy())))
+            }
             Target::File(path) => all.push((path, bytes.as_slice())),
             _ => return Err(Stop::Misuse(format!("{} is no file: {LISTING}, {IMAGE} and {STEMS} write files", file.to_string_lossy()))),
         }

@@ -30,8 +30,7 @@ fn check_report(call: &Call, report: &OsStr) -> Result<(), Stop> {
     if files::same(report, "/dev/null".as_ref()) {
         return Ok(());
     }
-    let out = call.output.as_deref().filter(|output| *output != "-").unwrap_or("/dev/stdout".as_ref());
-    if report == "-" || report == out || files::same(report, out) {
+    if report == "-" || files::same(report, call.out()) {
         return Err(Stop::Misuse(format!("{} is where the listing goes: --report needs another file", report.to_string_lossy())));
     }
     if call.file(0).is_some_and(|file| files::same(report, file)) {
