@@ -7,7 +7,7 @@ use kit::{has_command, is_root, leave_out, Folder, SHORT};
 use std::fs::{self, Permissions};
 use std::os::unix::fs::PermissionsExt;
 use std::os::unix::process::{CommandExt, ExitStatusExt};
-use std::process::Stdio;
+use std::process::{Output, Stdio};
 use std::time::{Duration, Instant};
 
 const SHRUNK: &str = "012F010001\n028001\n0143\n020001\n012C0000000002\n7F0002000005\n";
@@ -135,6 +135,26 @@ fn parts_are_all_or_none() {
     assert!(f.is_clean());
 }
 
+/// The second of two files cannot take its name: the first becomes what it was, and where it cannot, that is told.
+#[test]
+fn a_file_is_brought_back_or_told() {
+    let f = Folder::new("back");
+    let Some(mut command) = f.slow(false, "optimize --listing new.lst --image new.bin good.lst") else {
+        return leave_out("a_file_is_brought_back_or_told", "there is no cc");
+    };
+    f.write("new.bin", "old\n");
+    for (old, fails, told) in [("old\n", "2", ""), ("", "2", ""), ("old\n", "23", "new.lst is the new one, and cannot be brought back; ")] {
+        f.write("new.lst", old);
+        f.run("[ -s new.lst ] || rm new.lst");
+        let done = command.env("FAILS", fails).output().expect("sh");
+        let said = format!("mortarbee: {told}new.bin cannot be replaced; it is as it was: input/output error\n");
+        assert_eq!((done.status.code(), String::from_utf8_lossy(&done.stderr).as_ref()), (Some(2), said.as_str()));
+        assert_eq!((f.read("new.bin").as_str(), f.has("new.lst")), ("old\n", !old.is_empty()));
+        assert_eq!(f.read("new.lst"), if told.is_empty() { old } else { SHORT });
+        assert!(f.is_clean());
+    }
+}
+
 /// What goes to two names of one file would be lost, whether the file is there or not.
 #[test]
 fn a_new_file_has_one_name() {
@@ -159,31 +179,67 @@ fn a_new_file_has_one_name() {
     assert!(f.is_clean());
 }
 
+/// Runs a line as one who is not root.
+fn as_nobody(f: &Folder, line: &str) -> std::io::Result<Output> {
+    let mut command = f.shell("sh", line);
+    if is_root() {
+        command.uid(65_534).gid(65_534);
+    }
+    command.output()
+}
+
+fn set_mode(f: &Folder, name: &str, mode: u32) {
+    fs::set_permissions(f.0.join(name), Permissions::from_mode(mode)).expect("rights");
+}
+
+/// Whether a test that needs one who is not root has none.
+fn is_without_nobody(f: &Folder, test: &str) -> bool {
+    set_mode(f, "", 0o777);
+    let has_one = as_nobody(f, "m version >/dev/null").is_ok_and(|done| done.status.success());
+    if !has_one {
+        leave_out(test, "root cannot be kept from files, and nobody cannot start the command");
+    }
+    !has_one
+}
+
 #[test]
 fn a_read_only_folder_is_told() {
     let f = Folder::new("locked");
+    if is_without_nobody(&f, "a_read_only_folder_is_told") {
+        return;
+    }
     fs::create_dir(f.0.join("shut")).expect("a folder");
-    fs::write(f.0.join("shut/old"), "old\n").expect("a file");
-    for (name, mode) in [("shut/old", 0o666), ("shut", 0o555), ("", 0o777)] {
-        fs::set_permissions(f.0.join(name), Permissions::from_mode(mode)).expect("rights");
-    }
-    let run = |line: &str| {
-        let mut command = f.shell("sh", line);
-        if is_root() {
-            command.uid(65_534).gid(65_534);
-        }
-        command.output()
-    };
-    if !run("m version >/dev/null").is_ok_and(|done| done.status.success()) {
-        return leave_out("a_read_only_folder_is_told", "root cannot be kept from writing, and nobody cannot start the command");
-    }
+    f.write("shut/old", "old\n");
+    set_mode(&f, "shut/old", 0o666);
+    set_mode(&f, "shut", 0o555);
     for line in ["m judge good.lst -o shut/new", "m judge good.lst -o shut/old", "m settings add 7 --store shut/store"] {
-        let done = run(line).expect("sh");
+        let done = as_nobody(&f, line).expect("sh");
         assert_eq!((done.status.code(), done.stdout.as_slice()), (Some(2), &b""[..]), "{line}");
         assert!(String::from_utf8_lossy(&done.stderr).contains("it is as it was"), "{line}");
     }
     assert_eq!(f.read("shut/old"), "old\n");
-    fs::set_permissions(f.0.join("shut"), Permissions::from_mode(0o755)).expect("rights");
+    set_mode(&f, "shut", 0o755);
+}
+
+/// A file that can be written and not read is replaced alone; one of several it could not be brought back.
+#[test]
+fn an_old_file_that_cannot_be_read_is_left() {
+    let f = Folder::new("unread");
+    if is_without_nobody(&f, "an_old_file_that_cannot_be_read_is_left") {
+        return;
+    }
+    f.write("new.lst", "old\n");
+    set_mode(&f, "new.lst", 0o222);
+    let done = as_nobody(&f, "m optimize --listing new.lst --image new.bin good.lst").expect("sh");
+    assert_eq!((done.status.code(), done.stdout.as_slice()), (Some(2), &b""[..]));
+    assert!(String::from_utf8_lossy(&done.stderr).contains("new.lst cannot be read, and so not be brought back; all is as it was"));
+    assert!(!f.has("new.bin") && f.is_clean());
+    set_mode(&f, "new.lst", 0o666);
+    assert_eq!(f.read("new.lst"), "old\n");
+    set_mode(&f, "new.lst", 0o222);
+    assert!(as_nobody(&f, "m optimize --listing new.lst good.lst").is_ok_and(|done| done.status.success()));
+    set_mode(&f, "new.lst", 0o666);
+    assert_eq!(f.read("new.lst"), SHORT);
 }
 
 /// A run of some seconds: each of 600 jumps is tried again after each of 420 rewrites, and refused late, by the branch behind them.

@@ -87,26 +87,41 @@ pub fn replace(target: &Path, bytes: &[u8]) -> Result<(), Stop> {
 }
 
 /// Several files, all or none: all are written and on the disk before the first takes its name, and one that cannot brings back those
-/// before it. A signal that would end the process waits so long: it finds all or none, and no file beside them.
+/// before it, or says which it could not. A signal that would end the process waits so long: it finds all or none, and no file beside
+/// them.
 pub fn replace_all(files: &[(PathBuf, &[u8])]) -> Result<(), Stop> {
     while_signals_wait(|| replace_each(files))
 }
 
 fn replace_each(files: &[(PathBuf, &[u8])]) -> Result<(), Stop> {
-    let old: Vec<Option<Vec<u8>>> = if files.len() > 1 { files.iter().map(|(path, _)| fs::read(path).ok()).collect() } else { vec![None] };
+    let old = if files.len() > 1 { files.iter().map(|(path, _)| old_of(path)).collect::<Result<_, _>>()? } else { vec![] };
     let mut all = files.iter().map(|(path, bytes)| Beside::write(path, bytes)).collect::<Result<Vec<_>, _>>()?;
-    for k in 0..all.len() {
-        if let Err(why) = all[k].take_name() {
-            for (j, (path, _)) in files.iter().enumerate().take(k) {
-                match &old[j] {
-                    Some(bytes) => replace_each(&[(path.clone(), bytes)])?,
-                    None => drop(fs::remove_file(path)),
-                }
-            }
-            return Err(trouble(&format!("{} cannot be replaced; it is as it was", files[k].0.display()), why));
+    for (k, beside) in all.iter_mut().enumerate() {
+        if let Err(why) = beside.take_name() {
+            let what = format!("{} cannot be replaced; it is as it was", files[k].0.display());
+            return Err(trouble(&(bring_back(&files[..k], &old) + &what), why));
         }
     }
     files.iter().try_for_each(|(path, _)| sync_folder(path))
+}
+
+/// What a file was, none if it was not there. One that cannot be read could not be brought back.
+fn old_of(path: &Path) -> Result<Option<Vec<u8>>, Stop> {
+    match fs::read(path) {
+        Ok(bytes) => Ok(Some(bytes)),
+        Err(why) if why.kind() == ErrorKind::NotFound => Ok(None),
+        Err(why) => Err(trouble(&format!("{} cannot be read, and so not be brought back; all is as it was", path.display()), why)),
+    }
+}
+
+/// The files become what they were. What is said is which of them do not.
+fn bring_back(files: &[(PathBuf, &[u8])], old: &[Option<Vec<u8>>]) -> String {
+    let is_old = |path: &Path, old: &Option<Vec<u8>>| match old {
+        Some(bytes) => Beside::write(path, bytes).is_ok_and(|mut beside| beside.take_name().is_ok()),
+        None => fs::remove_file(path).is_ok(),
+    };
+    let left = files.iter().zip(old).filter(|((path, _), old)| !is_old(path, old));
+    left.map(|((path, _), _)| format!("{} is the new one, and cannot be brought back; ", path.display())).collect()
 }
 
 /// The name is on the disk, too.
