@@ -392,3 +392,18 @@ fn an_empty_listing_is_accepted_with_a_warning() {
         assert_eq!((done.status.code(), done.stderr.as_slice()), (Some(0), &b""[..]), "{line}");
     }
 }
+
+/// 24,575 frame bytes, of which a jump becomes two bytes longer.
+#[test]
+fn a_new_listing_that_is_too_long_is_told() {
+    let f = Folder::new("long");
+    let comment = |bytes: usize| format!("04{}\n", "20".repeat(bytes - 1));
+    f.write("full.lst", &format!("0300010000000000\n012C010001\n{}{}", comment(120).repeat(204), comment(82)));
+    let warning = "new.lst: warning: the new listing passes the total limit: handed in again, it is refused 2\n";
+    let done = f.run("m optimize --comments --listing new.lst full.lst");
+    assert_eq!((done.status.code(), String::from_utf8_lossy(&done.stderr).contains(warning)), (Some(0), true));
+    assert!(f.wrote("m judge new.lst").starts_with("7E02"));
+    for line in ["m optimize --listing new.lst full.lst", "m optimize --comments --listing new.lst good.lst"] {
+        assert_eq!((f.said(line).contains(warning), f.status("m judge new.lst")), (false, Some(0)), "{line}");
+    }
+}

@@ -5,7 +5,7 @@ use super::targets::marked;
 use crate::answer::{self, Answer, Stop};
 use crate::call::Call;
 use crate::files::{self, Input, Target};
-use border::{owned, print_run, Refusal, Settings};
+use border::{check, owned, print_run, Refusal, Settings};
 use std::ffi::OsStr;
 
 pub fn run(call: &Call) -> Result<Answer, Stop> {
@@ -46,13 +46,24 @@ fn parts(call: &Call, settings: Settings) -> Result<Answer, Stop> {
             let (_, stems) = owned::optimize_stems(settings, &input.bytes)?;
             wanted.push((file, list(&stems).into_bytes()));
         }
-        Ok(Answer::good(last).saying(said))
+        let length = call.value(LISTING).map_or(String::new(), |file| length(file, listing));
+        Ok(Answer::good(last).saying(said).saying(length))
     })?;
     if !answer.refused {
         put_parts(call.out(), &wanted)?;
         answer.done = "mortarbee: the files are written\n".into();
     }
     Ok(answer)
+}
+
+/// What is said of a new listing that has become too long to be handed in: the total limit is judged on the input alone (C-15).
+fn length(file: &OsStr, listing: &[u8]) -> String {
+    match check(listing) {
+        Err(refusal) if refusal.number == 2 => {
+            format!("{}: warning: the new listing passes the total limit: handed in again, it is refused 2\n", file.to_string_lossy())
+        }
+        _ => String::new(),
+    }
 }
 
 /// Files are replaced, and nothing else is written to: a pipe could not be given back. Each is another than the answer's.
