@@ -1,8 +1,10 @@
 //! A folder of its own for a test, with some listings, and lines of sh in which `m` is the command.
 #![allow(dead_code)]
 
-use std::fs;
-use std::io::Write;
+use std::fs::{self, Permissions};
+use std::io::{self, Write};
+use std::os::unix::fs::PermissionsExt;
+use std::os::unix::process::CommandExt;
 use std::path::PathBuf;
 use std::process::{Command, Output, Stdio};
 
@@ -120,4 +122,27 @@ pub fn leave_out(test: &str, why: &str) {
 
 pub fn is_root() -> bool {
     Command::new("id").arg("-u").output().is_ok_and(|done| done.stdout == b"0\n")
+}
+
+/// Runs a line as one who is not root.
+pub fn as_nobody(f: &Folder, line: &str) -> io::Result<Output> {
+    let mut command = f.shell("sh", line);
+    if is_root() {
+        command.uid(65_534).gid(65_534);
+    }
+    command.output()
+}
+
+pub fn set_mode(f: &Folder, name: &str, mode: u32) {
+    fs::set_permissions(f.0.join(name), Permissions::from_mode(mode)).expect("rights");
+}
+
+/// Whether a test that needs one who is not root has none.
+pub fn is_without_nobody(f: &Folder, test: &str) -> bool {
+    set_mode(f, "", 0o777);
+    let has_one = as_nobody(f, "m version >/dev/null").is_ok_and(|done| done.status.success());
+    if !has_one {
+        leave_out(test, "root cannot be kept from files, and nobody cannot start the command");
+    }
+    !has_one
 }
