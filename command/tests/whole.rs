@@ -63,7 +63,11 @@ fn a_file_becomes_its_own_answer() {
     assert_eq!(f.status("m good.lst -o good.lst"), Some(0));
     assert_eq!(f.read("good.lst"), SHRUNK);
     assert_eq!(f.status("m salvage bad.lst -o bad.lst"), Some(2));
-    assert!(f.said("m salvage bad.lst -o ./bad.lst").contains("--force"));
+    for line in ["m salvage bad.lst -o ./bad.lst", "m salvage <bad.lst -o bad.lst", "m salvage - -o $PWD/bad.lst <bad.lst"] {
+        assert!(f.said(line).contains("--force"), "{line}");
+    }
+    assert!(f.said("m salvage --report bad.lst <bad.lst >/dev/null").contains("bad.lst is the text"));
+    assert_eq!(f.status("m salvage --report /dev/null -o /dev/null </dev/null"), Some(0));
     assert_eq!(f.read("bad.lst"), "0143");
     assert_eq!(f.status("m salvage --force bad.lst -o bad.lst"), Some(0));
     assert_eq!(f.read("bad.lst"), "0430313433\n");

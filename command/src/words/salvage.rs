@@ -7,15 +7,16 @@ use crate::files::{self, Input};
 use border::lines::{self, Salvage};
 use border::owned;
 use std::ffi::OsStr;
+use std::fs;
 
 pub fn run(call: &Call) -> Result<Answer, Stop> {
     let report = call.value("--report");
     if let Some(report) = report {
         check_report(call, report)?;
     }
-    if let (Some(file), Some(output), false) = (call.file(0), &call.output, call.has("--force")) {
-        if files::same(file, output) {
-            return Err(Stop::Misuse(format!("{} is the text: --force salvages it in its place", file.to_string_lossy())));
+    if let (Some(output), false) = (&call.output, call.has("--force")) {
+        if is_text(call, output) {
+            return Err(Stop::Misuse(format!("{} is the text: --force salvages it in its place", output.to_string_lossy())));
         }
     }
     let input = files::input(call)?;
@@ -33,10 +34,16 @@ fn check_report(call: &Call, report: &OsStr) -> Result<(), Stop> {
     if report == "-" || files::same(report, call.out()) {
         return Err(Stop::Misuse(format!("{} is where the listing goes: --report needs another file", report.to_string_lossy())));
     }
-    if call.file(0).is_some_and(|file| files::same(report, file)) {
+    if is_text(call, report) {
         return Err(Stop::Misuse(format!("{} is the text: --report needs another file", report.to_string_lossy())));
     }
     Ok(())
+}
+
+/// Whether a file is the text, which may be on standard input.
+fn is_text(call: &Call, file: &OsStr) -> bool {
+    let text = call.file(0).filter(|text| *text != "-").unwrap_or("/dev/stdin".as_ref());
+    fs::metadata(file).is_ok_and(|found| found.is_file()) && files::same(text, file)
 }
 
 /// Each line that was replaced and why, from where on lines are left off, and how many.
