@@ -1,4 +1,4 @@
--- The same is answered to equal settings: `why`. That its numbers coincide is `Same.one-steps`.
+-- The same is answered to equal settings: `why`. That two results coincide is `Same.one-why`.
 use mathlib.Core.Path.{_≡_, subst}
 use mathlib.Core.List.{List}
 use Prim.Native.Nat.{ℕ}

@@ -1,4 +1,4 @@
--- Equal answers are said by the same numbers, and any two answers that are said of one result coincide.
+-- Equal answers are said by the same numbers, and any two results of each function for C coincide: each number, and every lent byte.
 use mathlib.Core.Path.{_≡_, sym, _∙_, subst}
 use mathlib.Core.List.{List}
 use Prim.Native.Nat.{ℕ}
@@ -10,7 +10,8 @@ use Rattle.asm.specs.declared.Origin.{Origin}
 use Rattle.asm.specs.declared.Origin.the-variants.{Nothing}
 use Rattle.audit.specs.declared.Found.{Found}
 use Rattle.audit.specs.declared.Found.the-variants.{Same, Differs, Short, Long, Refused}
-use Rattle.steps.specs.Entry.{told, Leaves}
+use Rattle.steps.specs.Entry.{told, answerAs, roomAs, Leaves}
+use Rattle.why.specs.Entry.{told as whyTold, answerAs as whyAnswer, roomAs as whyRoom}
 use Rattle.border_answers.specs.declared.rewrites.StepsReply.{StepsReply}
 use Rattle.border_answers.specs.declared.audits.AuditReply.{AuditReply}
 use Rattle.border_answers.specs.Replies.{SaysSteps, SaysAt, SaysFault, SaysAudit}
@@ -26,13 +27,29 @@ pub as-asked : (asked given : Settings) (text out : List ℕ) (a : Answer) (out�
     → Leaves (told given text (length out)) a out out′
 as-asked asked given text out a out′ e h = subst (λ (x : Settings). Leaves (told x text (length out)) a out out′) e h
 
--- `mortarbee_steps`: the numbers coincide
-pub one-steps : (r s : StepsReply) (a : Answer) → SaysSteps r a → SaysSteps s a
-    → (r .lines ≡ s .lines) × (r .rewrites ≡ s .rewrites) × (r .number ≡ s .number) × (r .place ≡ s .place) × (r .argument ≡ s .argument) × (r .amount ≡ s .amount)
-one-steps r s a h k =
-    (h .lines ∙ sym (k .lines), h .rewrites ∙ sym (k .rewrites), h .number ∙ sym (k .number), h .place ∙ sym (k .place), h .argument ∙ sym (k .argument), h .amount ∙ sym (k .amount))
+one-said : (a : Answer) (r s : StepsReply) → SaysSteps r a → SaysSteps s a → r ≡ s
+one-said a r s h k =
+    rw (
+      h .number ∙ sym (k .number),
+      h .place ∙ sym (k .place),
+      h .argument ∙ sym (k .argument),
+      h .amount ∙ sym (k .amount),
+      h .lines ∙ sym (k .lines),
+      h .rewrites ∙ sym (k .rewrites),
+    )
 
--- `mortarbee_audit`: so do they
+module _ (asked : Settings) (text room : List ℕ) (r s : StepsReply) (x y : List ℕ) where
+  -- `mortarbee_steps`
+  pub one-steps : let t = told asked text (length room) in
+      SaysSteps r (answerAs t) × (x ≡ roomAs t room) → SaysSteps s (answerAs t) × (y ≡ roomAs t room) → (r ≡ s) × (x ≡ y)
+  one-steps a b = (one-said _ r s (a .0) (b .0), a .1 ∙ sym (b .1))
+
+  -- `mortarbee_why`
+  pub one-why : let t = whyTold asked text (length room) in
+      SaysSteps r (whyAnswer t) × (x ≡ whyRoom t room) → SaysSteps s (whyAnswer t) × (y ≡ whyRoom t room) → (r ≡ s) × (x ≡ y)
+  one-why a b = (one-said _ r s (a .0) (b .0), a .1 ∙ sym (b .1))
+
+-- `mortarbee_audit`, which is lent no room: each number
 pub record Alike (r s : AuditReply) : Type 0 where
   pub number : r .number ≡ s .number
   pub place : r .place ≡ s .place
