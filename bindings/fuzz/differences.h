@@ -77,7 +77,6 @@ static void try_stems(unsigned asked, struct mortarbee_reply plain, const uint8_
 /* ---- the differences, by other code */
 
 struct lines {
-    int marked;
     size_t n;
     const uint8_t *at[MOST_LINES];
     size_t size[MOST_LINES];
@@ -96,7 +95,6 @@ static size_t pair_count, pair_first[MOST_LINES], pair_second[MOST_LINES];
 
 static void split(struct lines *ls, const uint8_t *from, size_t n) {
     size_t at = is_marked(from, n) ? MARK_SIZE : 0;
-    ls->marked = at != 0;
     for (ls->n = 0; at < n; ls->n++) {
         const uint8_t *end = memchr(from + at, '\n', n - at);
         ls->at[ls->n] = from + at;
@@ -191,16 +189,20 @@ static int unread(const uint8_t *from, size_t n, unsigned whose) {
 static void expect(const uint8_t *first, size_t n, const uint8_t *second, size_t m, int given, const uint8_t *pairing, size_t size) {
     wanted.number = wanted.whose = 0;
     wanted.place = wanted.n = pair_count = 0;
-    if (unread(first, n, 1) || unread(second, m, 2)) {
+    if (unread(first, n, 1)) {
         return;
     }
-    split(&first_lines, first, n);
-    split(&second_lines, second, m);
-    if (first_lines.marked != second_lines.marked) {
+    /* the second's form is judged before its own lines */
+    if (is_marked(first, n) != is_marked(second, m)) {
         wanted.number = 1;
         wanted.whose = 2;
         return;
     }
+    if (unread(second, m, 2)) {
+        return;
+    }
+    split(&first_lines, first, n);
+    split(&second_lines, second, m);
     if (!given) {
         pair_alike();
     } else if (!pair_listed(pairing, size)) {
