@@ -1,0 +1,6 @@
+-- What is shown of the two together.
+pub mod Again
+-- ---- the laws behind it
+pub mod Feedless
+pub mod Made
+pub mod Whole
