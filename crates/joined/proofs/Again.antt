@@ -1,7 +1,7 @@
 -- "What C-16 writes reads back as the same statement", of whole listings, at the entries. Assumes nothing.
 use mathlib.Core.Path.{_≡_, refl, ap, _∙_, subst}
 use mathlib.Core.Logic.{⊎-elim}
-use mathlib.Core.List.{List, [], _∷_}
+use mathlib.Core.List.{List, []}
 use Prim.Native.Nat.{ℕ, _*_, _≤_, _<_}
 use native.Mathlib.Omega.{arith}
 use lib.ListN.{length}
@@ -16,7 +16,6 @@ use Rattle.rules.specs.Programs.{Program}
 use Rattle.rules.specs.Listing.{ListingForm, oldForm, mostCharacters, linesOf, formIn, statementLines, readLines, readListing}
 use Rattle.rules.specs.Output.{textOf as listingText}
 use Rattle.promises.specs.Demand2.{WithinTotal}
-use Rattle.promises.specs.Room.{frameBytes}
 use Rattle.promises.proofs.Listings.{lineRoom, read-limits}
 use Rattle.promises.proofs.TextBack.{text-back, form-back}
 use Rattle.digits.specs.Leaves.{Leaves as Left}
@@ -29,11 +28,6 @@ use Rattle.joined.specs.Joined.{written, Ran, ReadAgain, Passed}
 use Rattle.joined.proofs.Made.{made, old-listing}
 use Rattle.joined.proofs.Whole.{alone, listing-own, text-read, text-passes}
 
-old-total : (p : Program) → total (lineRoom oldForm) p ≡ total frameBytes p
-unfolding total
-old-total [] = refl
-old-total (s ∷ p) = omega (arith, old-total p)
-
 -- what an entry wrote that answered with a text
 written-back : (x : Judged (List ℕ)) (t : List ℕ) (a : Answer) (room room′ : List ℕ) → x ≡ ok t → Left x a room room′ → written a room′ ≡ t
 written-back x t a room room′ e l =
@@ -43,7 +37,7 @@ written-back x t a room room′ e l =
 module _ (listing : List ℕ) (p : Program) (e : readListing listing ≡ ok p) where
   -- by the definitions: a text of all statements is read, and their listing is written
   pub reads : WithinTotal oldForm p → Takes 0 0 (linesOf (textOf p)) (ok (alone p))
-  reads k = text-read 0 0 p (made listing p e .writable) (omega (arith, read-limits listing p e .0)) (omega (arith, k, old-total p))
+  reads k = text-read 0 0 p (made listing p e .writable) (omega (arith, read-limits listing p e .0)) (omega (arith, k))
 
   -- its listing has the old form and reads as the same statements
   listed : WithinTotal oldForm p → (formIn (linesOf (listingOf p)) ≡ oldForm) × (readListing (listingOf p) ≡ ok p)
@@ -89,8 +83,8 @@ module _ (listing : List ℕ) (p : Program) (e : readListing listing ≡ ok p) w
     -- the exception: a listing with source lines whose frames of the old form pass the total is 2
     pub passed : (WithinTotal oldForm p → ⊥) → Passed out out′ b
     passed k =
-        let n : ℕ = 2 * total frameBytes p in
-        let over : 49152 < n = ⊎-elim (λ h. h) (λ h. absurd (k (omega (arith, h, old-total p)))) (lt-or-le 49152 n) in
+        let n : ℕ = 2 * total (lineRoom oldForm) p in
+        let over : 49152 < n = ⊎-elim (λ h. h) (λ h. absurd (k (omega (arith, h)))) (lt-or-le 49152 n) in
         let few = read-limits listing p e .0 in
         let t = text-passes 0 0 p (made listing p e .writable) (omega (arith, few)) (omega arith) (omega (arith, over)) in
         let q : Judged Program = no (Limit (atPlace (t .0))) in

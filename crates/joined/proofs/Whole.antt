@@ -21,13 +21,15 @@ use Rattle.rules.specs.Output.{frameOf, lineOf, linesIn, textOf as listingText}
 use Rattle.rules.proofs.Laws.{by-change}
 use Rattle.promises.specs.Demand2.{own}
 use Rattle.promises.specs.Room.{frameBytes}
+use Rattle.promises.proofs.Listings.{lineRoom}
 use Rattle.promises.proofs.Sounds.{shapes, SoundExpr, SoundExprs, Sound, Sounds, SoundStmt}
 use Rattle.promises.proofs.TextBack.{Writable, AllWritable}
 use Rattle.text.specs.Text.{lineText}
-use Rattle.text.proofs.Lengths.{Numbered, line-by-frame}
+use Rattle.text.proofs.Lengths.{line-by-frame}
 use Rattle.grammar.specs.Reading.{Fitting}
 use Rattle.plans.proofs.Statements.{statement-back}
 use Rattle.readable.specs.Readable.{textOf}
+use Rattle.readable.proofs.NeverShort.{numbered}
 use Rattle.intake.specs.Intake as intake
 use Rattle.intake.specs.Intake.{Judges, Takes, listingOf}
 use Rattle.joined.proofs.Feedless.{none-left, first-line}
@@ -90,17 +92,6 @@ short-exprs (bytes es) h = items-fit es (h .2)
 short-exprs (words es) h = items-fit es (h .2)
 short-exprs (pad add m) h = refl
 
-numbered : (s : Stmt) → SoundStmt s → Numbered s
-numbered gone h = tt
-numbered (instr f xs c) h = h .0
-numbered (label n) h = tt
-numbered (variable n e) h = tt
-numbered (comment x) h = tt
-numbered (org l) h = h
-numbered (bytes es) h = tt
-numbered (words es) h = tt
-numbered (pad add m) h = (h .0, h .2)
-
 -- ---- one line
 
 abbrev lineThere : Stmt → Line
@@ -126,7 +117,7 @@ module _ (i sum : ℕ) (s : Stmt) (v : Writable s) (few : i < 1024) where
 
 -- ---- all lines
 
-pub text-read : (i sum : ℕ) (p : Program) → AllWritable p → i + length p ≤ 1024 → sum + 2 * total frameBytes p ≤ 49152
+pub text-read : (i sum : ℕ) (p : Program) → AllWritable p → i + length p ≤ 1024 → sum + 2 * total (lineRoom oldForm) p ≤ 49152
     → Takes i sum (linesOf (textOf p)) (ok (alone p))
 unfolding total
 text-read i sum [] v h k = subst (λ ls. Takes i sum ls (ok [])) (sym none-left) intake.none
@@ -140,7 +131,7 @@ text-read i sum (s ∷ p) v h k =
 abbrev Stops : (i sum : ℕ) → List Line → Type 0
 Stops i sum ls = (j : Placeℕ) × Takes i sum ls (no (Limit (atPlace j)))
 
-pub text-passes : (i sum : ℕ) (p : Program) → AllWritable p → i + length p ≤ 1024 → sum ≤ 49152 → 49152 < sum + 2 * total frameBytes p
+pub text-passes : (i sum : ℕ) (p : Program) → AllWritable p → i + length p ≤ 1024 → sum ≤ 49152 → 49152 < sum + 2 * total (lineRoom oldForm) p
     → Stops i sum (linesOf (textOf p))
 unfolding total
 text-passes i sum [] v h k l = absurd (omega arith)

@@ -17,7 +17,8 @@ use Rattle.readable.specs.Promise.{enough}
 use Rattle.readable.proofs.Turns.{length-line}
 use Rattle.readable.proofs.Judged.{all-fits, read-ok}
 
-numbered : (s : Stmt) → SoundStmt s → Numbered s
+-- what can be read from a frame has its numbers in their fields
+pub numbered : (s : Stmt) → SoundStmt s → Numbered s
 numbered gone h = tt
 numbered (instr f xs c) h = h .0
 numbered (label n) h = tt
