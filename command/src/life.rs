@@ -30,12 +30,18 @@ pub fn during<T>(work: impl FnOnce() -> T) -> T {
 fn show(ended: &Receiver<()>) {
     let mut seconds = 2;
     let mut wait = Duration::from_secs(2);
+    let mut shown = false;
     while ended.recv_timeout(wait) == Err(RecvTimeoutError::Timeout) {
-        let _ = write!(std::io::stderr(), "\rmortarbee: at work on {} lines, {seconds} s ", LINES.load(Ordering::Relaxed));
+        // while the input is waited for there is nothing to say
+        let lines = LINES.load(Ordering::Relaxed);
+        if lines > 0 {
+            let _ = write!(std::io::stderr(), "\rmortarbee: at work on {lines} lines, {seconds} s ");
+            shown = true;
+        }
         seconds += 1;
         wait = Duration::from_secs(1);
     }
-    if seconds > 2 {
+    if shown {
         let _ = write!(std::io::stderr(), "\r\x1b[K");
     }
 }

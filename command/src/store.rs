@@ -44,7 +44,7 @@ pub fn take(call: &Call, changing: bool) -> Result<Store, Stop> {
 
 fn lock(path: &Path) -> Result<File, Stop> {
     let folder = folder_of(path);
-    let no = |why| Stop::Trouble(format!("{} cannot be locked: {why}", folder.display()));
+    let no = |why: std::io::Error| Stop::Trouble(format!("{} cannot be locked: {}", folder.display(), files::in_words(&why)));
     let lock = File::open(&folder).map_err(no)?;
     lock.lock().map_err(no)?;
     Ok(lock)

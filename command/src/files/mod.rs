@@ -1,4 +1,4 @@
-//! What is read and written. An answer is written whole, or the status is 2: each write is looked at.
+//! What is read and written. Each write of an answer is looked at: one that fails is status 2, unless the reader wants no more.
 
 mod input; // what is read
 mod output; // standard output, streams, and where a name leads
@@ -29,7 +29,7 @@ fn trouble(what: &str, why: io::Error) -> Stop {
 }
 
 /// What the system says, without its number.
-fn in_words(why: &io::Error) -> String {
+pub fn in_words(why: &io::Error) -> String {
     let said = why.to_string();
     match said.find(" (os error") {
         Some(end) => said[..end].to_lowercase(),
