@@ -3,10 +3,10 @@
 use crate::answer::{Answer, Stop};
 use crate::call::Call;
 use crate::diagnose::frames::{is_digit, is_marked, pair_at};
-use crate::diagnose::{self, of_listing};
+use crate::diagnose::{self, of_listing, of_part};
 use crate::files::{self, Input};
 use crate::life::is_plain;
-use border::{check, owned, NotCompared, Settings, Whose};
+use border::{owned, NotCompared, Settings, Whose};
 use std::io::IsTerminal;
 
 pub fn run(call: &Call) -> Result<Answer, Stop> {
@@ -43,9 +43,9 @@ fn compare(first: &Input, second: &Input, pairing: Option<(&str, &[u16])>) -> An
         Err(refused) => refused,
     };
     let said = match whose {
-        Whose::First => format!("the first listing:\n{}", of_listing(&first.name, refusal, &first.bytes)),
-        Whose::Second if is_of_other_form(first, second) => format!("the second listing:\n{}", other_form(first, second)),
-        Whose::Second => format!("the second listing:\n{}", of_listing(&second.name, refusal, &second.bytes)),
+        Whose::First => of_part(&first.name, "the first listing: ", 0, refusal, &first.bytes),
+        Whose::Second if is_of_other_form(first, second) => other_form(first, second),
+        Whose::Second => of_part(&second.name, "the second listing: ", 0, refusal, &second.bytes),
         Whose::Both => {
             let file = pairing.map_or(first.name.as_str(), |(name, _)| name);
             format!("{}  entry {}, counted from 0\n", diagnose::of_file(file, refusal), refusal.place)
@@ -54,15 +54,15 @@ fn compare(first: &Input, second: &Input, pairing: Option<(&str, &[u16])>) -> An
     Answer::refused(refusal, said)
 }
 
-/// C-20: "in C-13 a second listing of the other form is 1, place 0": by itself it may be as good as any.
+/// C-20: "in C-13 a second listing of the other form is 1, place 0", before its own lines: by itself it may be as good as any.
 fn is_of_other_form(first: &Input, second: &Input) -> bool {
-    is_marked(&first.bytes) != is_marked(&second.bytes) && check(&second.bytes).is_ok()
+    is_marked(&first.bytes) != is_marked(&second.bytes)
 }
 
 fn other_form(first: &Input, second: &Input) -> String {
     let (marked, plain) = if is_marked(&first.bytes) { (first, second) } else { (second, first) };
     format!(
-        "{}:1:1: error: refused 1, statement 0: the listings are not of the same form\n  {} begins with 7D02 (source lines), {} does not\n",
+        "{}:1:1: error: the second listing: refused 1, statement 0: the listings are not of the same form\n  {} begins with 7D02 (source lines), {} does not\n",
         second.name, marked.name, plain.name
     )
 }
