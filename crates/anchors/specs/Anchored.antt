@@ -5,54 +5,54 @@ use Rattle.rules.specs.declared.Outcome.{Outcome}
 use Rattle.rules.specs.declared.Outcome.TheVariants.{Unknown}
 use Rattle.rules.specs.Programs.{Placeℕ, Operand, register, value, inner, args_of, last_of, Program, at}
 use Rattle.rules.specs.Layout.{Origin as Source, origin}
-use Rattle.rules.specs.Names.{Key, Entry, contextAt}
+use Rattle.rules.specs.Names.{Key, Entry, context_at}
 use Rattle.rules.specs.Judging.{worth}
-use Rattle.rules.specs.Rewriting.{holdsLabel, isAnchored, anchor}
-use Rattle.slots.specs.Slots.{Slots, noOwner, program_of, Sound}
+use Rattle.rules.specs.Rewriting.{holds_label, is_anchored, anchor}
+use Rattle.slots.specs.Slots.{Slots, no_owner, program_of, Sound}
 use Rattle.asm.specs.declared.Origin.{Origin}
 use Rattle.asm.specs.declared.Origin.TheVariants.{At, Nothing}
-use Rattle.asm.specs.Belonging.{originAs, OriginIn}
+use Rattle.asm.specs.Belonging.{origin_as, OriginIn}
 
 -- "a target that holds no label, directly or through variables": its value in context k; there is none to ask of a target that holds one
-abbrev pub constantValue : (names : List Entry) (moving : List Key) (k : ℕ) → Operand → Outcome
-constantValue names moving k (register r) = Unknown
-constantValue names moving k (value e) = cond (holdsLabel moving k e) Unknown (worth names k e)
-constantValue names moving k (inner i o) = Unknown
+abbrev pub constant_value : (names : List Entry) (moving : List Key) (k : ℕ) → Operand → Outcome
+constant_value names moving k (register r) = Unknown
+constant_value names moving k (value e) = cond (holds_label moving k e) Unknown (worth names k e)
+constant_value names moving k (inner i o) = Unknown
 
 -- the origin that the target at place i becomes an inner label of
-unfoldable pub originAt : (names : List Entry) (moving : List Key) → Program → (i : Placeℕ) → Option Source
-originAt names moving p i =
-    cond (isAnchored names p i (at p i)) (origin p (constantValue names moving (contextAt p i) (last_of (args_of (at p i))))) none
+unfoldable pub origin_at : (names : List Entry) (moving : List Key) → Program → (i : Placeℕ) → Option Source
+origin_at names moving p i =
+    cond (is_anchored names p i (at p i)) (origin p (constant_value names moving (context_at p i) (last_of (args_of (at p i))))) none
 
 -- what the code answers where the origin is o, or there is none: the same, and one of the bytes of a slot
 pub record Found (t : Slots) (o : Option Source) (r : Origin) : Type 0 where
-  pub answer : r ≡ originAs o
+  pub answer : r ≡ origin_as o
   pub inside : OriginIn t r
 
 -- the inner label of an origin, as the tables have it
-abbrev pub ownerIn : Origin → ℕ
-ownerIn (At i o) = i.0
-ownerIn Nothing = noOwner
+abbrev pub owner_in : Origin → ℕ
+owner_in (At i o) = i.0
+owner_in Nothing = no_owner
 
-abbrev pub offsetIn : Origin → ℕ
-offsetIn (At i o) = o
-offsetIn Nothing = 0
+abbrev pub offset_in : Origin → ℕ
+offset_in (At i o) = o
+offset_in Nothing = 0
 
 -- the tables have room for it
 abbrev pub Small : Origin → Type 0
 Small (At i o) = (i.0 < 1024) × (o < 65536)
 Small Nothing = Unit
 
-abbrev pub ownerOf : Option Source → ℕ
-ownerOf o = ownerIn (originAs o)
+abbrev pub owner_of : Option Source → ℕ
+owner_of o = owner_in (origin_as o)
 
 abbrev pub offset_of : Option Source → ℕ
-offset_of o = offsetIn (originAs o)
+offset_of o = offset_in (origin_as o)
 
 -- the tables of a listing as read: each place carries its own target, and no target is an inner label
 pub record AsRead (t : Slots) : Type 0 where
   pub own : (i : Placeℕ) → i < t.count → get_or t.carry i 0 ≡ i
-  pub free : (i : Placeℕ) → i < t.count → get_or t.owners i 0 ≡ noOwner
+  pub free : (i : Placeℕ) → i < t.count → get_or t.owners i 0 ≡ no_owner
 
 -- u holds the program of t, anchored
 pub record Anchored (t u : Slots) : Type 0 where

@@ -4,6 +4,6 @@ use Rattle.rules.specs.Programs.{Placeℕ}
 use Rattle.anchors.specs.declared.Nearest.{Nearest}
 use Rattle.anchors.specs.declared.Nearest.TheVariants.{At, Nothing}
 
-abbrev pub nearestAs : Option Placeℕ → Nearest
-nearestAs none = Nothing
-nearestAs (some j) = At (record { 0 = j })
+abbrev pub nearest_as : Option Placeℕ → Nearest
+nearest_as none = Nothing
+nearest_as (some j) = At (record { 0 = j })

@@ -4,7 +4,7 @@ ghost use Rattle.std.specs.Prelude.{◌≡◌, List, ℕ, ◌<◌, pos, length, 
 ghost use Rattle.rules.specs.Programs.{args_of, last_of};
 ghost use Rattle.rules.specs.Layout.{origin};
 ghost use Rattle.rules.specs.Names.{Key, Entry, key_of, lookup};
-ghost use Rattle.rules.specs.Rewriting.{movingOf};
+ghost use Rattle.rules.specs.Rewriting.{moving_of};
 ghost use Rattle.rules.specs.Values.{nat};
 ghost use Rattle.expression.specs.Environment.{keys_of};
 ghost use Rattle.expression.specs.Linked.{Linked};
@@ -14,8 +14,8 @@ ghost use Rattle.slots.specs.Slots.{Slots, slots, program_of, Positioned};
 ghost use Rattle.image.specs.Tables.{Tables, tables_of, program, Ready};
 ghost use Rattle.asm.specs.Assembling.{Placed};
 ghost use Rattle.patterns.specs.Targets.{TargetIn};
-ghost use Rattle.anchors.specs.Anchored.{constantValue, originAt, ownerIn, offsetIn, Small, Found, AsRead, Anchored};
-ghost use Rattle.slots.specs.State.{startsIn, formsIn, ownersIn, offsetsIn, table_of, Labelled};
+ghost use Rattle.anchors.specs.Anchored.{constant_value, origin_at, owner_in, offset_in, Small, Found, AsRead, Anchored};
+ghost use Rattle.slots.specs.State.{starts_in, forms_in, owners_in, offsets_in, table_of, Labelled};
 
 use crate::Label;
 use crate::changing::is_change_jump;
@@ -39,14 +39,14 @@ fn target_value(
     moving: &[u32; 1024],
     at: Place,
 ) -> Outcome
-    requires { Held frames.now (startsIn state.now) count × TargetIn frames.now (startsIn state.now) count at.0 × (length
+    requires { Held frames.now (starts_in state.now) count × TargetIn frames.now (starts_in state.now) count at.0 × (length
         links.now ≡ 28672) }
     ensures { let k : ℕ = get_or contexts.now at.0 0 in
         ((names : List Entry)
-        → Linked (λ m. lookup names (key_of k m)) (frame_at frames.now (startsIn state.now) at.0)
-        (frame_at links.now (startsIn state.now) at.0) values.now count
-        → result ≡ constantValue names (keys_of moving.now contexts.now count) k
-        (last_of (args_of (input_at frames.now (startsIn state.now) at.0)))) }
+        → Linked (λ m. lookup names (key_of k m)) (frame_at frames.now (starts_in state.now) at.0)
+        (frame_at links.now (starts_in state.now) at.0) values.now count
+        → result ≡ constant_value names (keys_of moving.now contexts.now count) k
+        (last_of (args_of (input_at frames.now (starts_in state.now) at.0)))) }
 {
     let i = at.0;
     let context = contexts[i];
@@ -74,9 +74,9 @@ pub fn value_origin(
     positions: &[u32; 1025],
     x: Outcome,
 ) -> Origin
-    requires { Held frames.now (startsIn state.now) count
-        × Any frames.now (startsIn state.now) count (formsIn state.now) (λ t. Positioned t positions.now) }
-    ensures { Any frames.now (startsIn state.now) count (formsIn state.now)
+    requires { Held frames.now (starts_in state.now) count
+        × Any frames.now (starts_in state.now) count (forms_in state.now) (λ t. Positioned t positions.now) }
+    ensures { Any frames.now (starts_in state.now) count (forms_in state.now)
         (λ t. Found t (origin (program_of t) x) result) }
 {
     match x {
@@ -110,7 +110,7 @@ fn origin_at(
     ensures { let d : Tables = tables_of frames.now state.now count links.now values.now
         positions.now in
         let names : List Key = keys_of moving.now contexts.now count in
-        Found d.slots (originAt d.entries names (program d) at.0) result }
+        Found d.slots (origin_at d.entries names (program d) at.0) result }
 {
     if !is_transfer(form_at(frames, state, count, at)) {
         return Origin::Nothing;
@@ -125,7 +125,7 @@ fn origin_at(
 // An origin's inner label, as the tables hold it.
 fn label_of(o: Origin) -> Label
     requires { Small o }
-    ensures { (result.owner ≡ ownerIn o) × (result.offset ≡ offsetIn o) }
+    ensures { (result.owner ≡ owner_in o) × (result.offset ≡ offset_in o) }
 {
     match o {
         Origin::At(place, offset) => Label {
@@ -155,8 +155,8 @@ fn anchor_targets(
     requires fact { let d : Tables = tables_of frames.now state.now count links.now values.now positions.now in
         Ready d × AsRead d.slots × Placed d.slots contexts.now }
     requires fact_2 { let t : Slots = table_of frames.now state.now count in
-        (length (ownersIn state.now) ≡ 1025) × (length (offsetsIn state.now) ≡ 1025)
-        × (keys_of moving.now contexts.now count ≡ movingOf (program_of t)) × (next.old ≡ state.now) }
+        (length (owners_in state.now) ≡ 1025) × (length (offsets_in state.now) ≡ 1025)
+        × (keys_of moving.now contexts.now count ≡ moving_of (program_of t)) × (next.old ≡ state.now) }
     ensures { let t : Slots = table_of frames.now state.now count in
         Anchored t (table_of frames.now next.new count) × Labelled state.now next.new }
 {
@@ -192,7 +192,7 @@ pub fn anchor(
 )
     requires fact { let d : Tables = tables_of frames.now state.now count links.now values.now positions.now in
         Ready d × AsRead d.slots × Placed d.slots contexts.now }
-    requires state_len { (length (ownersIn state.now) ≡ 1025) × (length (offsetsIn state.now) ≡ 1025) × (next.old ≡ state.now) }
+    requires state_len { (length (owners_in state.now) ≡ 1025) × (length (offsets_in state.now) ≡ 1025) × (next.old ≡ state.now) }
     ensures { let t : Slots = table_of frames.now state.now count in
         Anchored t (table_of frames.now next.new count) × Labelled state.now next.new }
 {

@@ -1,20 +1,20 @@
 // Rule 1: a `Jmpf` right behind the `Not1` that changes the bank. It is judged on the tables at hand each time.
 ghost use Rattle.std.specs.Prelude.{◌≡◌, suc, ◌<◌, ◌≤◌, eqb, get_or};
 ghost use Rattle.std.proofs.Math.Option.{some};
-ghost use Rattle.rules.specs.Values.{isNumber};
+ghost use Rattle.rules.specs.Values.{is_number};
 ghost use Rattle.rules.specs.Forms.{not1};
 ghost use Rattle.rules.specs.Programs.{args_of};
-ghost use Rattle.rules.specs.Names.{contextAt};
-ghost use Rattle.rules.specs.Judging.{worthOf};
-ghost use Rattle.rules.specs.Rewriting.{skipped, valued10DAnd0, changesAt, isChangeJump};
-ghost use Rattle.rules.specs.Rewriting.{nearest as nearestPlace};
+ghost use Rattle.rules.specs.Names.{context_at};
+ghost use Rattle.rules.specs.Judging.{worth_of};
+ghost use Rattle.rules.specs.Rewriting.{skipped, valued_10d_and_0, changes_at, is_change_jump};
+ghost use Rattle.rules.specs.Rewriting.{nearest as nearest_place};
 ghost use Rattle.listing.specs.Tables.{Held};
 ghost use Rattle.env.specs.Tables.{Any};
 ghost use Rattle.slots.specs.Slots.{slot_at, program_of};
 ghost use Rattle.image.specs.Tables.{Tables, tables_of, program, Ready};
-ghost use Rattle.patterns.specs.Targets.{standsAt, formIn};
-ghost use Rattle.anchors.specs.Changes.{nearestAs};
-ghost use Rattle.slots.specs.State.{startsIn, formsIn};
+ghost use Rattle.patterns.specs.Targets.{stands_at, form_in};
+ghost use Rattle.anchors.specs.Changes.{nearest_as};
+ghost use Rattle.slots.specs.State.{starts_in, forms_in};
 
 use crate::Nearest;
 use image::argument_worth;
@@ -25,8 +25,8 @@ use slots::{Slot, State, slot_at};
 
 // "labels (inner ones too), variables and comments skipped". A slot that is gone holds no statement.
 fn skipped_at(frames: &[u8], state: &State, count: usize, at: Place) -> bool
-    requires { Held frames.now (startsIn state.now) count × (at.0 < count) }
-    ensures { Any frames.now (startsIn state.now) count (formsIn state.now) (λ t. result ≡ skipped
+    requires { Held frames.now (starts_in state.now) count × (at.0 < count) }
+    ensures { Any frames.now (starts_in state.now) count (forms_in state.now) (λ t. result ≡ skipped
         (slot_at t at.0)) }
 {
     match slot_at(frames, state, count, at) {
@@ -45,9 +45,9 @@ fn skipped_at(frames: &[u8], state: &State, count: usize, at: Place) -> bool
 
 // The last place below whose statement is not skipped.
 fn nearest(frames: &[u8], state: &State, count: usize, at: Place) -> Nearest
-    requires { Held frames.now (startsIn state.now) count × (at.0 ≤ count) }
-    ensures { Any frames.now (startsIn state.now) count (formsIn state.now)
-        (λ t. result ≡ nearestAs (nearestPlace (program_of t) at.0)) }
+    requires { Held frames.now (starts_in state.now) count × (at.0 ≤ count) }
+    ensures { Any frames.now (starts_in state.now) count (forms_in state.now)
+        (λ t. result ≡ nearest_as (nearest_place (program_of t) at.0)) }
 {
     let mut j = at.0;
     while 0 < j {
@@ -61,7 +61,7 @@ fn nearest(frames: &[u8], state: &State, count: usize, at: Place) -> Nearest
 
 // A value, and equal to n.
 fn is_number(x: Outcome, n: u16) -> bool
-    ensures { result ≡ isNumber n x }
+    ensures { result ≡ is_number n x }
 {
     match x {
         Outcome::Is(v) => v == n as i32,
@@ -92,10 +92,10 @@ fn valued_at(
 ) -> bool
     requires { let d : Tables = tables_of frames.now state.now count
         links.now values.now positions.now in
-        Ready d × (j.0 < count) × (formIn (standsAt d.slots j.0) ≡ not1) }
+        Ready d × (j.0 < count) × (form_in (stands_at d.slots j.0) ≡ not1) }
     ensures { let d : Tables = tables_of frames.now state.now count links.now values.now
         positions.now in
-        result ≡ valued10DAnd0 (worthOf d.entries (program d) (contextAt (program d) j.0)) (args_of (standsAt d.slots j.0)) }
+        result ≡ valued_10d_and_0 (worth_of d.entries (program d) (context_at (program d) j.0)) (args_of (stands_at d.slots j.0)) }
 {
     let bank = argument_worth(frames, state, count, links, values, positions, j, 0);
     if !is_number(bank, 0x10D) {
@@ -121,7 +121,7 @@ fn changes_at(
         Ready d × (at.0 < count) × (j.0 < count) }
     ensures { let d : Tables = tables_of frames.now state.now count links.now values.now
         positions.now in
-        result ≡ changesAt d.entries (program d) at.0 (some j.0) }
+        result ≡ changes_at d.entries (program d) at.0 (some j.0) }
 {
     if form_at(frames, state, count, j) != NOT1 {
         return false;
@@ -147,7 +147,7 @@ pub fn is_change_jump(
         Ready d × (at.0 < count) }
     ensures { let d : Tables = tables_of frames.now state.now count links.now values.now
         positions.now in
-        result ≡ isChangeJump d.entries (program d) at.0 }
+        result ≡ is_change_jump d.entries (program d) at.0 }
 {
     if form_at(frames, state, count, at) != JMPF {
         return false;

@@ -11,12 +11,12 @@ use lib.ListN.{length, drop, take, set, length-set, length-drop, drop_of_length-
 use lib.Seq.{drop-drop, take-set-lt}
 use borrow.Author.Tests.{eqb-true, eqb-false, eq-eqb, ne_eqb, le-leb, lt-leb}
 use Rattle.laws.specs.Lists.{each, total}
-use Rattle.laws.proofs.Lists.{each_append, total-append}
-use Rattle.laws.proofs.Tests.{and_both, first-false, second-false, true-false, false-true}
+use Rattle.laws.proofs.Lists.{each_append, total_append}
+use Rattle.laws.proofs.Tests.{and_both, first_false, second_false, true_false, false_true}
 use Rattle.rules.specs.Expressions.{Expr, bytes_of}
-use Rattle.rules.specs.Forms.{operandsAt}
-use Rattle.rules.specs.Programs.{Operand, register, value, inOperand, Stmt, instr}
-use Rattle.rules.specs.Output.{operandBytes, frame_of}
+use Rattle.rules.specs.Forms.{operands_at}
+use Rattle.rules.specs.Programs.{Operand, register, value, in_operand, Stmt, instr}
+use Rattle.rules.specs.Output.{operand_bytes, frame_of}
 use Rattle.grammar.specs.Reading.{look}
 use Rattle.grammar.specs.Going as going
 use Rattle.grammar.specs.Going.{Read, got, stuck, whole, alone, Goes, class_of, other, start, start_by}
@@ -25,28 +25,28 @@ use Rattle.leaves.specs.declared.Found.TheVariants as found
 use Rattle.plans.specs.Plans as plans
 use Rattle.plans.specs.Plans.{Plan, done, fork, expression, either, Walks}
 use Rattle.plans.specs.Words.{some?}
-use Rattle.plans.specs.Families.{Mark, hash, at, plain, Way, way, narrow, registerPlan, marks, markPlan, argument, behind, argsPlan, familyOf}
+use Rattle.plans.specs.Families.{Mark, hash, at, plain, Way, way, narrow, register_plan, marks, mark_plan, argument, behind, args_plan, family_of}
 use Rattle.laying.specs.Laying.{long, Stands, Added, Termed}
-use Rattle.laying.proofs.Laying.{nothing-stands}
+use Rattle.laying.proofs.Laying.{nothing_stands}
 use Rattle.laying.specs.declared.Told.{Told}
 use Rattle.laying.specs.declared.Told.TheVariants.{Frame, Wrong}
 use Rattle.laying.specs.Speaking.{Spoken}
-use Rattle.laying.proofs.Speaking.{first_byte, fork-byte, fork-wrong, through}
+use Rattle.laying.proofs.Speaking.{first_byte, fork_byte, fork_wrong, through}
 use Rattle.arguing.specs.declared.Arg.{Arg}
 use Rattle.arguing.specs.declared.Arg.TheVariants.{Ends, Not}
-use Rattle.marks.specs.Narrowing.{markBy, markNumber, agree, chosen}
-use Rattle.arguing.specs.Answers.{ArgEnds, Argued, formBytes, longs, Valued, Registered, FormEnd}
-use Rattle.marks.proofs.Narrowing.{step-law, none-law, some-law, done-law, more-law, at-most-three}
+use Rattle.marks.specs.Narrowing.{mark_by, mark_number, agree, chosen}
+use Rattle.arguing.specs.Answers.{ArgEnds, Argued, form_bytes, longs, Valued, Registered, FormEnd}
+use Rattle.marks.proofs.Narrowing.{step_law, none_law, some_law, done_law, more_law, at_most_three}
 
 -- ---- no expression begins with a mark
 
-no-expression : (t : List ℕ) → (c : ℕ) → look t ≡ c → class_of c ≡ other → Goes (whole 5) t (stuck t)
+no_expression : (t : List ℕ) → (c : ℕ) → look t ≡ c → class_of c ≡ other → Goes (whole 5) t (stuck t)
 unfolding start
-no-expression [] c e q = lift (going.nones refl)
+no_expression [] c e q = lift (going.nones refl)
   where
     lift : Goes alone [] (stuck []) → Goes (whole 5) [] (stuck [])
     lift g = going.sinks (going.sinks (going.sinks (going.sinks (going.sinks (going.fails g)))))
-no-expression (b ∷ t) c e q = lift (going.nones (ap (λ x. start_by x b t) (ap class_of e ∙ q)))
+no_expression (b ∷ t) c e q = lift (going.nones (ap (λ x. start_by x b t) (ap class_of e ∙ q)))
   where
     lift : Goes alone (b ∷ t) (stuck (b ∷ t)) → Goes (whole 5) (b ∷ t) (stuck (b ∷ t))
     lift g = going.sinks (going.sinks (going.sinks (going.sinks (going.sinks (going.fails g)))))
@@ -54,67 +54,67 @@ no-expression (b ∷ t) c e q = lift (going.nones (ap (λ x. start_by x b t) (ap
 -- ---- one argument, by what it begins with
 
 module _ (can : Mark → Bool) (f : Mark → Operand → Plan) (s : List ℕ) (k : ℕ) where
-  marked : (b : Bool) (c : ℕ) (o : Read Stmt) → look (drop k s) ≡ suc c → marks can (suc c) ≡ true → Walks (markPlan f (suc c)) (drop (k + 1) s) o → Walks (argument b can f) (drop k s) o
+  marked : (b : Bool) (c : ℕ) (o : Read Stmt) → look (drop k s) ≡ suc c → marks can (suc c) ≡ true → Walks (mark_plan f (suc c)) (drop (k + 1) s) o → Walks (argument b can f) (drop k s) o
   marked true c o e p w =
-      subst (λ t. Walks (either (marks can) (markPlan f) (λ e. f plain (value e))) t o) (sym (first_byte (drop k s) c e))
-      (plans.Walks.marked p (subst (λ t. Walks (markPlan f (suc c)) t o) (sym (drop-drop 1 k s)) w))
-  marked false c o e p w = fork-byte none (marks can) (markPlan f) s k c o e p w
+      subst (λ t. Walks (either (marks can) (mark_plan f) (λ e. f plain (value e))) t o) (sym (first_byte (drop k s) c e))
+      (plans.Walks.marked p (subst (λ t. Walks (mark_plan f (suc c)) t o) (sym (drop-drop 1 k s)) w))
+  marked false c o e p w = fork_byte none (marks can) (mark_plan f) s k c o e p w
 
-  pub hash-walk : (b : Bool) (o : Read Stmt) → look (drop k s) ≡ 35 → can hash ≡ true → Walks (expression (λ e. f hash (value e))) (drop (k + 1) s) o → Walks (argument b can f) (drop k s) o
-  hash-walk b o e p w = marked b 34 o e (rw p) w
+  pub hash_walk : (b : Bool) (o : Read Stmt) → look (drop k s) ≡ 35 → can hash ≡ true → Walks (expression (λ e. f hash (value e))) (drop (k + 1) s) o → Walks (argument b can f) (drop k s) o
+  hash_walk b o e p w = marked b 34 o e (rw p) w
 
-  pub at-walk : (b : Bool) (o : Read Stmt) → look (drop k s) ≡ 64 → can at ≡ true → Walks (registerPlan (λ r. f at (register r))) (drop (k + 1) s) o → Walks (argument b can f) (drop k s) o
-  at-walk b o e p w = marked b 63 o e p w
+  pub at_walk : (b : Bool) (o : Read Stmt) → look (drop k s) ≡ 64 → can at ≡ true → Walks (register_plan (λ r. f at (register r))) (drop (k + 1) s) o → Walks (argument b can f) (drop k s) o
+  at_walk b o e p w = marked b 63 o e p w
 
   -- neither mark
-  plain-marks : (c : ℕ) → (c ≡ 35 → ⊥) → (c ≡ 64 → ⊥) → marks can c ≡ false
-  plain-marks c p q = rw (ne_eqb c 35 p, ne_eqb c 64 q)
+  plain_marks : (c : ℕ) → (c ≡ 35 → ⊥) → (c ≡ 64 → ⊥) → marks can c ≡ false
+  plain_marks c p q = rw (ne_eqb c 35 p, ne_eqb c 64 q)
 
   pub plain_walk : (e : Expr) (r : List ℕ) (o : Read Stmt) → (look (drop k s) ≡ 35 → ⊥) → (look (drop k s) ≡ 64 → ⊥) → can plain ≡ true
       → Goes (whole 5) (drop k s) (got e r) → Walks (f plain (value e)) r o → Walks (argument (can plain) can f) (drop k s) o
-  plain_walk e r o p q c g w = subst (λ b. Walks (argument b can f) (drop k s) o) (sym c) (plans.Walks.bare (plain-marks (look (drop k s)) p q) g w)
+  plain_walk e r o p q c g w = subst (λ b. Walks (argument b can f) (drop k s) o) (sym c) (plans.Walks.bare (plain_marks (look (drop k s)) p q) g w)
 
-  pub plain-stuck : (r : List ℕ) → (look (drop k s) ≡ 35 → ⊥) → (look (drop k s) ≡ 64 → ⊥) → can plain ≡ true
+  pub plain_stuck : (r : List ℕ) → (look (drop k s) ≡ 35 → ⊥) → (look (drop k s) ≡ 64 → ⊥) → can plain ≡ true
       → Goes (whole 5) (drop k s) (stuck r) → Walks (argument (can plain) can f) (drop k s) (stuck r)
-  plain-stuck r p q c g = subst (λ b. Walks (argument b can f) (drop k s) (stuck r)) (sym c) (plans.Walks.bareless (plain-marks (look (drop k s)) p q) g)
+  plain_stuck r p q c g = subst (λ b. Walks (argument b can f) (drop k s) (stuck r)) (sym c) (plans.Walks.bareless (plain_marks (look (drop k s)) p q) g)
 
   -- nothing goes on so
   pub none_walk : (b : Bool) → marks can (look (drop k s)) ≡ false → (b ≡ true → Goes (whole 5) (drop k s) (stuck (drop k s))) → Walks (argument b can f) (drop k s) (stuck (drop k s))
   none_walk true p g = plans.Walks.bareless p (g refl)
-  none_walk false p g = fork-wrong (marks can) (markPlan f) (drop k s) p
+  none_walk false p g = fork_wrong (marks can) (mark_plan f) (drop k s) p
 
 -- ---- the number of a mark
 
 pub data Marked (c : ℕ) : ℕ → Type 0 where
-  isHash : c ≡ 35 → Marked c 0
+  is_hash : c ≡ 35 → Marked c 0
   is_at : c ≡ 64 → Marked c 1
   is_plain : (c ≡ 35 → ⊥) → (c ≡ 64 → ⊥) → Marked c 2
 
-pub marked_by : (c : ℕ) → Marked c (markNumber c)
+pub marked_by : (c : ℕ) → Marked c (mark_number c)
 marked_by c = on (eqb c 35) refl (eqb c 64) refl
   where
     on : (x : Bool) → eqb c 35 ≡ x → (y : Bool) → eqb c 64 ≡ y → Marked c (cond x 0 (cond y 1 2))
-    on true p y q = isHash (eqb-true c 35 p)
+    on true p y q = is_hash (eqb-true c 35 p)
     on false p true q = is_at (eqb-true c 64 q)
     on false p false q = is_plain (eqb-false c 35 p) (eqb-false c 64 q)
 
-pub marked-as : (c d m : ℕ) → d ≡ c → m ≡ markNumber d → Marked c m
-marked-as c d m e q = subst (λ x. Marked c x) (sym (q ∙ ap (λ x. markNumber x) e)) (marked_by c)
+pub marked_as : (c d m : ℕ) → d ≡ c → m ≡ mark_number d → Marked c m
+marked_as c d m e q = subst (λ x. Marked c x) (sym (q ∙ ap (λ x. mark_number x) e)) (marked_by c)
 
-pub is-hash : {c m : ℕ} → Marked c m → m ≡ 0 → c ≡ 35
-is-hash (isHash e) q = e
-is-hash (is_at e) q = absurd (omega arith)
-is-hash (is_plain p r) q = absurd (omega arith)
+pub is_hash_lem : {c m : ℕ} → Marked c m → m ≡ 0 → c ≡ 35
+is_hash_lem (is_hash e) q = e
+is_hash_lem (is_at e) q = absurd (omega arith)
+is_hash_lem (is_plain p r) q = absurd (omega arith)
 
-pub is-at : {c m : ℕ} → Marked c m → m ≡ 1 → c ≡ 64
-is-at (isHash e) q = absurd (omega arith)
-is-at (is_at e) q = e
-is-at (is_plain p r) q = absurd (omega arith)
+pub is_at_lem : {c m : ℕ} → Marked c m → m ≡ 1 → c ≡ 64
+is_at_lem (is_hash e) q = absurd (omega arith)
+is_at_lem (is_at e) q = e
+is_at_lem (is_plain p r) q = absurd (omega arith)
 
-pub is-neither : {c m : ℕ} → Marked c m → m ≡ 2 → (c ≡ 35 → ⊥) × (c ≡ 64 → ⊥)
-is-neither (isHash e) q = absurd (omega arith)
-is-neither (is_at e) q = absurd (omega arith)
-is-neither (is_plain p r) q = (p, r)
+pub is_neither : {c m : ℕ} → Marked c m → m ≡ 2 → (c ≡ 35 → ⊥) × (c ≡ 64 → ⊥)
+is_neither (is_hash e) q = absurd (omega arith)
+is_neither (is_at e) q = absurd (omega arith)
+is_neither (is_plain p r) q = (p, r)
 
 -- ---- an argument of the forms that are left
 
@@ -124,85 +124,85 @@ module _ (s : List ℕ) (k f j : ℕ) (b a : List ℕ) (at : ℕ) (lf : f < 70) 
 
   -- none of them goes on with the mark
   pub not_so : (m : ℕ) → Marked (look (drop k s)) m → m < 3 → 69 < chosen f j m → Argued s k f j b a at (Not k)
-  unfolding argsPlan class_of
+  unfolding args_plan class_of
   not_so m w l g =
-      (λ n xs. none_walk Can (λ m x. behind (argsPlan n) (narrow m (agree f j)) (xs ++ (x ∷ []))) s k (Can plain) (misses m w (none-law f j m lf lj l g)) (λ c. nothing m w (none-law f j m lf lj l g) c), h)
+      (λ n xs. none_walk Can (λ m x. behind (args_plan n) (narrow m (agree f j)) (xs ++ (x ∷ []))) s k (Can plain) (misses m w (none_law f j m lf lj l g)) (λ c. nothing m w (none_law f j m lf lj l g) c), h)
     where
-      misses : (m : ℕ) → Marked (look (drop k s)) m → Can (markBy m) ≡ false → marks Can (look (drop k s)) ≡ false
-      misses m (isHash e) q = rw (e, q)
+      misses : (m : ℕ) → Marked (look (drop k s)) m → Can (mark_by m) ≡ false → marks Can (look (drop k s)) ≡ false
+      misses m (is_hash e) q = rw (e, q)
       misses m (is_at e) q = rw (e, q)
       misses m (is_plain p r) q = rw (ne_eqb (look (drop k s)) 35 p, ne_eqb (look (drop k s)) 64 r)
 
-      nothing : (m : ℕ) → Marked (look (drop k s)) m → Can (markBy m) ≡ false → Can plain ≡ true → Goes (whole 5) (drop k s) (stuck (drop k s))
-      nothing m (isHash e) q c = no-expression (drop k s) 35 e refl
-      nothing m (is_at e) q c = no-expression (drop k s) 64 e refl
-      nothing m (is_plain p r) q c = true-false (sym c ∙ q)
+      nothing : (m : ℕ) → Marked (look (drop k s)) m → Can (mark_by m) ≡ false → Can plain ≡ true → Goes (whole 5) (drop k s) (stuck (drop k s))
+      nothing m (is_hash e) q c = no_expression (drop k s) 35 e refl
+      nothing m (is_at e) q c = no_expression (drop k s) 64 e refl
+      nothing m (is_plain p r) q c = true_false (sym c ∙ q)
 
   -- an expression behind `#`, and one without a mark
   module _ (g m : ℕ) (e : g ≡ chosen f j m) (lm : m < 3) (lg : g < 70) where
-    ways : narrow (markBy m) (agree f j) ≡ agree g (suc j)
-    ways = subst (λ x. narrow (markBy m) (agree f j) ≡ agree x (suc j)) (sym e) (step-law f j m lf lj lm (omega arith)).0
+    ways : narrow (mark_by m) (agree f j) ≡ agree g (suc j)
+    ways = subst (λ x. narrow (mark_by m) (agree f j) ≡ agree x (suc j)) (sym e) (step_law f j m lf lj lm (omega arith)).0
 
-    pub left-more : j < length (operandsAt g)
-    left-more = subst (λ x. j < length (operandsAt x)) (sym e) (step-law f j m lf lj lm (omega arith)).1
+    pub left_more : j < length (operands_at g)
+    left_more = subst (λ x. j < length (operands_at x)) (sym e) (step_law f j m lf lj lm (omega arith)).1
 
-    can : Can (markBy m) ≡ true
-    can = some-law f j m (omega arith)
+    can : Can (mark_by m) ≡ true
+    can = some_law f j m (omega arith)
 
     abbrev Next : (n : ℕ) (xs : List Operand) → Mark → Operand → Plan
-    Next n xs m x = behind (argsPlan n) (narrow m (agree f j)) (xs ++ (x ∷ []))
+    Next n xs m x = behind (args_plan n) (narrow m (agree f j)) (xs ++ (x ∷ []))
 
     -- what is read behind an argument of the mark
-    next-walk : (n : ℕ) (xs : List Operand) (x : Operand) (t : List ℕ) (o : Read Stmt) → Walks (behind (argsPlan n) (agree g (suc j)) (xs ++ (x ∷ []))) t o → Walks (Next n xs (markBy m) x) t o
-    next-walk n xs x t o w = subst (λ ws. Walks (behind (argsPlan n) ws (xs ++ (x ∷ []))) t o) (sym ways) w
+    next_walk : (n : ℕ) (xs : List Operand) (x : Operand) (t : List ℕ) (o : Read Stmt) → Walks (behind (args_plan n) (agree g (suc j)) (xs ++ (x ∷ []))) t o → Walks (Next n xs (mark_by m) x) t o
+    next_walk n xs x t o w = subst (λ ws. Walks (behind (args_plan n) ws (xs ++ (x ∷ []))) t o) (sym ways) w
 
-    valued-ends : (k' : ℕ) (x : Expr) (n to : ℕ) → Goes (whole 5) (drop k' s) (got x (drop n s)) → n ≤ length s → Added b a at to (bytes_of x) (long x)
-        → ((i : ℕ) (xs : List Operand) (o : Read Stmt) → Walks (Next i xs (markBy m) (value x)) (drop n s) o → Walks (argsPlan (suc i) (agree f j) xs) (drop k s) o)
+    valued_ends : (k' : ℕ) (x : Expr) (n to : ℕ) → Goes (whole 5) (drop k' s) (got x (drop n s)) → n ≤ length s → Added b a at to (bytes_of x) (long x)
+        → ((i : ℕ) (xs : List Operand) (o : Read Stmt) → Walks (Next i xs (mark_by m) (value x)) (drop n s) o → Walks (args_plan (suc i) (agree f j) xs) (drop k s) o)
         → Argued s k f j b a at (Ends g n to)
-    valued-ends k' x n to q l d w =
-        record { x = value x; form = lg; more = left-more; within = l; added = d; leads = λ i xs o v. w i xs o (next-walk i xs (value x) (drop n s) o v) }
+    valued_ends k' x n to q l d w =
+        record { x = value x; form = lg; more = left_more; within = l; added = d; leads = λ i xs o v. w i xs o (next_walk i xs (value x) (drop n s) o v) }
 
-  pub hash-argued : (g : ℕ) (r : Found) → g ≡ chosen f j 0 → g < 70 → look (drop k s) ≡ 35 → Termed s (k + 1) b a at r → Argued s k f j b a at (Valued g r)
-  unfolding argsPlan
-  hash-argued g (found.Ends n to) e l c (x, (q, (z, d))) =
-      valued-ends g 0 e (omega arith) l (k + 1) x n to q z d
+  pub hash_argued : (g : ℕ) (r : Found) → g ≡ chosen f j 0 → g < 70 → look (drop k s) ≡ 35 → Termed s (k + 1) b a at r → Argued s k f j b a at (Valued g r)
+  unfolding args_plan
+  hash_argued g (found.Ends n to) e l c (x, (q, (z, d))) =
+      valued_ends g 0 e (omega arith) l (k + 1) x n to q z d
       (λ i xs o v.
-      hash-walk Can (Next g 0 e (omega arith) l i xs) s k (Can plain) o c (can g 0 e (omega arith) l) (plans.Walks.tree q v))
-  hash-argued g (found.Stuck n) e l c (q, z) =
-      (λ i xs. hash-walk Can (Next g 0 e (omega arith) l i xs) s k (Can plain) (stuck (drop n s)) c (can g 0 e (omega arith) l) (plans.Walks.treeless q), z)
+      hash_walk Can (Next g 0 e (omega arith) l i xs) s k (Can plain) o c (can g 0 e (omega arith) l) (plans.Walks.tree q v))
+  hash_argued g (found.Stuck n) e l c (q, z) =
+      (λ i xs. hash_walk Can (Next g 0 e (omega arith) l i xs) s k (Can plain) (stuck (drop n s)) c (can g 0 e (omega arith) l) (plans.Walks.treeless q), z)
 
-  pub plain-argued : (g : ℕ) (r : Found) → g ≡ chosen f j 2 → g < 70 → (look (drop k s) ≡ 35 → ⊥) → (look (drop k s) ≡ 64 → ⊥) → Termed s k b a at r → Argued s k f j b a at (Valued g r)
-  unfolding argsPlan
-  plain-argued g (found.Ends n to) e l p q (x, (y, (z, d))) =
-      valued-ends g 2 e (omega arith) l k x n to y z d
+  pub plain_argued : (g : ℕ) (r : Found) → g ≡ chosen f j 2 → g < 70 → (look (drop k s) ≡ 35 → ⊥) → (look (drop k s) ≡ 64 → ⊥) → Termed s k b a at r → Argued s k f j b a at (Valued g r)
+  unfolding args_plan
+  plain_argued g (found.Ends n to) e l p q (x, (y, (z, d))) =
+      valued_ends g 2 e (omega arith) l k x n to y z d
       (λ i xs o v. plain_walk Can (Next g 2 e (omega arith) l i xs) s k x (drop n s) o p q (can g 2 e (omega arith) l) y v)
-  plain-argued g (found.Stuck n) e l p q (y, z) =
-      (λ i xs. plain-stuck Can (Next g 2 e (omega arith) l i xs) s k (drop n s) p q (can g 2 e (omega arith) l) y, z)
+  plain_argued g (found.Stuck n) e l p q (y, z) =
+      (λ i xs. plain_stuck Can (Next g 2 e (omega arith) l i xs) s k (drop n s) p q (can g 2 e (omega arith) l) y, z)
 
-  pub at-argued : (g : ℕ) (r : Arg) → g ≡ chosen f j 1 → g < 70 → look (drop k s) ≡ 64 → Registered s (k + 1) g b a at r → Argued s k f j b a at r
-  unfolding argsPlan
-  at-argued g (Ends i n to) e l c (q, (r, (z, (d, w)))) =
+  pub at_argued : (g : ℕ) (r : Arg) → g ≡ chosen f j 1 → g < 70 → look (drop k s) ≡ 64 → Registered s (k + 1) g b a at r → Argued s k f j b a at r
+  unfolding args_plan
+  at_argued g (Ends i n to) e l c (q, (r, (z, (d, w)))) =
       subst (λ y. Argued s k f j b a at (Ends y n to)) (sym q)
       (record {
         x = register r;
         form = l;
-        more = left-more g 1 e (omega arith) l;
+        more = left_more g 1 e (omega arith) l;
         within = z;
         added = d;
         leads = λ i xs o v.
-            at-walk Can (Next g 1 e (omega arith) l i xs) s k (Can plain) o c (can g 1 e (omega arith) l)
-            (w (λ r. Next g 1 e (omega arith) l i xs (markBy 1) (register r)) o (next-walk g 1 e (omega arith) l i xs (register r) (drop n s) o v));
+            at_walk Can (Next g 1 e (omega arith) l i xs) s k (Can plain) o c (can g 1 e (omega arith) l)
+            (w (λ r. Next g 1 e (omega arith) l i xs (mark_by 1) (register r)) o (next_walk g 1 e (omega arith) l i xs (register r) (drop n s) o v));
       })
-  at-argued g (Not n) e l c (w, z) =
-      (λ i xs. at-walk Can (Next g 1 e (omega arith) l i xs) s k (Can plain) (stuck (drop n s)) c (can g 1 e (omega arith) l) (w (λ r. Next g 1 e (omega arith) l i xs (markBy 1) (register r))), z)
+  at_argued g (Not n) e l c (w, z) =
+      (λ i xs. at_walk Can (Next g 1 e (omega arith) l i xs) s k (Can plain) (stuck (drop n s)) c (can g 1 e (omega arith) l) (w (λ r. Next g 1 e (omega arith) l i xs (mark_by 1) (register r))), z)
 
 -- ---- a register
 
 pub low_digit : (c d : ℕ) → d ≡ c → d < 48 → leb 48 c && leb c 51 ≡ false
-low_digit c d e h = first-false (leb 48 c) (leb c 51) (lt-leb 48 c (omega arith))
+low_digit c d e h = first_false (leb 48 c) (leb c 51) (lt-leb 48 c (omega arith))
 
 pub high_digit : (c d : ℕ) → d ≡ c → 51 < d → leb 48 c && leb c 51 ≡ false
-high_digit c d e h = second-false (leb 48 c) (leb c 51) (lt-leb c 51 (omega arith))
+high_digit c d e h = second_false (leb 48 c) (leb c 51) (lt-leb c 51 (omega arith))
 
 pub byte_past : (s : List ℕ) (k d : ℕ) → d ≡ look (drop k s) → 1 ≤ d → k + 1 ≤ length s
 byte_past s k d e h = omega (arith, some (drop k s) (omega arith), length-drop k s)
@@ -212,21 +212,21 @@ byte_past s k d e h = omega (arith, some (drop k s) (omega arith), length-drop k
     some (c ∷ t) l = omega arith
 
 module _ (s : List ℕ) (k f : ℕ) (b a : List ℕ) (at : ℕ) where
-  pub no-letter : k ≤ length s → (look (drop k s) ≡ 82 → ⊥) → Registered s k f b a at (Not k)
-  no-letter h n = (λ next. fork-wrong (λ c. eqb c 82) (λ c. fork none (λ d. leb 48 d && leb d 51) (λ d. next (d - 48))) (drop k s) (ne_eqb (look (drop k s)) 82 n), h)
+  pub no_letter : k ≤ length s → (look (drop k s) ≡ 82 → ⊥) → Registered s k f b a at (Not k)
+  no_letter h n = (λ next. fork_wrong (λ c. eqb c 82) (λ c. fork none (λ d. leb 48 d && leb d 51) (λ d. next (d - 48))) (drop k s) (ne_eqb (look (drop k s)) 82 n), h)
 
   module _ (e : look (drop k s) ≡ 82) where
     pub no_digit : k + 1 ≤ length s → leb 48 (look (drop (k + 1) s)) && leb (look (drop (k + 1) s)) 51 ≡ false → Registered s k f b a at (Not (k + 1))
     no_digit h q = (
       λ next.
-          fork-byte none (λ c. eqb c 82) (λ c. fork none (λ d. leb 48 d && leb d 51) (λ d. next (d - 48))) s k 81 (stuck (drop (k + 1) s)) e refl
-          (fork-wrong (λ d. leb 48 d && leb d 51) (λ d. next (d - 48)) (drop (k + 1) s) q),
+          fork_byte none (λ c. eqb c 82) (λ c. fork none (λ d. leb 48 d && leb d 51) (λ d. next (d - 48))) s k 81 (stuck (drop (k + 1) s)) e refl
+          (fork_wrong (λ d. leb 48 d && leb d 51) (λ d. next (d - 48)) (drop (k + 1) s) q),
       h,
     )
 
-    pub is-register : (d to : ℕ) → d ≡ look (drop (k + 1) s) → 48 ≤ d → d ≤ 51 → k + 1 + 1 ≤ length s → Added b a at to ((d - 48) ∷ []) 0 → Registered s k f b a at (Ends f (k + 1 + 1) to)
-    is-register zero to q l u h w = absurd (omega arith)
-    is-register (suc d) to q l u h w = (
+    pub is_register : (d to : ℕ) → d ≡ look (drop (k + 1) s) → 48 ≤ d → d ≤ 51 → k + 1 + 1 ≤ length s → Added b a at to ((d - 48) ∷ []) 0 → Registered s k f b a at (Ends f (k + 1 + 1) to)
+    is_register zero to q l u h w = absurd (omega arith)
+    is_register (suc d) to q l u h w = (
       refl,
       (
         suc d - 48,
@@ -235,8 +235,8 @@ module _ (s : List ℕ) (k f : ℕ) (b a : List ℕ) (at : ℕ) where
           (
             w,
             λ next o v.
-                fork-byte none (λ c. eqb c 82) (λ c. fork none (λ d. leb 48 d && leb d 51) (λ d. next (d - 48))) s k 81 o e refl
-                (fork-byte none (λ d. leb 48 d && leb d 51) (λ d. next (d - 48)) s (k + 1) d o (sym q) (and_both (leb 48 (suc d)) (leb (suc d) 51) (le-leb 48 (suc d) l) (le-leb (suc d) 51 u)) v),
+                fork_byte none (λ c. eqb c 82) (λ c. fork none (λ d. leb 48 d && leb d 51) (λ d. next (d - 48))) s k 81 o e refl
+                (fork_byte none (λ d. leb 48 d && leb d 51) (λ d. next (d - 48)) s (k + 1) d o (sym q) (and_both (leb 48 (suc d)) (leb (suc d) 51) (le-leb 48 (suc d) l) (le-leb (suc d) 51 u)) v),
           ),
         ),
       ),
@@ -244,8 +244,8 @@ module _ (s : List ℕ) (k f : ℕ) (b a : List ℕ) (at : ℕ) where
 
 -- ---- the form is stored behind the kind
 
-pub form-stands : (b : List ℕ) (f to : ℕ) → length b ≡ 120 → (xs : List Operand) (l : ℕ) → Stands b to (formBytes 0 xs) l → Stands (set b 1 f) to (formBytes f xs) l
-form-stands b f to e xs l w =
+pub form_stands : (b : List ℕ) (f to : ℕ) → length b ≡ 120 → (xs : List Operand) (l : ℕ) → Stands b to (form_bytes 0 xs) l → Stands (set b 1 f) to (form_bytes f xs) l
+form_stands b f to e xs l w =
     record {
       size = length-set b 1 f ∙ e;
       within = w.within;
@@ -262,104 +262,104 @@ pub record SoFar (form : ℕ) (s : List ℕ) (k : ℕ) (b : List ℕ) (at i f j 
   pub xs : List Operand
   pub known : f < 70
   pub few : j < 3
-  pub stands : Stands b at (formBytes 0 xs) (longs xs)
-  pub leads : (o : Read Stmt) → Walks (argsPlan (3 - j) (agree f j) xs) (drop i s) o → Walks (argsPlan 3 (familyOf form) []) (drop k s) o
+  pub stands : Stands b at (form_bytes 0 xs) (longs xs)
+  pub leads : (o : Read Stmt) → Walks (args_plan (3 - j) (agree f j) xs) (drop i s) o → Walks (args_plan 3 (family_of form) []) (drop k s) o
 
 pub none_yet : (form : ℕ) (s : List ℕ) (k : ℕ) (b₀ b₁ b₂ : List ℕ) (p q : ℕ) → form < 70 → length b₀ ≡ 120 → Added b₀ b₁ 0 p (1 ∷ []) 0
     → Added b₁ b₂ p q (0 ∷ []) 0 → SoFar form s k b₂ q k form 0
 unfolding each total agree
 none_yet form s k b₀ b₁ b₂ p q h e x y =
-    record { xs = []; known = h; few = omega arith; stands = y.adds (1 ∷ []) 0 (x.adds [] 0 (nothing-stands b₀ e)); leads = λ o w. w }
+    record { xs = []; known = h; few = omega arith; stands = y.adds (1 ∷ []) 0 (x.adds [] 0 (nothing_stands b₀ e)); leads = λ o w. w }
 
 module _ (form : ℕ) (s : List ℕ) (k : ℕ) (b a : List ℕ) (at i f j : ℕ) (w : SoFar form s k b at i f j) (r : Arg) (x : Argued s i f j b a at r) where
   size : 3 - j ≡ suc (2 - j)
   size = omega (arith, w.few)
 
-  step : (o : Read Stmt) → Walks (argsPlan (suc (2 - j)) (agree f j) w.xs) (drop i s) o → Walks (argsPlan 3 (familyOf form) []) (drop k s) o
-  step o v = w.leads o (subst (λ n. Walks (argsPlan n (agree f j) w.xs) (drop i s) o) (sym size) v)
+  step : (o : Read Stmt) → Walks (args_plan (suc (2 - j)) (agree f j) w.xs) (drop i s) o → Walks (args_plan 3 (family_of form) []) (drop k s) o
+  step o v = w.leads o (subst (λ n. Walks (args_plan n (agree f j) w.xs) (drop i s) o) (sym size) v)
 
-  pub arg-wrong : (n : ℕ) → r ≡ Not n → Spoken (argsPlan 3 (familyOf form) []) s k a (Wrong n)
-  arg-wrong n q =
+  pub arg_wrong : (n : ℕ) → r ≡ Not n → Spoken (args_plan 3 (family_of form) []) s k a (Wrong n)
+  arg_wrong n q =
       let y = subst (λ z. Argued s i f j b a at z) q x in (step (stuck (drop n s)) (y.0 (2 - j) w.xs), y.1)
 
   module _ (g n to : ℕ) (q : r ≡ Ends g n to) where
     ends : ArgEnds s i f j b a at g n to
     ends = subst (λ z. Argued s i f j b a at z) q x
 
-    pub arg-most : n ≤ length s
-    arg-most = ends.within
+    pub arg_most : n ≤ length s
+    arg_most = ends.within
 
-    pub arg-form : g < 70
-    arg-form = ends.form
+    pub arg_form : g < 70
+    arg_form = ends.form
 
-    pub arg-size : length a ≡ 120
-    arg-size = ends.added.size
+    pub arg_size : length a ≡ 120
+    arg_size = ends.added.size
 
-    pub arg-to : to ≤ 121
-    arg-to = ends.added.within
+    pub arg_to : to ≤ 121
+    arg_to = ends.added.within
 
     more : List Operand
     more = w.xs ++ (ends.x ∷ [])
 
-    more-stands : Stands a to (formBytes 0 more) (longs more)
+    more_stands : Stands a to (form_bytes 0 more) (longs more)
     unfolding more each total
-    more-stands =
+    more_stands =
         let y : Operand = ends.x in
-        let v : Stands a to (formBytes 0 w.xs ++ operandBytes y) (longs w.xs + inOperand long y) = ends.added.adds (formBytes 0 w.xs) (longs w.xs) w.stands in
-        let u : inOperand long y ≡ inOperand long y + 0 = omega arith in
+        let v : Stands a to (form_bytes 0 w.xs ++ operand_bytes y) (longs w.xs + in_operand long y) = ends.added.adds (form_bytes 0 w.xs) (longs w.xs) w.stands in
+        let u : in_operand long y ≡ in_operand long y + 0 = omega arith in
         subst (λ z. Stands a to (1 ∷ 0 ∷ z) (longs (w.xs ++ (y ∷ []))))
-        (ap (λ z. each (λ x. operandBytes x) w.xs ++ z) (sym (append-nil (operandBytes y))) ∙ sym (each_append (λ x. operandBytes x) w.xs (y ∷ [])))
-        (subst (λ l. Stands a to (1 ∷ 0 ∷ (each (λ x. operandBytes x) w.xs ++ operandBytes y)) l)
-        (ap (λ z. longs w.xs + z) u ∙ sym (total-append (inOperand long) w.xs (y ∷ []))) v)
+        (ap (λ z. each (λ x. operand_bytes x) w.xs ++ z) (sym (append-nil (operand_bytes y))) ∙ sym (each_append (λ x. operand_bytes x) w.xs (y ∷ [])))
+        (subst (λ l. Stands a to (1 ∷ 0 ∷ (each (λ x. operand_bytes x) w.xs ++ operand_bytes y)) l)
+        (ap (λ z. longs w.xs + z) u ∙ sym (total_append (in_operand long) w.xs (y ∷ []))) v)
 
-    behind-walk : (o : Read Stmt) → Walks (behind (argsPlan (2 - j)) (agree g (suc j)) more) (drop n s) o → Walks (argsPlan 3 (familyOf form) []) (drop k s) o
+    behind_walk : (o : Read Stmt) → Walks (behind (args_plan (2 - j)) (agree g (suc j)) more) (drop n s) o → Walks (args_plan 3 (family_of form) []) (drop k s) o
     unfolding more
-    behind-walk o v = step o (ends.leads (2 - j) w.xs o v)
+    behind_walk o v = step o (ends.leads (2 - j) w.xs o v)
 
     -- the last argument
-    pub arg-last : (c : List ℕ) (z : Told) → length (operandsAt g) ≡ j + 1 → FormEnd (length s) n g a c to z → Spoken (argsPlan 3 (familyOf form) []) s k c z
+    pub arg_last : (c : List ℕ) (z : Told) → length (operands_at g) ≡ j + 1 → FormEnd (length s) n g a c to z → Spoken (args_plan 3 (family_of form) []) s k c z
     unfolding frame_of
-    arg-last c (Frame m) e (l, (u, v)) =
-        let d = done-law (argsPlan (2 - j)) g j more ends.form w.few (e ∙ add-one j) in (
+    arg_last c (Frame m) e (l, (u, v)) =
+        let d = done_law (args_plan (2 - j)) g j more ends.form w.few (e ∙ add-one j) in (
           instr g more 0,
           (
-            behind-walk (got (instr g more 0) []) (subst (λ p. Walks p (drop n s) (got (instr g more 0) [])) (sym d) (subst (λ t. Walks (done (instr g more 0)) t (got (instr g more 0) [])) (sym (drop_of_length-le s l)) plans.Walks.last)),
-            subst (λ y. Stands c y (formBytes g more) (longs more)) (sym u) (v more (longs more) more-stands),
+            behind_walk (got (instr g more 0) []) (subst (λ p. Walks p (drop n s) (got (instr g more 0) [])) (sym d) (subst (λ t. Walks (done (instr g more 0)) t (got (instr g more 0) [])) (sym (drop_of_length-le s l)) plans.Walks.last)),
+            subst (λ y. Stands c y (form_bytes g more) (longs more)) (sym u) (v more (longs more) more_stands),
           ),
         )
-    arg-last c (Wrong m) e (l, u) =
-        let d = done-law (argsPlan (2 - j)) g j more ends.form w.few (e ∙ add-one j) in
-        subst (λ y. Spoken (argsPlan 3 (familyOf form) []) s k c (Wrong y)) (sym u)
-        (behind-walk (stuck (drop n s)) (subst (λ p. Walks p (drop n s) (stuck (drop n s))) (sym d) (over (instr g more 0) (drop n s) (omega (arith, length-drop n s)))), ends.within)
+    arg_last c (Wrong m) e (l, u) =
+        let d = done_law (args_plan (2 - j)) g j more ends.form w.few (e ∙ add-one j) in
+        subst (λ y. Spoken (args_plan 3 (family_of form) []) s k c (Wrong y)) (sym u)
+        (behind_walk (stuck (drop n s)) (subst (λ p. Walks p (drop n s) (stuck (drop n s))) (sym d) (over (instr g more 0) (drop n s) (omega (arith, length-drop n s)))), ends.within)
       where
         over : (x : Stmt) (t : List ℕ) → 1 ≤ length t → Walks (done x) t (stuck t)
         over x [] h = absurd (omega arith)
         over x (c ∷ t) h = plans.Walks.over
 
-    module _ (e : length (operandsAt g) ≡ j + 1 → ⊥) where
-      comma : behind (argsPlan (2 - j)) (agree g (suc j)) more ≡ fork none (λ c. eqb c 44) (λ c. argsPlan (2 - j) (agree g (suc j)) more)
-      comma = more-law (argsPlan (2 - j)) g j more ends.form w.few ends.more (λ z. e (z ∙ sym (add-one j)))
+    module _ (e : length (operands_at g) ≡ j + 1 → ⊥) where
+      comma : behind (args_plan (2 - j)) (agree g (suc j)) more ≡ fork none (λ c. eqb c 44) (λ c. args_plan (2 - j) (agree g (suc j)) more)
+      comma = more_law (args_plan (2 - j)) g j more ends.form w.few ends.more (λ z. e (z ∙ sym (add-one j)))
 
-      pub arg-other : (look (drop n s) ≡ 44 → ⊥) → Spoken (argsPlan 3 (familyOf form) []) s k a (Wrong n)
-      arg-other d = (
-        behind-walk (stuck (drop n s)) (subst (λ p. Walks p (drop n s) (stuck (drop n s))) (sym comma)
-            (fork-wrong (λ c. eqb c 44) (λ c. argsPlan (2 - j) (agree g (suc j)) more) (drop n s) (ne_eqb (look (drop n s)) 44 d))),
+      pub arg_other : (look (drop n s) ≡ 44 → ⊥) → Spoken (args_plan 3 (family_of form) []) s k a (Wrong n)
+      arg_other d = (
+        behind_walk (stuck (drop n s)) (subst (λ p. Walks p (drop n s) (stuck (drop n s))) (sym comma)
+            (fork_wrong (λ c. eqb c 44) (λ c. args_plan (2 - j) (agree g (suc j)) more) (drop n s) (ne_eqb (look (drop n s)) 44 d))),
         ends.within,
       )
 
-      pub arg-next : look (drop n s) ≡ 44 → SoFar form s k a to (n + 1) g (j + 1)
-      arg-next d =
+      pub arg_next : look (drop n s) ≡ 44 → SoFar form s k a to (n + 1) g (j + 1)
+      arg_next d =
           let u : 3 - (j + 1) ≡ 2 - j = omega (arith, w.few) in
           record {
             xs = more;
             known = ends.form;
-            few = omega (arith, e', ends.more, at-most-three g ends.form);
-            stands = more-stands;
+            few = omega (arith, e', ends.more, at_most_three g ends.form);
+            stands = more_stands;
             leads = λ o v.
-                behind-walk o (subst (λ p. Walks p (drop n s) o) (sym comma)
-                (fork-byte none (λ c. eqb c 44) (λ c. argsPlan (2 - j) (agree g (suc j)) more) s n 43 o d refl
-                (subst (λ m. Walks (argsPlan (2 - j) (agree g m) more) (drop (n + 1) s) o) (add-one j) (subst (λ m. Walks (argsPlan m (agree g (j + 1)) more) (drop (n + 1) s) o) u v))));
+                behind_walk o (subst (λ p. Walks p (drop n s) o) (sym comma)
+                (fork_byte none (λ c. eqb c 44) (λ c. args_plan (2 - j) (agree g (suc j)) more) s n 43 o d refl
+                (subst (λ m. Walks (args_plan (2 - j) (agree g m) more) (drop (n + 1) s) o) (add-one j) (subst (λ m. Walks (args_plan m (agree g (j + 1)) more) (drop (n + 1) s) o) u v))));
           }
         where
-          e' : (length (operandsAt g) ≡ j + 1) → ⊥
+          e' : (length (operands_at g) ≡ j + 1) → ⊥
           e' = e

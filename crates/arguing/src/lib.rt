@@ -1,7 +1,7 @@
 // C-19: the arguments of an instruction: which of its mnemonic's forms a line is of is told by what stands before each argument, `#`,
 // `@` or nothing.
 ghost use Rattle.std.specs.Prelude.{◌≡◌, [], ℕ, ◌+◌, ◌≤◌, ◌<◌, length, drop};
-ghost use Rattle.plans.specs.Families.{argsPlan, familyOf};
+ghost use Rattle.plans.specs.Families.{args_plan, family_of};
 ghost use Rattle.leaves.specs.declared.Found.{Found};
 ghost use Rattle.laying.specs.Laying.{Termed};
 ghost use Rattle.laying.specs.Speaking.{Spoken};
@@ -84,7 +84,7 @@ fn form_end(s: &[u8], k: usize, form: u8, out: &mut [u8; 120], to: usize) -> Tol
 // The arguments of a form or of another of its mnemonic, the first at k.
 pub fn arguments(s: &[u8], k: usize, form: u8, out: &mut [u8; 120]) -> Told
     requires { (k ≤ length s.now) × (form < 70) × (length out.old ≡ 120) }
-    ensures { Spoken (argsPlan 3 (familyOf form) []) s.now k out.new result }
+    ensures { Spoken (args_plan 3 (family_of form) []) s.now k out.new result }
 {
     let a = put(out, 0, 1);
     let mut at = put(out, a, 0);

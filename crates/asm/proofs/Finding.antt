@@ -11,23 +11,23 @@ use lib.Dec.{leb, ltb}
 use lib.ListN.{length, get_or, drop, drop_of_length-le}
 use lib.Seq.{drop-cons}
 use borrow.Author.Tests.{leb-true, ltb-true, le-leb, lt-leb, lt-ltb}
-use Rattle.laws.proofs.Tests.{eq-or-not, lt-or-le, cond-true, cond-false, first-false, and-true, and_left, same_test}
+use Rattle.laws.proofs.Tests.{eq_or_not, lt_or_le, cond_true, cond_false, first_false, and_true, and_left, same_test}
 use Rattle.rules.specs.Answers.{at_place}
 use Rattle.rules.specs.Programs.{Placeℕ, Addressℕ, gone, bytes, words, pad, Program, at, up_to, byte_count, kind_of}
-use Rattle.rules.specs.Layout.{after, position, sizeIn, Origin as Source, originFrom}
-use Rattle.instruction.proofs.Numbers.{size-bound}
+use Rattle.rules.specs.Layout.{after, position, size_in, Origin as Source, origin_from}
+use Rattle.instruction.proofs.Numbers.{size_bound}
 use Rattle.rules.specs.Statements.{pair_at}
 use Rattle.expression.specs.Sound.{AreBytes}
 use Rattle.listing.specs.Tables.{frame_at, Held}
 use Rattle.slots.specs.Slots.{Slots, slot_at, program_of}
-use Rattle.slots.proofs.Slots.{size-instr, size_none, slot-data, written-frame, items-count, kind-most}
-use Rattle.slots.proofs.Tables.{bytes-frame}
-use Rattle.env.proofs.Programs.{length-program, at-program}
-use Rattle.env.proofs.Positions.{position_first, position-more}
+use Rattle.slots.proofs.Slots.{size_instr, size_none, slot_data, written_frame, items_count, kind_most}
+use Rattle.slots.proofs.Tables.{bytes_frame}
+use Rattle.env.proofs.Programs.{length_program, at_program}
+use Rattle.env.proofs.Positions.{position_first, position_more}
 use Rattle.image.specs.Tables.{Tables, program, Ready}
 use Rattle.asm.specs.declared.Origin.TheVariants.{At, Nothing}
-use Rattle.asm.specs.Belonging.{originAs, OriginIn, FoundAs}
-use Rattle.asm.proofs.OriginsBack.{Rises, origin-stems}
+use Rattle.asm.specs.Belonging.{origin_as, OriginIn, FoundAs}
+use Rattle.asm.proofs.OriginsBack.{Rises, origin_stems}
 
 -- ---- from place i on
 
@@ -36,101 +36,101 @@ abbrev pub has : (q : Addressℕ) (n : ℕ) (a : Addressℕ) → Bool
 has q n a = leb q a && ltb a (q + n)
 
 module _ (q : Addressℕ) (n : ℕ) (a : Addressℕ) where
-  pub has-none : a < q → false ≡ has q n a
-  has-none l = sym (first-false (leb q a) (ltb a (q + n)) (lt-leb q a l))
+  pub has_none : a < q → false ≡ has q n a
+  has_none l = sym (first_false (leb q a) (ltb a (q + n)) (lt-leb q a l))
 
   pub has_within : q ≤ a → ltb (a - q) n ≡ has q n a
   has_within l =
       same_test (ltb (a - q) n) (ltb a (q + n)) (λ e. lt-ltb a (q + n) (omega (arith, ltb-true (a - q) n e))) (λ e. lt-ltb (a - q) n (omega (arith, ltb-true a (q + n) e)))
       ∙ sym (and_left (leb q a) (ltb a (q + n)) (le-leb q a l))
 
-  pub has-from : has q n a ≡ true → q ≤ a
-  has-from e = leb-true q a (and-true (leb q a) (ltb a (q + n)) e).0
+  pub has_from : has q n a ≡ true → q ≤ a
+  has_from e = leb-true q a (and_true (leb q a) (ltb a (q + n)) e).0
 
 module _ (p : Program) (a : Addressℕ) where
-  unfoldable pub fromPlace : (i : Placeℕ) → Option Source
-  fromPlace i = originFrom i (position p i) (drop i p) a
+  unfoldable pub from_place : (i : Placeℕ) → Option Source
+  from_place i = origin_from i (position p i) (drop i p) a
 
-  pub from_start : originFrom 0 0 p a ≡ fromPlace 0
-  unfolding fromPlace
-  from_start = ap (λ q. originFrom 0 q p a) (sym (position_first p))
+  pub from_start : origin_from 0 0 p a ≡ from_place 0
+  unfolding from_place
+  from_start = ap (λ q. origin_from 0 q p a) (sym (position_first p))
 
   from_more : (i : Placeℕ) → i < length p
-      → fromPlace i ≡ cond (has (position p i) (sizeIn p i) a) (some (record { place = i; offset = a - position p i })) (fromPlace (suc i))
-  unfolding fromPlace originFrom
+      → from_place i ≡ cond (has (position p i) (size_in p i) a) (some (record { place = i; offset = a - position p i })) (from_place (suc i))
+  unfolding from_place origin_from
   from_more i l =
-      let next : after (position p i) (at p i) ≡ position p (suc i) = sym (position-more p i l) ∙ ap (position p) (add-one i) in
-      ap (λ r. originFrom i (position p i) r a) (drop-cons p i gone l)
-      ∙ ap (λ q. cond (has (position p i) (sizeIn p i) a) (some (record { place = i; offset = a - position p i })) (originFrom (suc i) q (drop (suc i) p) a)) next
+      let next : after (position p i) (at p i) ≡ position p (suc i) = sym (position_more p i l) ∙ ap (position p) (add-one i) in
+      ap (λ r. origin_from i (position p i) r a) (drop-cons p i gone l)
+      ∙ ap (λ q. cond (has (position p i) (size_in p i) a) (some (record { place = i; offset = a - position p i })) (origin_from (suc i) q (drop (suc i) p) a)) next
 
-  pub from-here : (i : Placeℕ) → i < length p → has (position p i) (sizeIn p i) a ≡ true → fromPlace i ≡ some (record { place = i; offset = a - position p i })
-  from-here i l e = from_more i l ∙ cond-true _ _ _ e
+  pub from_here : (i : Placeℕ) → i < length p → has (position p i) (size_in p i) a ≡ true → from_place i ≡ some (record { place = i; offset = a - position p i })
+  from_here i l e = from_more i l ∙ cond_true _ _ _ e
 
-  pub from_next : (i : Placeℕ) → i < length p → has (position p i) (sizeIn p i) a ≡ false → fromPlace i ≡ fromPlace (i + 1)
-  from_next i l e = from_more i l ∙ cond-false _ _ _ e ∙ ap fromPlace (sym (add-one i))
+  pub from_next : (i : Placeℕ) → i < length p → has (position p i) (size_in p i) a ≡ false → from_place i ≡ from_place (i + 1)
+  from_next i l e = from_more i l ∙ cond_false _ _ _ e ∙ ap from_place (sym (add-one i))
 
-  pub from_end : (i : Placeℕ) → length p ≤ i → fromPlace i ≡ none
-  unfolding fromPlace originFrom
-  from_end i l = ap (λ r. originFrom i (position p i) r a) (drop_of_length-le p {i = i} l)
+  pub from_end : (i : Placeℕ) → length p ≤ i → from_place i ≡ none
+  unfolding from_place origin_from
+  from_end i l = ap (λ r. origin_from i (position p i) r a) (drop_of_length-le p {i = i} l)
 
 -- ---- the answer
 
 -- no statement has more than a pad can have
-pub bytes-few : (q : Addressℕ) (t : Slots) → Held t.frames t.starts t.count → AreBytes t.frames → (i : Placeℕ) → i < t.count
+pub bytes_few : (q : Addressℕ) (t : Slots) → Held t.frames t.starts t.count → AreBytes t.frames → (i : Placeℕ) → i < t.count
     → byte_count q (slot_at t i) ≤ 510
-bytes-few q t h v i l =
-    ⊎_elim (λ e. omega (arith, size-instr q t i e, size-bound (get_or t.forms i 0)))
+bytes_few q t h v i l =
+    ⊎_elim (λ e. omega (arith, size_instr q t i e, size_bound (get_or t.forms i 0)))
     (λ n.
     ⊎_elim (λ m. omega (arith, size_none q (slot_at t i) n m))
-    (λ m. ⊎_elim as_bytes (λ k. ⊎_elim as-words (λ o. as-pad (omega (arith, kind-most (slot_at t i)))) (eq-or-not (kind_of (slot_at t i)) 7)) (eq-or-not (kind_of (slot_at t i)) 6))
-    (lt-or-le (kind_of (slot_at t i)) 6))
-    (eq-or-not (kind_of (slot_at t i)) 1)
+    (λ m. ⊎_elim as_bytes (λ k. ⊎_elim as_words (λ o. as_pad (omega (arith, kind_most (slot_at t i)))) (eq_or_not (kind_of (slot_at t i)) 7)) (eq_or_not (kind_of (slot_at t i)) 6))
+    (lt_or_le (kind_of (slot_at t i)) 6))
+    (eq_or_not (kind_of (slot_at t i)) 1)
   where
     as_bytes : kind_of (slot_at t i) ≡ 6 → byte_count q (slot_at t i) ≤ 510
     as_bytes e =
-        let d = written-frame t h i l 5 e in
-        omega (arith, ap (byte_count q) (slot-data t i 4 e ∙ d.is), items-count 6 bytes _ _ _ d, d.few)
+        let d = written_frame t h i l 5 e in
+        omega (arith, ap (byte_count q) (slot_data t i 4 e ∙ d.is), items_count 6 bytes _ _ _ d, d.few)
 
-    as-words : kind_of (slot_at t i) ≡ 7 → byte_count q (slot_at t i) ≤ 510
-    as-words e =
-        let d = written-frame t h i l 6 e in
-        omega (arith, ap (byte_count q) (slot-data t i 5 e ∙ d.is), items-count 7 words _ _ _ d, d.few)
+    as_words : kind_of (slot_at t i) ≡ 7 → byte_count q (slot_at t i) ≤ 510
+    as_words e =
+        let d = written_frame t h i l 6 e in
+        omega (arith, ap (byte_count q) (slot_data t i 5 e ∙ d.is), items_count 7 words _ _ _ d, d.few)
 
-    as-pad : kind_of (slot_at t i) ≡ 8 → byte_count q (slot_at t i) ≤ 510
-    as-pad e =
-        let d = written-frame t h i l 7 e in
+    as_pad : kind_of (slot_at t i) ≡ 8 → byte_count q (slot_at t i) ≤ 510
+    as_pad e =
+        let d = written_frame t h i l 7 e in
         let frame = frame_at t.frames t.starts i in
         let m = pair_at frame 2 in
         let up : up_to q m < m = mod-lt (m - q % m) (omega (arith, d.some)) in
-        omega (arith, ap (byte_count q) (slot-data t i 6 e ∙ d.is), up, d.few, bytes-frame t.frames t.starts v i 1)
+        omega (arith, ap (byte_count q) (slot_data t i 6 e ∙ d.is), up, d.few, bytes_frame t.frames t.starts v i 1)
 
 module _ (t : Slots) (h : Held t.frames t.starts t.count) (v : AreBytes t.frames) (a : Addressℕ) where
   abbrev p : Program
   p = program_of t
 
-  inside_of : (o : Option Source) → originFrom 0 0 p a ≡ o → OriginIn t (originAs o)
+  inside_of : (o : Option Source) → origin_from 0 0 p a ≡ o → OriginIn t (origin_as o)
   inside_of none e = tt
   inside_of (some o) e =
-      let s = origin-stems p a o e in
-      let l : o.place < t.count = omega (arith, s.inside, length-program t) in
-      let b : o.offset < byte_count (position p o.place) (slot_at t o.place) = rw (← at-program t o.place l) s.short in
-      (l, b, omega (arith, b, bytes-few (position p o.place) t h v o.place l))
+      let s = origin_stems p a o e in
+      let l : o.place < t.count = omega (arith, s.inside, length_program t) in
+      let b : o.offset < byte_count (position p o.place) (slot_at t o.place) = rw (← at_program t o.place l) s.short in
+      (l, b, omega (arith, b, bytes_few (position p o.place) t h v o.place l))
 
-  found : (o : Option Source) → originFrom 0 0 p a ≡ o → FoundAs t a (originAs o)
-  found o e = record { answer = sym (ap originAs e); inside = inside_of o e }
+  found : (o : Option Source) → origin_from 0 0 p a ≡ o → FoundAs t a (origin_as o)
+  found o e = record { answer = sym (ap origin_as e); inside = inside_of o e }
 
-  pub found_none : (i : Placeℕ) → t.count ≤ i → originFrom 0 0 p a ≡ fromPlace p a i → FoundAs t a Nothing
-  found_none i l e = found none (e ∙ from_end p a i (omega (arith, length-program t)))
+  pub found_none : (i : Placeℕ) → t.count ≤ i → origin_from 0 0 p a ≡ from_place p a i → FoundAs t a Nothing
+  found_none i l e = found none (e ∙ from_end p a i (omega (arith, length_program t)))
 
-  module _ (i : Placeℕ) (l : i < t.count) (q : Addressℕ) (n : ℕ) (at-q : q ≡ position p i) (size : n ≡ byte_count q (slot_at t i)) where
-    tested : (b : Bool) → has q n a ≡ b → has (position p i) (sizeIn p i) a ≡ b
-    tested b e = rw (← at-q, at-program t i l, ← size) e
+  module _ (i : Placeℕ) (l : i < t.count) (q : Addressℕ) (n : ℕ) (at_q : q ≡ position p i) (size : n ≡ byte_count q (slot_at t i)) where
+    tested : (b : Bool) → has q n a ≡ b → has (position p i) (size_in p i) a ≡ b
+    tested b e = rw (← at_q, at_program t i l, ← size) e
 
-    pub found_here : originFrom 0 0 p a ≡ fromPlace p a i → has q n a ≡ true → FoundAs t a (At (at_place i) (a - q))
+    pub found_here : origin_from 0 0 p a ≡ from_place p a i → has q n a ≡ true → FoundAs t a (At (at_place i) (a - q))
     found_here e b =
-        let o : originFrom 0 0 p a ≡ some (record { place = i; offset = a - q }) =
-        e ∙ from-here p a i (omega (arith, length-program t)) (tested true b) ∙ rw (← at-q) in
+        let o : origin_from 0 0 p a ≡ some (record { place = i; offset = a - q }) =
+        e ∙ from_here p a i (omega (arith, length_program t)) (tested true b) ∙ rw (← at_q) in
         found (some (record { place = i; offset = a - q })) o
 
-    pub found-later : originFrom 0 0 p a ≡ fromPlace p a i → has q n a ≡ false → originFrom 0 0 p a ≡ fromPlace p a (i + 1)
-    found-later e b = e ∙ from_next p a i (omega (arith, length-program t)) (tested false b)
+    pub found_later : origin_from 0 0 p a ≡ from_place p a i → has q n a ≡ false → origin_from 0 0 p a ≡ from_place p a (i + 1)
+    found_later e b = e ∙ from_next p a i (omega (arith, length_program t)) (tested false b)

@@ -1,13 +1,13 @@
 // Whether a candidate assembles: yes or no. A rewrite adds no name, so 3 is never asked again.
 ghost use Rattle.std.specs.Prelude.{◌≡◌, true, ◌<◌, length};
-ghost use Rattle.rules.specs.Answers.{isOk};
+ghost use Rattle.rules.specs.Answers.{is_ok};
 ghost use Rattle.rules.specs.Judging.{assembles};
 ghost use Rattle.slots.specs.Slots.{Slots, program_of, Positioned, Sound};
 ghost use Rattle.slots.specs.Links.{Beside, Together};
 ghost use Rattle.image.specs.Tables.{Tables, tables_of, Ready};
-ghost use Rattle.image.specs.Encoding.{encodeSlots};
+ghost use Rattle.image.specs.Encoding.{encode_slots};
 ghost use Rattle.asm.specs.Assembling.{InPlace, Once};
-ghost use Rattle.slots.specs.State.{startsIn, table_of};
+ghost use Rattle.slots.specs.State.{starts_in, table_of};
 
 use env::settle_all;
 use image::{encode_all, encodes_at};
@@ -29,7 +29,7 @@ fn encodes_all(
         Ready d × (hint.0 < count) }
     ensures { let d : Tables = tables_of frames.now state.now count links.now values.now
         positions.now in
-        result ≡ isOk (encodeSlots d) }
+        result ≡ is_ok (encode_slots d) }
 {
     if !encodes_at(frames, state, count, links, values, positions, hint) {
         return false;
@@ -51,7 +51,7 @@ pub fn assembles(
     positions: &mut [u32; 1025],
 ) -> bool
     requires { let t : Slots = table_of frames.now state.now count in
-        Sound t × InPlace t × Together t × Once t × Beside frames.now (startsIn state.now) count links.now
+        Sound t × InPlace t × Together t × Once t × Beside frames.now (starts_in state.now) count links.now
         × (hint.0 < count) × (length positions.old ≡ 1025) }
     ensures { let t : Slots = table_of frames.now state.now count in
         (result ≡ assembles (program_of t)) × (result ≡ true → Positioned t positions.new) }

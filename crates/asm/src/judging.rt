@@ -4,11 +4,11 @@ ghost use Rattle.env.specs.Tables.{Any};
 ghost use Rattle.slots.specs.Slots.{Slots, slots, Sound};
 ghost use Rattle.slots.specs.Links.{Beside, Together};
 ghost use Rattle.image.specs.Tables.{Tables, tables_of, Ready};
-ghost use Rattle.image.specs.Encoding.{encodeSlots};
+ghost use Rattle.image.specs.Encoding.{encode_slots};
 ghost use Rattle.asm.specs.Assembling.{Placed, Whole, InPlace, Once};
 ghost use Rattle.asm.specs.declared.Verdict.TheVariants.{Good};
-ghost use Rattle.asm.specs.Verdicts.{verdictAs, JudgedAs};
-ghost use Rattle.slots.specs.State.{startsIn, formsIn, table_of};
+ghost use Rattle.asm.specs.Verdicts.{verdict_as, JudgedAs};
+ghost use Rattle.slots.specs.State.{starts_in, forms_in, table_of};
 
 use crate::Verdict;
 use crate::names::{find_names, lay_and_define};
@@ -29,7 +29,7 @@ fn encode_slots(
         Ready d }
     ensures { let d : Tables = tables_of frames.now state.now count links.now values.now
         positions.now in
-        result ≡ verdictAs (encodeSlots d) }
+        result ≡ verdict_as (encode_slots d) }
 {
     match encode_all(frames, state, count, links, values, positions) {
         Checked::Passes => Verdict::Good,
@@ -48,9 +48,9 @@ pub fn judge_linked(
     values: &mut [i64; 1024],
 ) -> Verdict
     requires { let t : Slots = table_of frames.now state.now count in
-        Sound t × Together t × Once t × Beside frames.now (startsIn state.now) count links.now
+        Sound t × Together t × Once t × Beside frames.now (starts_in state.now) count links.now
         × (length positions.old ≡ 1025) × (length values.old ≡ 1024)
-        × Any frames.now (startsIn state.now) count (formsIn state.now) (λ u. InPlace u) }
+        × Any frames.now (starts_in state.now) count (forms_in state.now) (λ u. InPlace u) }
     ensures { JudgedAs (tables_of frames.now state.now count links.now values.new positions.new) result }
 {
     match lay_and_define(frames, state, count, links, positions, values) {
@@ -72,9 +72,9 @@ pub fn judge(
 ) -> Verdict
     requires { let t : Slots = table_of frames.now state.now count in
         Sound t × Together t × (length links.old ≡ 28672) × (length positions.old ≡ 1025) × (length values.old ≡ 1024)
-        × Any frames.now (startsIn state.now) count (formsIn state.now) (λ u. Placed u contexts.now × Whole u) }
+        × Any frames.now (starts_in state.now) count (forms_in state.now) (λ u. Placed u contexts.now × Whole u) }
     ensures judged_as { JudgedAs (tables_of frames.now state.now count links.new values.new positions.new) result }
-    ensures beside { result ≡ Good → Beside frames.now (startsIn state.now) count links.new }
+    ensures beside { result ≡ Good → Beside frames.now (starts_in state.now) count links.new }
 {
     match find_names(frames, state, count, contexts, links) {
         Checked::Refused(r) => Verdict::Refused(r),

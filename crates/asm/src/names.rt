@@ -1,15 +1,15 @@
 // Names, positions and variables, one pass behind the other: "then 3, then 5 and 6, then variables (4, 7)".
 ghost use Rattle.std.specs.Prelude.{◌≡◌, [], length};
 ghost use Rattle.rules.specs.Names.{placed};
-ghost use Rattle.rules.specs.Judging.{noNameTwice};
+ghost use Rattle.rules.specs.Judging.{no_name_twice};
 ghost use Rattle.listing.specs.Tables.{Held};
 ghost use Rattle.slots.specs.Slots.{program_of};
 ghost use Rattle.slots.specs.Links.{Beside};
 ghost use Rattle.slots.specs.declared.Checked.TheVariants.{Passes};
-ghost use Rattle.env.specs.Answers.{checkedAs};
+ghost use Rattle.env.specs.Answers.{checked_as};
 ghost use Rattle.env.specs.Tables.{Any};
 ghost use Rattle.asm.specs.Assembling.{Placed, Whole, InPlace, Once, Prepared};
-ghost use Rattle.slots.specs.State.{startsIn, formsIn};
+ghost use Rattle.slots.specs.State.{starts_in, forms_in};
 
 use env::{define_all, fill_links, fill_names, lay_out, no_name_twice};
 use slots::{Checked, State};
@@ -22,11 +22,11 @@ pub fn find_names(
     contexts: &[u16; 1024],
     links: &mut [u16; 28672],
 ) -> Checked
-    requires { Held frames.now (startsIn state.now) count × (length links.old ≡ 28672)
-        × Any frames.now (startsIn state.now) count (formsIn state.now) (λ t. Placed t contexts.now × Whole t) }
-    ensures any { Any frames.now (startsIn state.now) count (formsIn state.now)
-        (λ t. result ≡ checkedAs (noNameTwice [] (placed (program_of t)))) }
-    ensures beside { result ≡ Passes → Beside frames.now (startsIn state.now) count links.new }
+    requires { Held frames.now (starts_in state.now) count × (length links.old ≡ 28672)
+        × Any frames.now (starts_in state.now) count (forms_in state.now) (λ t. Placed t contexts.now × Whole t) }
+    ensures any { Any frames.now (starts_in state.now) count (forms_in state.now)
+        (λ t. result ≡ checked_as (no_name_twice [] (placed (program_of t)))) }
+    ensures beside { result ≡ Passes → Beside frames.now (starts_in state.now) count links.new }
     ensures links_len { length links.new ≡ 28672 }
 {
     let mut names = [65536u32; 1024];
@@ -48,10 +48,10 @@ pub fn lay_and_define(
     positions: &mut [u32; 1025],
     values: &mut [i64; 1024],
 ) -> Checked
-    requires { Held frames.now (startsIn state.now) count × (length positions.old ≡ 1025) × (length values.old ≡ 1024)
-        × Beside frames.now (startsIn state.now) count links.now × Any frames.now (startsIn state.now) count (formsIn
+    requires { Held frames.now (starts_in state.now) count × (length positions.old ≡ 1025) × (length values.old ≡ 1024)
+        × Beside frames.now (starts_in state.now) count links.now × Any frames.now (starts_in state.now) count (forms_in
         state.now) (λ t. InPlace t) }
-    ensures { Any frames.now (startsIn state.now) count (formsIn state.now)
+    ensures { Any frames.now (starts_in state.now) count (forms_in state.now)
         (λ t. Once t → Prepared t links.now values.new positions.new result) }
 {
     match lay_out(frames, state, count, positions) {

@@ -4,7 +4,7 @@ ghost use Rattle.listing.specs.Tables.{Held};
 ghost use Rattle.slots.specs.Slots.{Positioned};
 ghost use Rattle.env.specs.Tables.{Any};
 ghost use Rattle.asm.specs.Belonging.{FoundAs};
-ghost use Rattle.slots.specs.State.{startsIn, formsIn};
+ghost use Rattle.slots.specs.State.{starts_in, forms_in};
 
 use crate::Origin;
 use rules::{Address, Place};
@@ -35,9 +35,9 @@ pub fn origin_of(
     positions: &[u32; 1025],
     address: Address,
 ) -> Origin
-    requires { Held frames.now (startsIn state.now) count
-        × Any frames.now (startsIn state.now) count (formsIn state.now) (λ t. Positioned t positions.now) }
-    ensures { Any frames.now (startsIn state.now) count (formsIn state.now) (λ t. FoundAs t
+    requires { Held frames.now (starts_in state.now) count
+        × Any frames.now (starts_in state.now) count (forms_in state.now) (λ t. Positioned t positions.now) }
+    ensures { Any frames.now (starts_in state.now) count (forms_in state.now) (λ t. FoundAs t
         address.0 result) }
 {
     let mut i = 0;

@@ -11,14 +11,14 @@ abbrev pub depth_of : (o : ℕ) → ℕ
 depth_of o = min (o + 1) 65536
 
 -- what a label wants of slot i: nothing, where another slot is its owner
-abbrev pub wantedOf : (i : Placeℕ) → InnerLabel → ℕ
-wantedOf i (Of owner o) = cond (eqb owner.0 i) (depth_of o) 0
-wantedOf i Nothing = 0
+abbrev pub wanted_of : (i : Placeℕ) → InnerLabel → ℕ
+wanted_of i (Of owner o) = cond (eqb owner.0 i) (depth_of o) 0
+wanted_of i Nothing = 0
 
 -- the most that the labels of the first n slots want of slot i; 0 where none wants it
-unfoldable pub deepestTo : Slots → (i : Placeℕ) (n : ℕ) → ℕ
-deepestTo t i zero = 0
-deepestTo t i (suc n) = max (deepestTo t i n) (wantedOf i (label_at t n))
+unfoldable pub deepest_to : Slots → (i : Placeℕ) (n : ℕ) → ℕ
+deepest_to t i zero = 0
+deepest_to t i (suc n) = max (deepest_to t i n) (wanted_of i (label_at t n))
 
 pub record Deepest (t : Slots) (deepest : List ℕ) : Type 0 where
-  pub is : (i : Placeℕ) → i < t.count → get_or deepest i 0 ≡ deepestTo t i t.count
+  pub is : (i : Placeℕ) → i < t.count → get_or deepest i 0 ≡ deepest_to t i t.count

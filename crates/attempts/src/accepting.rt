@@ -4,7 +4,7 @@ ghost use Rattle.rules.specs.Rewriting.{acceptable as Acceptable};
 ghost use Rattle.slots.specs.Slots.{Slots, program_of};
 ghost use Rattle.slots.specs.Links.{Beside};
 ghost use Rattle.attempts.specs.Standing.{Standing};
-ghost use Rattle.slots.specs.State.{startsIn, table_of};
+ghost use Rattle.slots.specs.State.{starts_in, table_of};
 
 use asm::assembles;
 use patterns::labels::offsets_fit;
@@ -20,7 +20,7 @@ pub fn acceptable(
     hint: Place,
 ) -> bool
     requires { let t : Slots = table_of frames.now state.now count in
-        Standing t × (hint.0 < count) × Beside frames.now (startsIn state.now) count links.now }
+        Standing t × (hint.0 < count) × Beside frames.now (starts_in state.now) count links.now }
     ensures { let t : Slots = table_of frames.now state.now count in
         result ≡ Acceptable (program_of t) }
 {

@@ -2,7 +2,7 @@
 ghost use Rattle.std.specs.Prelude.{◌≡◌, ℕ, max, length, get_or, replicate};
 ghost use Rattle.slots.specs.Slots.{Slots, slots, Sound};
 ghost use Rattle.patterns.specs.Labels.{OwnerIn};
-ghost use Rattle.attempts.specs.Deepest.{depth_of, wantedOf, Deepest};
+ghost use Rattle.attempts.specs.Deepest.{depth_of, wanted_of, Deepest};
 ghost use Rattle.slots.specs.State.{table_of};
 
 use patterns::InnerLabel;
@@ -25,7 +25,7 @@ fn depth(offset: usize) -> u32
 fn store_deeper(deepest: &mut [u32; 1024], label: InnerLabel)
     requires { (length deepest.old ≡ 1024) × OwnerIn 1024 label }
     ensures room { length deepest.new ≡ 1024 }
-    ensures stored { (i : ℕ) → get_or deepest.new i 0 ≡ max (get_or deepest.old i 0) (wantedOf i label) }
+    ensures stored { (i : ℕ) → get_or deepest.new i 0 ≡ max (get_or deepest.old i 0) (wanted_of i label) }
 {
     match label {
         InnerLabel::Of(owner, offset) => {

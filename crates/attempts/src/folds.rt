@@ -1,13 +1,13 @@
 // Folds: "An inverted fold puts, in the branch's place, the pair's other branch to the unconditional's target, drops the unconditional and
 // keeps the label. A trampoline fold puts there the same branch to the last unconditional's target, drops both unconditionals and T, and keeps S."
 ghost use Rattle.std.specs.Prelude.{◌≡◌, true, ℕ, ◌<◌, length, set};
-ghost use Rattle.rules.specs.Forms.{isTransfer};
-ghost use Rattle.rules.specs.Rewriting.{candidate, invertedAt, trampolineAt};
+ghost use Rattle.rules.specs.Forms.{is_transfer};
+ghost use Rattle.rules.specs.Rewriting.{candidate, inverted_at, trampoline_at};
 ghost use Rattle.slots.specs.Slots.{Slots, program_of, Agree};
 ghost use Rattle.slots.specs.Links.{Beside};
 ghost use Rattle.attempts.specs.Standing.{Standing, Tried};
 ghost use Rattle.attempts.specs.Folds.{inverted, bounced, Inverts, Bounces};
-ghost use Rattle.slots.specs.State.{startsIn, formsIn, carryIn, table_of, Kept};
+ghost use Rattle.slots.specs.State.{starts_in, forms_in, carry_in, table_of, Kept};
 
 use crate::accepting::acceptable;
 use patterns::shapes::{inverted_at, trampoline_at};
@@ -17,9 +17,9 @@ use slots::{CARRY, GONE, State, form_in, put_carry, put_form};
 
 // Forms at two places, and the place whose target the first carries.
 pub fn put_two(state: &mut State, at: Place, form: u8, from: u16, jump: Place, left: u8)
-    requires { (length (formsIn state.old) ≡ 1025) × (length (carryIn state.old) ≡ 1025) × (at.0 < 1024) × (jump.0 < 1024) }
-    ensures { (formsIn state.new ≡ set (set (formsIn state.old) at.0 form) jump.0 left)
-        × (carryIn state.new ≡ set (carryIn state.old) at.0 from) × Kept state.old state.new }
+    requires { (length (forms_in state.old) ≡ 1025) × (length (carry_in state.old) ≡ 1025) × (at.0 < 1024) × (jump.0 < 1024) }
+    ensures { (forms_in state.new ≡ set (set (forms_in state.old) at.0 form) jump.0 left)
+        × (carry_in state.new ≡ set (carry_in state.old) at.0 from) × Kept state.old state.new }
 {
     put_form(state, at, form);
     put_form(state, jump, left);
@@ -28,9 +28,9 @@ pub fn put_two(state: &mut State, at: Place, form: u8, from: u16, jump: Place, l
 
 // Forms at three places.
 pub fn put_three(state: &mut State, skip: Place, a: u8, target: Place, b: u8, last: Place, c: u8)
-    requires { (length (formsIn state.old) ≡ 1025) × (skip.0 < 1024) × (target.0 < 1024) × (last.0 < 1024) }
-    ensures { (formsIn state.new ≡ set (set (set (formsIn state.old) skip.0 a) target.0 b) last.0 c)
-        × (carryIn state.new ≡ carryIn state.old) × Kept state.old state.new }
+    requires { (length (forms_in state.old) ≡ 1025) × (skip.0 < 1024) × (target.0 < 1024) × (last.0 < 1024) }
+    ensures { (forms_in state.new ≡ set (set (set (forms_in state.old) skip.0 a) target.0 b) last.0 c)
+        × (carry_in state.new ≡ carry_in state.old) × Kept state.old state.new }
 {
     put_form(state, skip, a);
     put_form(state, target, b);
@@ -48,7 +48,7 @@ fn attempt_inverted(
     jump: Place,
 ) -> bool
     requires { let t : Slots = table_of frames.now state.old count in
-        Standing t × Inverts t to at.0 jump.0 × Beside frames.now (startsIn state.old) count links.now }
+        Standing t × Inverts t to at.0 jump.0 × Beside frames.now (starts_in state.old) count links.now }
     ensures { let t : Slots = table_of frames.now state.old count in
         let u : Slots = table_of frames.now state.new count in
         Tried (candidate (inverted t to at.0 jump.0)) t u result }
@@ -80,7 +80,7 @@ fn attempt_trampoline(
 ) -> bool
     requires { let t : Slots = table_of frames.now state.old count in
         Standing t × ((f : ℕ) × Bounces t f at.0 skip.0 target.0 last.0)
-        × Beside frames.now (startsIn state.old) count links.now }
+        × Beside frames.now (starts_in state.old) count links.now }
     ensures { let t : Slots = table_of frames.now state.old count in
         let u : Slots = table_of frames.now state.new count in
         ((f : ℕ) → Bounces t f at.0 skip.0 target.0 last.0
@@ -114,11 +114,11 @@ pub fn try_inverted(
     at: Place,
 ) -> bool
     requires { let t : Slots = table_of frames.now state.old count in
-        Standing t × (at.0 < count) × (isTransfer from ≡ true) × Agree to from × Beside frames.now (startsIn state.old) count
+        Standing t × (at.0 < count) × (is_transfer from ≡ true) × Agree to from × Beside frames.now (starts_in state.old) count
         links.now }
     ensures { let t : Slots = table_of frames.now state.old count in
         let u : Slots = table_of frames.now state.new count in
-        Tried (invertedAt from to (program_of t) at.0) t u result }
+        Tried (inverted_at from to (program_of t) at.0) t u result }
 {
     let Inverted::At(jump, _) = inverted_at(frames, state, count, links, from, at) else {
         return false;
@@ -136,10 +136,10 @@ pub fn try_trampoline(
     at: Place,
 ) -> bool
     requires { let t : Slots = table_of frames.now state.old count in
-        Standing t × (at.0 < count) × (isTransfer form ≡ true) × Beside frames.now (startsIn state.old) count links.now }
+        Standing t × (at.0 < count) × (is_transfer form ≡ true) × Beside frames.now (starts_in state.old) count links.now }
     ensures { let t : Slots = table_of frames.now state.old count in
         let u : Slots = table_of frames.now state.new count in
-        Tried (trampolineAt form (program_of t) at.0) t u result }
+        Tried (trampoline_at form (program_of t) at.0) t u result }
 {
     let Trampoline::At(skip, target, last, _) = trampoline_at(frames, state, count, links, form, at)
     else {

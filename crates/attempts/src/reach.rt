@@ -2,13 +2,13 @@
 // what stands before a changed place keeps its position.
 ghost use Rattle.std.specs.Prelude.{◌≡◌, true, false, List, [], ℕ, ◌+◌, ◌<◌, ℤ, length, get_or};
 ghost use Rattle.rules.specs.declared.Kind.TheVariants.{Reg};
-ghost use Rattle.rules.specs.Answers.{isOk};
+ghost use Rattle.rules.specs.Answers.{is_ok};
 ghost use Rattle.rules.specs.Encoding.{field};
-ghost use Rattle.rules.specs.Forms.{operandsAt, size_at};
+ghost use Rattle.rules.specs.Forms.{operands_at, size_at};
 ghost use Rattle.listing.specs.Tables.{Held};
 ghost use Rattle.slots.specs.Slots.{slots, WroteTarget};
 ghost use Rattle.attempts.specs.Reach.{FixedAt, OutOfReach};
-ghost use Rattle.slots.specs.State.{startsIn, carryIn, ownersIn};
+ghost use Rattle.slots.specs.State.{starts_in, carry_in, owners_in};
 
 use encoding::operands::{Field, field_of};
 use expression::linked_worth;
@@ -27,11 +27,11 @@ fn fixed_target(
     values: &[i64; 1024],
     c: Place,
 ) -> Outcome
-    requires { Held frames.now (startsIn state.now) count × WroteTarget (slots frames.now (startsIn state.now) count [] []
-        (ownersIn state.now) []) c.0
+    requires { Held frames.now (starts_in state.now) count × WroteTarget (slots frames.now (starts_in state.now) count [] []
+        (owners_in state.now) []) c.0
         × (length links.now ≡ 28672) }
     ensures { (z : ℤ) → result ≡ Outcome.Is z → (forms carry offsets : List ℕ)
-        → FixedAt (slots frames.now (startsIn state.now) count forms carry (ownersIn
+        → FixedAt (slots frames.now (starts_in state.now) count forms carry (owners_in
         state.now) offsets) c.0 z }
 {
     if owner_at(state, c) < NO_OWNER {
@@ -47,8 +47,8 @@ fn fixed_target(
 
 // Whether a form at this position refuses the value as its first operand.
 fn refuses(at: Place, position: u32, form: u8, v: i32) -> bool
-    requires { 0 < length (operandsAt form) }
-    ensures { result ≡ true → isOk (field at.0 0 (position + size_at form) (get_or (operandsAt form) 0 Reg) v) ≡ false }
+    requires { 0 < length (operands_at form) }
+    ensures { result ≡ true → is_ok (field at.0 0 (position + size_at form) (get_or (operands_at form) 0 Reg) v) ≡ false }
 {
     let n = position as usize + size(form);
     if 65536 < n {
@@ -74,12 +74,12 @@ pub fn misses(
     form: u8,
     at: Place,
 ) -> bool
-    requires { Held frames.now (startsIn state.now) count
-        × WroteTarget (slots frames.now (startsIn state.now) count [] [] (ownersIn state.now) []) (get_or (carryIn state.now)
+    requires { Held frames.now (starts_in state.now) count
+        × WroteTarget (slots frames.now (starts_in state.now) count [] [] (owners_in state.now) []) (get_or (carry_in state.now)
         at.0 0)
-        × (length links.now ≡ 28672) × (0 < length (operandsAt form)) × (at.0 < count) }
+        × (length links.now ≡ 28672) × (0 < length (operands_at form)) × (at.0 < count) }
     ensures { result ≡ true → (forms offsets : List ℕ)
-        → OutOfReach (slots frames.now (startsIn state.now) count forms (carryIn state.now) (ownersIn
+        → OutOfReach (slots frames.now (starts_in state.now) count forms (carry_in state.now) (owners_in
         state.now) offsets)
         (get_or positions.now at.0 0) form at.0 }
 {

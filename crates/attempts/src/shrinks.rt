@@ -1,13 +1,13 @@
 // Shrinks: a shorter form in an instruction's place, its operands kept.
 ghost use Rattle.std.specs.Prelude.{◌≡◌, true, ◌<◌, get_or, length};
-ghost use Rattle.rules.specs.Forms.{isTransfer, operandsAt};
+ghost use Rattle.rules.specs.Forms.{is_transfer, operands_at};
 ghost use Rattle.rules.specs.Programs.{kind_of};
 ghost use Rattle.slots.specs.Slots.{Slots, slot_at, Agree, Positioned};
 ghost use Rattle.slots.specs.Links.{Beside};
 ghost use Rattle.attempts.specs.Standing.{Standing, Tried};
 ghost use Rattle.attempts.specs.Deepest.{Deepest};
 ghost use Rattle.attempts.specs.Shrinks.{shrunk};
-ghost use Rattle.slots.specs.State.{startsIn, formsIn, table_of};
+ghost use Rattle.slots.specs.State.{starts_in, forms_in, table_of};
 
 use crate::accepting::acceptable;
 use crate::reach::misses;
@@ -29,9 +29,9 @@ pub fn try_form(
 ) -> bool
     requires { let t : Slots = table_of frames.now state.old count in
         Standing t × Deepest t deepest.now × (at.0 < count) × (kind_of (slot_at t at.0) ≡ 1) × Agree form (get_or
-        (formsIn state.old) at.0 0)
-        × Beside frames.now (startsIn state.old) count links.now × Positioned t positions.now
-        × (isTransfer form ≡ true) × (length (operandsAt form) ≡ 1) }
+        (forms_in state.old) at.0 0)
+        × Beside frames.now (starts_in state.old) count links.now × Positioned t positions.now
+        × (is_transfer form ≡ true) × (length (operands_at form) ≡ 1) }
     ensures { let t : Slots = table_of frames.now state.old count in
         let u : Slots = table_of frames.now state.new count in
         Tried (shrunk t at.0 form) t u result }

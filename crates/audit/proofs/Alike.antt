@@ -22,15 +22,15 @@ module _ (w s : List ℕ) (i : ℕ) where
   here x y xs ys d e = rw (d, e)
 
   -- the same byte at i
-  pub alike-more : i < length w → i < length s → get_or w i 0 ≡ get_or s i 0 → Counted → alike w s ≡ (i + 1) + alike (drop (i + 1) w) (drop (i + 1) s)
-  alike-more h k e c =
+  pub alike_more : i < length w → i < length s → get_or w i 0 ≡ get_or s i 0 → Counted → alike w s ≡ (i + 1) + alike (drop (i + 1) w) (drop (i + 1) s)
+  alike_more h k e c =
       let at_i = here (get_or w i 0) (get_or s i 0) (drop (suc i) w) (drop (suc i) s) (drop-cons w i 0 h) (drop-cons s i 0 k) in
       let one : alike (drop i w) (drop i s) ≡ suc (alike (drop (suc i) w) (drop (suc i) s)) = at_i ∙ rw (eq-eqb (get_or w i 0) (get_or s i 0) e) in
       rw add-one (omega (arith, c, one))
 
   -- another byte
-  pub alike-other : i < length w → i < length s → (get_or w i 0 ≡ get_or s i 0 → ⊥) → Counted → i ≡ alike w s
-  alike-other h k n c =
+  pub alike_other : i < length w → i < length s → (get_or w i 0 ≡ get_or s i 0 → ⊥) → Counted → i ≡ alike w s
+  alike_other h k n c =
       let at_i = here (get_or w i 0) (get_or s i 0) (drop (suc i) w) (drop (suc i) s) (drop-cons w i 0 h) (drop-cons s i 0 k) in
       let one : alike (drop i w) (drop i s) ≡ 0 = at_i ∙ rw (ne_eqb (get_or w i 0) (get_or s i 0) n) in
       omega (arith, c, one)
@@ -45,32 +45,32 @@ module _ (w s : List ℕ) (i : ℕ) where
   nothing_left [] y e = refl
   nothing_left (x ∷ xs) y e = rw e
 
-  pub alike-whole : length w ≤ i → Counted → i ≡ alike w s
-  alike-whole h c = let one = no_more (drop i w) (drop i s) (drop_of_length-le w {i = i} h) in omega (arith, c, one)
+  pub alike_whole : length w ≤ i → Counted → i ≡ alike w s
+  alike_whole h c = let one = no_more (drop i w) (drop i s) (drop_of_length-le w {i = i} h) in omega (arith, c, one)
 
-  pub alike-ended : length s ≤ i → Counted → i ≡ alike w s
-  alike-ended h c = let one = nothing_left (drop i w) (drop i s) (drop_of_length-le s {i = i} h) in omega (arith, c, one)
+  pub alike_ended : length s ≤ i → Counted → i ≡ alike w s
+  alike_ended h c = let one = nothing_left (drop i w) (drop i s) (drop_of_length-le s {i = i} h) in omega (arith, c, one)
 
 -- ---- what the count says
 pub record Front (w s : List ℕ) (n : ℕ) : Type 0 where
-  pub in-wanted : n ≤ length w
-  pub in-shipped : n ≤ length s
+  pub in_wanted : n ≤ length w
+  pub in_shipped : n ≤ length s
   pub same : take n s ≡ take n w
   pub other : n < length w → n < length s → get_or w n 0 ≡ get_or s n 0 → ⊥
 
-pub front-is : (w s : List ℕ) → Front w s (alike w s)
+pub front_is : (w s : List ℕ) → Front w s (alike w s)
 unfolding alike
-front-is [] s = record { in-wanted = omega arith; in-shipped = omega arith; same = refl; other = λ h k e. omega arith }
-front-is (x ∷ xs) [] = record { in-wanted = omega arith; in-shipped = omega arith; same = refl; other = λ h k e. omega arith }
-front-is (x ∷ xs) (y ∷ ys) = on (eqb x y) refl (front-is xs ys)
+front_is [] s = record { in_wanted = omega arith; in_shipped = omega arith; same = refl; other = λ h k e. omega arith }
+front_is (x ∷ xs) [] = record { in_wanted = omega arith; in_shipped = omega arith; same = refl; other = λ h k e. omega arith }
+front_is (x ∷ xs) (y ∷ ys) = on (eqb x y) refl (front_is xs ys)
   where
     on : (b : Bool) → eqb x y ≡ b → Front xs ys (alike xs ys) → Front (x ∷ xs) (y ∷ ys) (cond b (suc (alike xs ys)) 0)
     on true e f =
         let z : y ≡ x = sym (eqb-true x y e) in
         record {
-          in-wanted = omega (arith, f.in-wanted);
-          in-shipped = omega (arith, f.in-shipped);
+          in_wanted = omega (arith, f.in_wanted);
+          in_shipped = omega (arith, f.in_shipped);
           same = ap₂ (λ (a : ℕ) (l : List ℕ). a ∷ l) z f.same;
           other = λ h k. f.other (omega (arith, h)) (omega (arith, k));
         }
-    on false e f = record { in-wanted = omega arith; in-shipped = omega arith; same = refl; other = λ h k d. both_ways (eqb x y) (eq-eqb x y d) e }
+    on false e f = record { in_wanted = omega arith; in_shipped = omega arith; same = refl; other = λ h k d. both_ways (eqb x y) (eq-eqb x y d) e }

@@ -5,8 +5,8 @@ use Prim.Native.Nat.{ℕ}
 use Rattle.rules.specs.declared.Settings.{Settings}
 use Rattle.audit.specs.declared.Found.{Found}
 use Rattle.audit.specs.Audit.{audit}
-use Rattle.audit.specs.Held.{auditAs}
+use Rattle.audit.specs.Held.{audit_as}
 
 -- `audit`
-pub one-audit : (asked : Settings) (text shipped : List ℕ) (r s : Found) → r ≡ auditAs (audit asked text shipped) → s ≡ auditAs (audit asked text shipped) → r ≡ s
-one-audit asked text shipped r s a b = a ∙ sym b
+pub one_audit : (asked : Settings) (text shipped : List ℕ) (r s : Found) → r ≡ audit_as (audit asked text shipped) → s ≡ audit_as (audit asked text shipped) → r ≡ s
+one_audit asked text shipped r s a b = a ∙ sym b

@@ -8,10 +8,10 @@ use lib.Dec.{T}
 use Rattle.laws.specs.Lists.{same as equal}
 use Rattle.rules.specs.declared.Settings.{Settings}
 use Rattle.rules.specs.Answers.{Judged, ok, no}
-use Rattle.rules.specs.Refusals.{faultOf}
+use Rattle.rules.specs.Refusals.{fault_of}
 use Rattle.rules.specs.Layout.{Origin}
 use Rattle.rules.specs.Listing.{unhex}
-use Rattle.rules.specs.Settings.{byDefault}
+use Rattle.rules.specs.Settings.{by_default}
 use Rattle.rules.proofs.Computed.{chars, lines, all, freely}
 use Rattle.starting.specs.Begun.{accepted}
 use Rattle.audit.specs.Audit.{alike, Finding, same, differs, short, long, held, audit}
@@ -21,28 +21,28 @@ unfolding freely accepted alike held audit
 answer asked text shipped = audit asked text shipped
 
 -- a finding as numbers: which, the address, both bytes, place and offset
-abbrev originAs : Option Origin → List ℕ
-originAs none = []
-originAs (some o) = o.place ∷ o.offset ∷ []
+abbrev origin_as : Option Origin → List ℕ
+origin_as none = []
+origin_as (some o) = o.place ∷ o.offset ∷ []
 
 abbrev numbers : Judged Finding → List ℕ
 numbers (ok same) = 0 ∷ []
-numbers (ok (differs a x y o)) = 1 ∷ a ∷ x ∷ y ∷ originAs o
-numbers (ok (short a o)) = 2 ∷ a ∷ originAs o
+numbers (ok (differs a x y o)) = 1 ∷ a ∷ x ∷ y ∷ origin_as o
+numbers (ok (short a o)) = 2 ∷ a ∷ origin_as o
 numbers (ok (long a)) = 3 ∷ a ∷ []
-numbers (no r) = 4 ∷ (faultOf r).number ∷ (faultOf r).place ∷ []
+numbers (no r) = 4 ∷ (fault_of r).number ∷ (fault_of r).place ∷ []
 
 unfoldable finds : String → String → List ℕ → Bool
 unfolding answer equal
-finds text image ns = equal (numbers (answer byDefault (lines text) (unhex (chars image)))) ns
+finds text image ns = equal (numbers (answer by_default (lines text) (unhex (chars image)))) ns
 
-unfoldable findsWith : (callf folds : Bool) → String → String → List ℕ → Bool
+unfoldable finds_with : (callf folds : Bool) → String → String → List ℕ → Bool
 unfolding answer equal
-findsWith callf folds text image ns =
+finds_with callf folds text image ns =
     equal (numbers (answer (record { comments = true; callf = callf; folds = folds }) (lines text) (unhex (chars image)))) ns
 
 unfoldable computed : List Bool → Bool
-unfolding all finds findsWith
+unfolding all finds finds_with
 computed table = all table
 
 findings : List Bool
@@ -71,14 +71,14 @@ findings =
     -- a place is the listing's, comments counted
     finds "04AA 0143" "01" (1 ∷ 0 ∷ 0 ∷ 1 ∷ 1 ∷ 0 ∷ []) ∷
     -- under other settings another image is the right one
-    findsWith true true "013C0000000003 0143" "080200" (0 ∷ []) ∷
-    findsWith false true "013C0000000003 0143" "20000300" (0 ∷ []) ∷
-    findsWith false true "013C0000000003 0143" "080200" (1 ∷ 0 ∷ 0x20 ∷ 8 ∷ 0 ∷ 0 ∷ []) ∷
+    finds_with true true "013C0000000003 0143" "080200" (0 ∷ []) ∷
+    finds_with false true "013C0000000003 0143" "20000300" (0 ∷ []) ∷
+    finds_with false true "013C0000000003 0143" "080200" (1 ∷ 0 ∷ 0x20 ∷ 8 ∷ 0 ∷ 0 ∷ []) ∷
     -- a listing that is refused
     finds "0143 01" "00" (4 ∷ 1 ∷ 1 ∷ []) ∷
     finds "012C0000000082" "" (4 ∷ 10 ∷ 0 ∷ []) ∷
     []
 
-findings-hold : T (computed findings)
+findings_hold : T (computed findings)
 unfolding computed findings
-findings-hold = tt
+findings_hold = tt

@@ -5,7 +5,7 @@ use Rattle.std.proofs.Math.Option.{Option}
 use Rattle.rules.specs.declared.Settings.{Settings}
 use Rattle.rules.specs.Answers.{Judged, ok, ◌>>=◌}
 use Rattle.rules.specs.Programs.{Addressℕ}
-use Rattle.rules.specs.Layout.{Origin, originFrom}
+use Rattle.rules.specs.Layout.{Origin, origin_from}
 use Rattle.rules.specs.Rewriting.{optimized}
 use Rattle.rules.specs.Run.{rewritten}
 use Rattle.starting.specs.Begun.{accepted}
@@ -38,4 +38,4 @@ held of wanted shipped =
 unfoldable pub audit : Settings → (text shipped : List ℕ) → Judged Finding
 audit asked text shipped = do
   p ← accepted text
-  ok (held (λ a. originFrom 0 0 (optimized asked p).program a) (rewritten asked p).image shipped)
+  ok (held (λ a. origin_from 0 0 (optimized asked p).program a) (rewritten asked p).image shipped)

@@ -6,7 +6,7 @@ use Rattle.rules.specs.declared.Refusal.{Refusal}
 use Rattle.rules.specs.declared.Refusal.TheVariants.{Room}
 use Rattle.rules.specs.Answers.{ok, no}
 use Rattle.rules.specs.Programs.{Placeℕ, Addressℕ, Program}
-use Rattle.rules.specs.Layout.{Origin, originFrom}
+use Rattle.rules.specs.Layout.{Origin, origin_from}
 use Rattle.rules.specs.Rewriting.{optimized}
 use Rattle.rules.specs.Run.{Output, run}
 use Rattle.starting.specs.Begun.{accepted}
@@ -27,11 +27,11 @@ pub record Audited (asked : Settings) (text shipped : List ℕ) (o : Output) : T
   pub reads : accepted text ≡ ok program
   pub finding : Finding
   pub found : audit asked text shipped ≡ ok finding
-  pub says : Says (λ a. originFrom 0 0 (optimized asked program).program a) o.image shipped finding
-  pub same-only : (finding ≡ same → shipped ≡ o.image) × (shipped ≡ o.image → finding ≡ same)
+  pub says : Says (λ a. origin_from 0 0 (optimized asked program).program a) o.image shipped finding
+  pub same_only : (finding ≡ same → shipped ≡ o.image) × (shipped ≡ o.image → finding ≡ same)
 
 -- a refusal is the run's: 12 is never given, and any other exactly where the run gives it, whatever rooms it is lent; and back
 pub record AsRun (asked : Settings) (text shipped : List ℕ) : Type 0 where
-  pub refused : (r : Refusal) → audit asked text shipped ≡ no r → (listingRoom imageRoom : ℕ) → run asked text listingRoom imageRoom ≡ no r
-  pub back : (r : Refusal) (listingRoom imageRoom : ℕ) → ((n : ℕ) → r ≡ Room n → ⊥) → run asked text listingRoom imageRoom ≡ no r → audit asked text shipped ≡ no r
-  pub never-12 : (n : ℕ) → audit asked text shipped ≡ no (Room n) → ⊥
+  pub refused : (r : Refusal) → audit asked text shipped ≡ no r → (listing_room image_room : ℕ) → run asked text listing_room image_room ≡ no r
+  pub back : (r : Refusal) (listing_room image_room : ℕ) → ((n : ℕ) → r ≡ Room n → ⊥) → run asked text listing_room image_room ≡ no r → audit asked text shipped ≡ no r
+  pub never_12 : (n : ℕ) → audit asked text shipped ≡ no (Room n) → ⊥

@@ -2,11 +2,11 @@
 ghost use Rattle.std.specs.Prelude.{◌≡◌, true};
 ghost use Rattle.rules.specs.Judging.{assembles};
 ghost use Rattle.slots.specs.Slots.{Slots, program_of};
-ghost use Rattle.slots.specs.State.{startsIn, table_of};
+ghost use Rattle.slots.specs.State.{starts_in, table_of};
 ghost use Rattle.slots.specs.Links.{Beside};
 ghost use Rattle.attempts.specs.Standing.{Standing};
 ghost use Rattle.audit.specs.Audit.{audit as answer};
-ghost use Rattle.audit.specs.Held.{findingAs, auditAs, endFinding};
+ghost use Rattle.audit.specs.Held.{finding_as, audit_as, end_finding};
 
 use crate::Found;
 use crate::holding::hold_end;
@@ -25,9 +25,9 @@ fn rewrite_and_hold(
     shipped: &[u8],
 ) -> Found
     requires { let t : Slots = table_of frames.now state.old count in
-        Standing t × (assembles (program_of t) ≡ true) × Beside frames.now (startsIn state.old) count links.now }
+        Standing t × (assembles (program_of t) ≡ true) × Beside frames.now (starts_in state.old) count links.now }
     ensures { let t : Slots = table_of frames.now state.old count in
-        result ≡ findingAs (endFinding asked (program_of t) shipped.now) }
+        result ≡ finding_as (end_finding asked (program_of t) shipped.now) }
 {
     optimize(asked, frames, state, count, links);
     hold_end(frames, state, count, links, shipped)
@@ -35,7 +35,7 @@ fn rewrite_and_hold(
 
 // Holds a shipped image against what a listing shrinks to.
 pub fn audit(asked: Settings, listing: &[u8], shipped: &[u8]) -> Found
-    ensures { result ≡ auditAs (answer asked listing.now shipped.now) }
+    ensures { result ≡ audit_as (answer asked listing.now shipped.now) }
 {
     let mut frames = [0u8; 28672];
     let mut state = [[0u16; 1025]; 8];

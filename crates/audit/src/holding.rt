@@ -1,18 +1,18 @@
 // An end form is assembled, and its image is held against the shipped one.
 ghost use Rattle.std.specs.Prelude.{◌≡◌, true};
 ghost use Rattle.rules.specs.Judging.{assembles};
-ghost use Rattle.rules.specs.Layout.{originFrom};
+ghost use Rattle.rules.specs.Layout.{origin_from};
 ghost use Rattle.listing.specs.Tables.{Held};
 ghost use Rattle.env.specs.Tables.{Any};
 ghost use Rattle.slots.specs.Slots.{Slots, program_of, Positioned};
-ghost use Rattle.slots.specs.State.{startsIn, formsIn, table_of};
+ghost use Rattle.slots.specs.State.{starts_in, forms_in, table_of};
 ghost use Rattle.slots.specs.Links.{Beside};
 ghost use Rattle.image.specs.Tables.{Tables, tables_of, program};
 ghost use Rattle.image.specs.Image.{image_of};
 ghost use Rattle.attempts.specs.Standing.{Standing};
 ghost use Rattle.finishing.specs.Ending.{Assembled};
 ghost use Rattle.audit.specs.Audit.{held};
-ghost use Rattle.audit.specs.Held.{findingAs, endImage};
+ghost use Rattle.audit.specs.Held.{finding_as, end_image};
 
 use crate::Found;
 use crate::comparing::count_alike;
@@ -30,10 +30,10 @@ fn hold(
     wanted: &[u8],
     shipped: &[u8],
 ) -> Found
-    requires { Held frames.now (startsIn state.now) count
-        × Any frames.now (startsIn state.now) count (formsIn state.now) (λ t. Positioned t positions.now) }
-    ensures { Any frames.now (startsIn state.now) count (formsIn state.now)
-        (λ t. result ≡ findingAs (held (originFrom 0 0 (program_of t)) wanted.now shipped.now)) }
+    requires { Held frames.now (starts_in state.now) count
+        × Any frames.now (starts_in state.now) count (forms_in state.now) (λ t. Positioned t positions.now) }
+    ensures { Any frames.now (starts_in state.now) count (forms_in state.now)
+        (λ t. result ≡ finding_as (held (origin_from 0 0 (program_of t)) wanted.now shipped.now)) }
 {
     let a = count_alike(wanted, shipped);
     if a < wanted.len() {
@@ -64,7 +64,7 @@ fn hold_judged(
         Assembled d }
     ensures { let d : Tables = tables_of frames.now state.now count links.now values.now
         positions.now in
-        result ≡ findingAs (held (originFrom 0 0 (program d)) (image_of d) shipped.now) }
+        result ≡ finding_as (held (origin_from 0 0 (program d)) (image_of d) shipped.now) }
 {
     let mut image = [0u8; 65536];
     let n = image_length(frames, state, count, positions);
@@ -81,9 +81,9 @@ pub fn hold_end(
     shipped: &[u8],
 ) -> Found
     requires { let t : Slots = table_of frames.now state.now count in
-        Standing t × (assembles (program_of t) ≡ true) × Beside frames.now (startsIn state.now) count links.now }
+        Standing t × (assembles (program_of t) ≡ true) × Beside frames.now (starts_in state.now) count links.now }
     ensures { let t : Slots = table_of frames.now state.now count in
-        result ≡ findingAs (held (originFrom 0 0 (program_of t)) (endImage (program_of t)) shipped.now) }
+        result ≡ finding_as (held (origin_from 0 0 (program_of t)) (end_image (program_of t)) shipped.now) }
 {
     let mut positions = [0u32; 1025];
     let mut values = [0i64; 1024];

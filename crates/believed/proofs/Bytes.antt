@@ -6,9 +6,9 @@ use lib.IntN.{ℤ, pos, negsuc}
 use Rattle.rules.specs.Values.{mod256, floor256}
 use Rattle.believed.specs.Bytes.{BothBytes}
 
-byte-below : (v : ℤ) → mod256 v < 256
-byte-below (pos n) = omega arith
-byte-below (negsuc n) = omega arith
+byte_below : (v : ℤ) → mod256 v < 256
+byte_below (pos n) = omega arith
+byte_below (negsuc n) = omega arith
 
 pub both_bytes : (v : ℤ) → BothBytes v
-both_bytes v = record { lower = (mod256 v, byte-below v, refl); upper = (mod256 (floor256 v), byte-below (floor256 v), refl) }
+both_bytes v = record { lower = (mod256 v, byte_below v, refl); upper = (mod256 (floor256 v), byte_below (floor256 v), refl) }

@@ -14,40 +14,40 @@ use Rattle.rules.specs.declared.Op2.TheVariants.{Plus, Minus, Times, Divide, Xor
 use Rattle.rules.specs.declared.Outcome.{Outcome}
 use Rattle.rules.specs.declared.Outcome.TheVariants.{Is, Unknown, Nothing}
 use Rattle.rules.specs.Values.{in_range, apply1, apply2}
-use Rattle.rules.specs.Expressions.{Expr, num, name, two, one, with1, with2, evalTree}
-use Rattle.rules.specs.Names.{Key, Entry, lookup, sameKey}
-use Rattle.believed.specs.Causes.{NotFound, here, left, right, under, NodeWithout, node-two, node-one, node-left, node-right, node-under}
+use Rattle.rules.specs.Expressions.{Expr, num, name, two, one, with1, with2, eval_tree}
+use Rattle.rules.specs.Names.{Key, Entry, lookup, same_key}
+use Rattle.believed.specs.Causes.{NotFound, here, left, right, under, NodeWithout, node_two, node_one, node_left, node_right, node_under}
 
 -- ---- an operator never gives Unknown, and a name never Nothing
-known-range : (z : ℤ) → in_range z ≡ Unknown → ⊥
-known-range z = on (ltb (mag z) (2 ^ 31))
+known_range : (z : ℤ) → in_range z ≡ Unknown → ⊥
+known_range z = on (ltb (mag z) (2 ^ 31))
   where
     on : (b : Bool) → cond b (Is z) Nothing ≡ Unknown → ⊥
     on true e = clash (cc)
     on false e = clash (cc)
 
 known_two : (o : Op2) (a b : ℤ) → apply2 o a b ≡ Unknown → ⊥
-known_two Plus a b e = known-range (a +ℤ b) e
-known_two Minus a b e = known-range (a -ℤ b) e
-known_two Times a b e = known-range (a *ℤ b) e
+known_two Plus a b e = known_range (a +ℤ b) e
+known_two Minus a b e = known_range (a -ℤ b) e
+known_two Times a b e = known_range (a *ℤ b) e
 known_two Divide a b e = on (eqb (nat_abs b) 0) e
   where
     on : (t : Bool) → cond t Nothing (in_range (quot_z a b)) ≡ Unknown → ⊥
     on true e = clash (cc)
-    on false e = known-range (quot_z a b) e
+    on false e = known_range (quot_z a b) e
 known_two Xor a b e = clash (cc)
 known_two And a b e = clash (cc)
 known_two Or a b e = clash (cc)
 
-known-one : (o : Op1) (a : ℤ) → apply1 o a ≡ Unknown → ⊥
-known-one Negate a e = known-range (neg_ℤ a) e
-known-one Upper a e = clash (cc)
-known-one Lower a e = clash (cc)
+known_one : (o : Op1) (a : ℤ) → apply1 o a ≡ Unknown → ⊥
+known_one Negate a e = known_range (neg_ℤ a) e
+known_one Upper a e = clash (cc)
+known_one Lower a e = clash (cc)
 
-name-valued : (names : List Entry) (k : Key) → lookup names k ≡ Nothing → ⊥
+name_valued : (names : List Entry) (k : Key) → lookup names k ≡ Nothing → ⊥
 unfolding lookup
-name-valued [] k e = clash (cc)
-name-valued (x ∷ names) k e = on (sameKey x.key k) (name-valued names k) e
+name_valued [] k e = clash (cc)
+name_valued (x ∷ names) k e = on (same_key x.key k) (name_valued names k) e
   where
     on : (b : Bool) → (lookup names k ≡ Nothing → ⊥) → cond b (Is x.stands_for) (lookup names k) ≡ Nothing → ⊥
     on true below e = clash (cc)
@@ -55,28 +55,28 @@ name-valued (x ∷ names) k e = on (sameKey x.key k) (name-valued names k) e
 
 -- ---- 4
 module _ (env : ℕ → Outcome) where
-  pub unknown : (e : Expr) → evalTree env e ≡ Unknown → NotFound env e
-  unfolding evalTree
+  pub unknown : (e : Expr) → eval_tree env e ≡ Unknown → NotFound env e
+  unfolding eval_tree
   unknown (num z) h = clash (cc)
   unknown (name n) h = here n h
-  unknown (two o e d) h = on (evalTree env e) (evalTree env d) refl refl h (unknown e) (unknown d)
+  unknown (two o e d) h = on (eval_tree env e) (eval_tree env d) refl refl h (unknown e) (unknown d)
     where
-      on : (x y : Outcome) → evalTree env e ≡ x → evalTree env d ≡ y → with2 o x y ≡ Unknown → (evalTree env e ≡ Unknown → NotFound env e)
-          → (evalTree env d ≡ Unknown → NotFound env d) → NotFound env (two o e d)
+      on : (x y : Outcome) → eval_tree env e ≡ x → eval_tree env d ≡ y → with2 o x y ≡ Unknown → (eval_tree env e ≡ Unknown → NotFound env e)
+          → (eval_tree env d ≡ Unknown → NotFound env d) → NotFound env (two o e d)
       on (Is a) (Is b) p q h l r = absurd (known_two o a b h)
       on (Is a) Unknown p q h l r = right o e d a p (r q)
       on (Is a) Nothing p q h l r = clash (cc)
       on Unknown y p q h l r = left o e d (l p)
       on Nothing y p q h l r = clash (cc)
-  unknown (one o e) h = on (evalTree env e) refl h (unknown e)
+  unknown (one o e) h = on (eval_tree env e) refl h (unknown e)
     where
-      on : (x : Outcome) → evalTree env e ≡ x → with1 o x ≡ Unknown → (evalTree env e ≡ Unknown → NotFound env e) → NotFound env (one o e)
-      on (Is a) p h l = absurd (known-one o a h)
+      on : (x : Outcome) → eval_tree env e ≡ x → with1 o x ≡ Unknown → (eval_tree env e ≡ Unknown → NotFound env e) → NotFound env (one o e)
+      on (Is a) p h l = absurd (known_one o a h)
       on Unknown p h l = under o e (l p)
       on Nothing p h l = clash (cc)
 
-  pub not_found : {e : Expr} → NotFound env e → evalTree env e ≡ Unknown
-  unfolding evalTree
+  pub not_found : {e : Expr} → NotFound env e → eval_tree env e ≡ Unknown
+  unfolding eval_tree
   not_found (here n h) = h
   not_found (left o e d h) = rw (not_found h)
   not_found (right o e d a p h) = rw (p, not_found h)
@@ -84,36 +84,36 @@ module _ (env : ℕ → Outcome) where
 
   -- ---- 7
   module _ (valued : (n : ℕ) → env n ≡ Nothing → ⊥) where
-    pub nothing : (e : Expr) → evalTree env e ≡ Nothing → NodeWithout env e
-    unfolding evalTree
+    pub nothing : (e : Expr) → eval_tree env e ≡ Nothing → NodeWithout env e
+    unfolding eval_tree
     nothing (num z) h = clash (cc)
     nothing (name n) h = absurd (valued n h)
-    nothing (two o e d) h = on (evalTree env e) (evalTree env d) refl refl h (nothing e) (nothing d)
+    nothing (two o e d) h = on (eval_tree env e) (eval_tree env d) refl refl h (nothing e) (nothing d)
       where
-        on : (x y : Outcome) → evalTree env e ≡ x → evalTree env d ≡ y → with2 o x y ≡ Nothing
-            → (evalTree env e ≡ Nothing → NodeWithout env e)
-            → (evalTree env d ≡ Nothing → NodeWithout env d) → NodeWithout env (two o e d)
-        on (Is a) (Is b) p q h l r = node-two o e d a b p q h
+        on : (x y : Outcome) → eval_tree env e ≡ x → eval_tree env d ≡ y → with2 o x y ≡ Nothing
+            → (eval_tree env e ≡ Nothing → NodeWithout env e)
+            → (eval_tree env d ≡ Nothing → NodeWithout env d) → NodeWithout env (two o e d)
+        on (Is a) (Is b) p q h l r = node_two o e d a b p q h
         on (Is a) Unknown p q h l r = clash (cc)
-        on (Is a) Nothing p q h l r = node-right o e d a p (r q)
+        on (Is a) Nothing p q h l r = node_right o e d a p (r q)
         on Unknown y p q h l r = clash (cc)
-        on Nothing y p q h l r = node-left o e d (l p)
-    nothing (one o e) h = on (evalTree env e) refl h (nothing e)
+        on Nothing y p q h l r = node_left o e d (l p)
+    nothing (one o e) h = on (eval_tree env e) refl h (nothing e)
       where
-        on : (x : Outcome) → evalTree env e ≡ x → with1 o x ≡ Nothing → (evalTree env e ≡ Nothing → NodeWithout env e)
+        on : (x : Outcome) → eval_tree env e ≡ x → with1 o x ≡ Nothing → (eval_tree env e ≡ Nothing → NodeWithout env e)
             → NodeWithout env (one o e)
-        on (Is a) p h l = node-one o e a p h
+        on (Is a) p h l = node_one o e a p h
         on Unknown p h l = clash (cc)
-        on Nothing p h l = node-under o e (l p)
+        on Nothing p h l = node_under o e (l p)
 
-  pub node-without : {e : Expr} → NodeWithout env e → evalTree env e ≡ Nothing
-  unfolding evalTree
-  node-without (node-two o e d a b p q h) = rw (p, q) h
-  node-without (node-one o e a p h) = rw p h
-  node-without (node-left o e d h) = rw (node-without h)
-  node-without (node-right o e d a p h) = rw (p, node-without h)
-  node-without (node-under o e h) = rw (node-without h)
+  pub node_without : {e : Expr} → NodeWithout env e → eval_tree env e ≡ Nothing
+  unfolding eval_tree
+  node_without (node_two o e d a b p q h) = rw (p, q) h
+  node_without (node_one o e a p h) = rw p h
+  node_without (node_left o e d h) = rw (node_without h)
+  node_without (node_right o e d a p h) = rw (p, node_without h)
+  node_without (node_under o e h) = rw (node_without h)
 
 -- among entries a name is found or not
-pub entries-valued : (names : List Entry) (f : ℕ → Key) (n : ℕ) → lookup names (f n) ≡ Nothing → ⊥
-entries-valued names f n = name-valued names (f n)
+pub entries_valued : (names : List Entry) (f : ℕ → Key) (n : ℕ) → lookup names (f n) ≡ Nothing → ⊥
+entries_valued names f n = name_valued names (f n)

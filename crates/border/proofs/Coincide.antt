@@ -4,24 +4,24 @@ use mathlib.Core.Path.{◌≡◌, sym, ◌∙◌}
 use mathlib.Core.List.{List}
 use Prim.Native.Nat.{ℕ}
 use lib.ListN.{length}
-use Rattle.readback.specs.ReadBack.{readBack}
-use Rattle.readback.specs.Entry.{answerAs as readAs, roomAs as readRoom}
+use Rattle.readback.specs.ReadBack.{read_back}
+use Rattle.readback.specs.Entry.{answer_as as read_as, room_as as read_room}
 use Rattle.store.specs.declared.Found.{Found}
 use Rattle.store.specs.declared.Shown.{Shown}
 use Rattle.store.specs.declared.Numbered.{Numbered}
-use Rattle.store.specs.Rooms.{getIn, newestIn, place_in, addIn, dropIn, afterAdd, afterDrop, foundAs, shownAs, numberedAs}
+use Rattle.store.specs.Rooms.{get_in, newest_in, place_in, add_in, drop_in, after_add, after_drop, found_as, shown_as, numbered_as}
 use Rattle.border_core.specs.declared.replies.Reply.{Reply}
-use Rattle.border_core.specs.Replies.{askedBy, Says, Ends}
-use Rattle.border_core.proofs.Coincide.{one-reply, one_end}
+use Rattle.border_core.specs.Replies.{asked_by, Says, Ends}
+use Rattle.border_core.proofs.Coincide.{one_reply, one_end}
 use Rattle.border.specs.declared.replies.NumberedReply.{NumberedReply}
 use Rattle.border.specs.declared.replies.FoundReply.{FoundReply}
 use Rattle.border.specs.declared.replies.ShownReply.{ShownReply}
-use Rattle.border.specs.Exported.{runUnder, SaysNumbered, SaysFound, SaysShown}
+use Rattle.border.specs.Exported.{run_under, SaysNumbered, SaysFound, SaysShown}
 
 -- ---- an answer is said by one struct
 
-one-numbered : (a : Numbered) (r s : NumberedReply) → SaysNumbered r a → SaysNumbered s a → r ≡ s
-one-numbered a r s h k =
+one_numbered : (a : Numbered) (r s : NumberedReply) → SaysNumbered r a → SaysNumbered s a → r ≡ s
+one_numbered a r s h k =
     rw (h.number ∙ sym k.number, h.place ∙ sym k.place, h.argument ∙ sym k.argument, h.amount ∙ sym k.amount, h.edition ∙ sym k.edition)
 
 one_found : (a : Found) (r s : FoundReply) → SaysFound r a → SaysFound s a → r ≡ s
@@ -37,8 +37,8 @@ one_found a r s h k =
       h.folds ∙ sym k.folds,
     )
 
-one-shown : (a : Shown) (r s : ShownReply) → SaysShown r a → SaysShown s a → r ≡ s
-one-shown a r s h k =
+one_shown : (a : Shown) (r s : ShownReply) → SaysShown r a → SaysShown s a → r ≡ s
+one_shown a r s h k =
     rw (
       h.number ∙ sym k.number,
       h.place ∙ sym k.place,
@@ -55,41 +55,41 @@ one-shown a r s h k =
 -- ---- C-24
 
 -- `mortarbee_optimize_jumps_under`
-pub one-under : (store : List ℕ) (f e : ℕ) (text out image : List ℕ) (r s : Reply) (x y v w : List ℕ)
-    → let end = runUnder store f e text (length out) (length image) in
+pub one_under : (store : List ℕ) (f e : ℕ) (text out image : List ℕ) (r s : Reply) (x y v w : List ℕ)
+    → let end = run_under store f e text (length out) (length image) in
     Ends end r out image x v → Ends end s out image y w → (r ≡ s) × (x ≡ y) × (v ≡ w)
-one-under store f e text out image r s x y v w a b = one_end (runUnder store f e text (length out) (length image)) out image r s x y v w a b
+one_under store f e text out image r s x y v w a b = one_end (run_under store f e text (length out) (length image)) out image r s x y v w a b
 
 module _ (room : List ℕ) (f : ℕ) where
   -- `mortarbee_get_edition`
-  pub one-edition : (e : ℕ) (r s : FoundReply) → SaysFound r (foundAs (getIn room f e)) → SaysFound s (foundAs (getIn room f e)) → r ≡ s
-  one-edition e r s a b = one_found _ r s a b
+  pub one_edition : (e : ℕ) (r s : FoundReply) → SaysFound r (found_as (get_in room f e)) → SaysFound s (found_as (get_in room f e)) → r ≡ s
+  one_edition e r s a b = one_found _ r s a b
 
   -- `mortarbee_get_newest`
-  pub one-newest : (r s : FoundReply) → SaysFound r (foundAs (newestIn room f)) → SaysFound s (foundAs (newestIn room f)) → r ≡ s
-  one-newest r s a b = one_found _ r s a b
+  pub one_newest : (r s : FoundReply) → SaysFound r (found_as (newest_in room f)) → SaysFound s (found_as (newest_in room f)) → r ≡ s
+  one_newest r s a b = one_found _ r s a b
 
   -- `mortarbee_show_place`
-  pub one-shown-place : (k : ℕ) (r s : ShownReply) → SaysShown r (shownAs (place_in room k)) → SaysShown s (shownAs (place_in room k)) → r ≡ s
-  one-shown-place k r s a b = one-shown _ r s a b
+  pub one_shown_place : (k : ℕ) (r s : ShownReply) → SaysShown r (shown_as (place_in room k)) → SaysShown s (shown_as (place_in room k)) → r ≡ s
+  one_shown_place k r s a b = one_shown _ r s a b
 
   -- `mortarbee_add_edition`
-  pub one-added : (comments callf folds : ℕ) (r s : NumberedReply) (x y : List ℕ)
-      → SaysNumbered r (numberedAs (addIn room f)) × (x ≡ afterAdd room f (askedBy comments callf folds))
-      → SaysNumbered s (numberedAs (addIn room f)) × (y ≡ afterAdd room f (askedBy comments callf folds))
+  pub one_added : (comments callf folds : ℕ) (r s : NumberedReply) (x y : List ℕ)
+      → SaysNumbered r (numbered_as (add_in room f)) × (x ≡ after_add room f (asked_by comments callf folds))
+      → SaysNumbered s (numbered_as (add_in room f)) × (y ≡ after_add room f (asked_by comments callf folds))
       → (r ≡ s) × (x ≡ y)
-  one-added comments callf folds r s x y a b = (one-numbered _ r s a.0 b.0, a.1 ∙ sym b.1)
+  one_added comments callf folds r s x y a b = (one_numbered _ r s a.0 b.0, a.1 ∙ sym b.1)
 
   -- `mortarbee_drop_old`
-  pub one-dropped : (r s : NumberedReply) (x y : List ℕ)
-      → SaysNumbered r (numberedAs (dropIn room f)) × (x ≡ afterDrop room f)
-      → SaysNumbered s (numberedAs (dropIn room f)) × (y ≡ afterDrop room f)
+  pub one_dropped : (r s : NumberedReply) (x y : List ℕ)
+      → SaysNumbered r (numbered_as (drop_in room f)) × (x ≡ after_drop room f)
+      → SaysNumbered s (numbered_as (drop_in room f)) × (y ≡ after_drop room f)
       → (r ≡ s) × (x ≡ y)
-  one-dropped r s x y a b = (one-numbered _ r s a.0 b.0, a.1 ∙ sym b.1)
+  one_dropped r s x y a b = (one_numbered _ r s a.0 b.0, a.1 ∙ sym b.1)
 
 -- ---- C-21: `mortarbee_read_back`
-pub one-read-back : (image : List ℕ) (start : ℕ) (room : List ℕ) (r s : Reply) (x y : List ℕ)
-    → Says r (readAs (readBack image start (length room))) × (x ≡ readRoom (readBack image start (length room)) room)
-    → Says s (readAs (readBack image start (length room))) × (y ≡ readRoom (readBack image start (length room)) room)
+pub one_read_back : (image : List ℕ) (start : ℕ) (room : List ℕ) (r s : Reply) (x y : List ℕ)
+    → Says r (read_as (read_back image start (length room))) × (x ≡ read_room (read_back image start (length room)) room)
+    → Says s (read_as (read_back image start (length room))) × (y ≡ read_room (read_back image start (length room)) room)
     → (r ≡ s) × (x ≡ y)
-one-read-back image start room r s x y a b = (one-reply _ r s a.0 b.0, a.1 ∙ sym b.1)
+one_read_back image start room r s x y a b = (one_reply _ r s a.0 b.0, a.1 ∙ sym b.1)

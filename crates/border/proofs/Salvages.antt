@@ -6,15 +6,15 @@ use lib.ListN.{length}
 use Rattle.rules.specs.Answers.{Judged}
 use Rattle.salvage.specs.declared.Saved.{Saved}
 use Rattle.salvage.specs.Salvage.{Salvaged, salvage}
-use Rattle.salvage.specs.Entry.{answerAs, listingAs, reportAs}
+use Rattle.salvage.specs.Entry.{answer_as, listing_as, report_as}
 use Rattle.border.specs.declared.salvaging.SavedReply.{SavedReply}
 use Rattle.border.specs.Salvaging.{SaysSaved}
 
-pub saved-same : (r : SavedReply) (a b : Saved) → a ≡ b → SaysSaved r a → SaysSaved r b
-saved-same r a b e h = subst (λ (x : Saved). SaysSaved r x) e h
+pub saved_same : (r : SavedReply) (a b : Saved) → a ≡ b → SaysSaved r a → SaysSaved r b
+saved_same r a b e h = subst (λ (x : Saved). SaysSaved r x) e h
 
-one-saved : (a : Saved) (r s : SavedReply) → SaysSaved r a → SaysSaved s a → r ≡ s
-one-saved a r s h k =
+one_saved : (a : Saved) (r s : SavedReply) → SaysSaved r a → SaysSaved s a → r ≡ s
+one_saved a r s h k =
     rw (
       h.number ∙ sym k.number,
       h.place ∙ sym k.place,
@@ -27,10 +27,10 @@ one-saved a r s h k =
 
 -- what the contract says of the answer and of both rooms
 abbrev Ended : (x : Judged Salvaged) (listing report : List ℕ) (r : SavedReply) (listing' report' : List ℕ) → Type 0
-Ended x listing report r listing' report' = SaysSaved r (answerAs x) × (listing' ≡ listingAs x listing) × (report' ≡ reportAs x report)
+Ended x listing report r listing' report' = SaysSaved r (answer_as x) × (listing' ≡ listing_as x listing) × (report' ≡ report_as x report)
 
 -- `mortarbee_salvage`
-pub one-salvaged : (text listing report : List ℕ) (r s : SavedReply) (l m p q : List ℕ)
+pub one_salvaged : (text listing report : List ℕ) (r s : SavedReply) (l m p q : List ℕ)
     → let x = salvage text (length listing) (length report) in
     Ended x listing report r l p → Ended x listing report s m q → (r ≡ s) × (l ≡ m) × (p ≡ q)
-one-salvaged text listing report r s l m p q a b = (one-saved _ r s a.0 b.0, a.1 ∙ sym b.1, a.2 ∙ sym b.2)
+one_salvaged text listing report r s l m p q a b = (one_saved _ r s a.0 b.0, a.1 ∙ sym b.1, a.2 ∙ sym b.2)

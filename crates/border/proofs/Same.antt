@@ -10,25 +10,25 @@ use Rattle.entries.specs.Optimizing.{Delivers}
 use Rattle.store.specs.declared.Found.{Found}
 use Rattle.store.specs.declared.Shown.{Shown}
 use Rattle.store.specs.declared.Numbered.{Numbered}
-use Rattle.store.specs.Rooms.{getIn, newestIn}
+use Rattle.store.specs.Rooms.{get_in, newest_in}
 use Rattle.editions.specs.Under.{under}
 use Rattle.border.specs.declared.replies.NumberedReply.{NumberedReply}
 use Rattle.border.specs.declared.replies.FoundReply.{FoundReply}
 use Rattle.border.specs.declared.replies.ShownReply.{ShownReply}
-use Rattle.border.specs.Exported.{runUnder, SaysNumbered, SaysFound, SaysShown}
+use Rattle.border.specs.Exported.{run_under, SaysNumbered, SaysFound, SaysShown}
 
-pub numbered-same : (r : NumberedReply) (a b : Numbered) → a ≡ b → SaysNumbered r a → SaysNumbered r b
-numbered-same r a b e h = subst (λ (x : Numbered). SaysNumbered r x) e h
+pub numbered_same : (r : NumberedReply) (a b : Numbered) → a ≡ b → SaysNumbered r a → SaysNumbered r b
+numbered_same r a b e h = subst (λ (x : Numbered). SaysNumbered r x) e h
 
-pub found-same : (r : FoundReply) (a b : Found) → a ≡ b → SaysFound r a → SaysFound r b
-found-same r a b e h = subst (λ (x : Found). SaysFound r x) e h
+pub found_same : (r : FoundReply) (a b : Found) → a ≡ b → SaysFound r a → SaysFound r b
+found_same r a b e h = subst (λ (x : Found). SaysFound r x) e h
 
-pub shown-same : (r : ShownReply) (a b : Shown) → a ≡ b → SaysShown r a → SaysShown r b
-shown-same r a b e h = subst (λ (x : Shown). SaysShown r x) e h
+pub shown_same : (r : ShownReply) (a b : Shown) → a ≡ b → SaysShown r a → SaysShown r b
+shown_same r a b e h = subst (λ (x : Shown). SaysShown r x) e h
 
 -- a run under the newest edition or under a given one, as the test of its number goes
-pub as-tested : (store : List ℕ) (f e : ℕ) (text out image : List ℕ) (b : Bool) → eqb e 0 ≡ b → (a : Answer) (out' image' : List ℕ)
-    → Delivers (under (cond b (newestIn store f) (getIn store f e)) text (length out) (length image)) a out image out' image'
-    → Delivers (runUnder store f e text (length out) (length image)) a out image out' image'
-as-tested store f e text out image b q a out' image' h =
-    subst (λ (x : Bool). Delivers (under (cond x (newestIn store f) (getIn store f e)) text (length out) (length image)) a out image out' image') (sym q) h
+pub as_tested : (store : List ℕ) (f e : ℕ) (text out image : List ℕ) (b : Bool) → eqb e 0 ≡ b → (a : Answer) (out' image' : List ℕ)
+    → Delivers (under (cond b (newest_in store f) (get_in store f e)) text (length out) (length image)) a out image out' image'
+    → Delivers (run_under store f e text (length out) (length image)) a out image out' image'
+as_tested store f e text out image b q a out' image' h =
+    subst (λ (x : Bool). Delivers (under (cond x (newest_in store f) (get_in store f e)) text (length out) (length image)) a out image out' image') (sym q) h

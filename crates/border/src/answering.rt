@@ -1,10 +1,10 @@
 // The answers about the rewriting, for C: an image held against a listing, the rewrites one by one, and why forms stay.
 ghost use Rattle.std.specs.Prelude.{◌≡◌, length};
 ghost use Rattle.audit.specs.Audit.{audit};
-ghost use Rattle.audit.specs.Held.{auditAs};
-ghost use Rattle.steps.specs.Entry.{told, answerAs, roomAs};
-ghost use Rattle.why.specs.Entry.{told as whyTold, answerAs as whyAnswer, roomAs as whyRoom};
-ghost use Rattle.border_core.specs.Replies.{askedBy};
+ghost use Rattle.audit.specs.Held.{audit_as};
+ghost use Rattle.steps.specs.Entry.{told, answer_as, room_as};
+ghost use Rattle.why.specs.Entry.{told as why_told, answer_as as why_answer, room_as as why_room};
+ghost use Rattle.border_core.specs.Replies.{asked_by};
 ghost use Rattle.border_answers.specs.Replies.{SaysAudit, SaysSteps};
 
 use border_answers::{AuditReply, StepsReply, audit_answer, steps_answer, why_answer};
@@ -18,7 +18,7 @@ pub extern "C" fn mortarbee_audit(
     listing: &[u8],
     shipped: &[u8],
 ) -> AuditReply
-    ensures { SaysAudit result (auditAs (audit (askedBy comments callf folds) listing.now shipped.now)) }
+    ensures { SaysAudit result (audit_as (audit (asked_by comments callf folds) listing.now shipped.now)) }
 {
     audit_answer(comments, callf, folds, listing, shipped)
 }
@@ -32,10 +32,10 @@ pub extern "C" fn mortarbee_steps(
     listing: &[u8],
     out: &mut [u8],
 ) -> StepsReply
-    ensures fact { let x = told (askedBy comments callf folds) listing.now (length out.old) in
-        SaysSteps result (answerAs x) }
-    ensures out_after { let x = told (askedBy comments callf folds) listing.now (length out.old) in
-        out.new ≡ roomAs x out.old }
+    ensures fact { let x = told (asked_by comments callf folds) listing.now (length out.old) in
+        SaysSteps result (answer_as x) }
+    ensures out_after { let x = told (asked_by comments callf folds) listing.now (length out.old) in
+        out.new ≡ room_as x out.old }
 {
     steps_answer(comments, callf, folds, listing, out)
 }
@@ -49,10 +49,10 @@ pub extern "C" fn mortarbee_why(
     listing: &[u8],
     out: &mut [u8],
 ) -> StepsReply
-    ensures fact { let x = whyTold (askedBy comments callf folds) listing.now (length out.old) in
-        SaysSteps result (whyAnswer x) }
-    ensures out_after { let x = whyTold (askedBy comments callf folds) listing.now (length out.old) in
-        out.new ≡ whyRoom x out.old }
+    ensures fact { let x = why_told (asked_by comments callf folds) listing.now (length out.old) in
+        SaysSteps result (why_answer x) }
+    ensures out_after { let x = why_told (asked_by comments callf folds) listing.now (length out.old) in
+        out.new ≡ why_room x out.old }
 {
     why_answer(comments, callf, folds, listing, out)
 }

@@ -1,11 +1,11 @@
 // The functions for C and Rust of the store, of a run under an edition, and of an image read back.
 ghost use Rattle.std.specs.Prelude.{◌≡◌, length};
 ghost use Rattle.entries.specs.Optimizing.{Delivers};
-ghost use Rattle.readback.specs.ReadBack.{readBack};
-ghost use Rattle.readback.specs.Entry.{answerAs as readAs, roomAs as readRoom};
-ghost use Rattle.store.specs.Rooms.{getIn, newestIn, place_in, addIn, dropIn, afterAdd, afterDrop, foundAs, shownAs, numberedAs};
-ghost use Rattle.border_core.specs.Replies.{askedBy, Says, Ends};
-ghost use Rattle.border.specs.Exported.{runUnder, SaysNumbered, SaysFound, SaysShown};
+ghost use Rattle.readback.specs.ReadBack.{read_back};
+ghost use Rattle.readback.specs.Entry.{answer_as as read_as, room_as as read_room};
+ghost use Rattle.store.specs.Rooms.{get_in, newest_in, place_in, add_in, drop_in, after_add, after_drop, found_as, shown_as, numbered_as};
+ghost use Rattle.border_core.specs.Replies.{asked_by, Says, Ends};
+ghost use Rattle.border.specs.Exported.{run_under, SaysNumbered, SaysFound, SaysShown};
 
 use crate::replies::{
     FoundReply, NumberedReply, ShownReply, found_reply, numbered_reply, shown_reply,
@@ -25,8 +25,8 @@ pub extern "C" fn mortarbee_add_edition(
     callf: u8,
     folds: u8,
 ) -> NumberedReply
-    ensures says_numbered { SaysNumbered result (numberedAs (addIn room.old family)) }
-    ensures room_after { room.new ≡ afterAdd room.old family (askedBy comments callf folds) }
+    ensures says_numbered { SaysNumbered result (numbered_as (add_in room.old family)) }
+    ensures room_after { room.new ≡ after_add room.old family (asked_by comments callf folds) }
 {
     numbered_reply(add_edition(room, family, settings_of(comments, callf, folds)))
 }
@@ -34,7 +34,7 @@ pub extern "C" fn mortarbee_add_edition(
 // `get_edition`, for C.
 #[unsafe(no_mangle)]
 pub extern "C" fn mortarbee_get_edition(room: &[u8], family: u16, edition: u16) -> FoundReply
-    ensures { SaysFound result (foundAs (getIn room.now family edition)) }
+    ensures { SaysFound result (found_as (get_in room.now family edition)) }
 {
     found_reply(get_edition(room, family, edition))
 }
@@ -42,7 +42,7 @@ pub extern "C" fn mortarbee_get_edition(room: &[u8], family: u16, edition: u16) 
 // `get_newest`, for C.
 #[unsafe(no_mangle)]
 pub extern "C" fn mortarbee_get_newest(room: &[u8], family: u16) -> FoundReply
-    ensures { SaysFound result (foundAs (newestIn room.now family)) }
+    ensures { SaysFound result (found_as (newest_in room.now family)) }
 {
     found_reply(get_newest(room, family))
 }
@@ -50,7 +50,7 @@ pub extern "C" fn mortarbee_get_newest(room: &[u8], family: u16) -> FoundReply
 // `show_place`, for C.
 #[unsafe(no_mangle)]
 pub extern "C" fn mortarbee_show_place(room: &[u8], k: usize) -> ShownReply
-    ensures { SaysShown result (shownAs (place_in room.now k)) }
+    ensures { SaysShown result (shown_as (place_in room.now k)) }
 {
     shown_reply(show_place(room, k))
 }
@@ -58,8 +58,8 @@ pub extern "C" fn mortarbee_show_place(room: &[u8], k: usize) -> ShownReply
 // `drop_old`, for C.
 #[unsafe(no_mangle)]
 pub extern "C" fn mortarbee_drop_old(room: &mut [u8], family: u16) -> NumberedReply
-    ensures says_numbered { SaysNumbered result (numberedAs (dropIn room.old family)) }
-    ensures room_after { room.new ≡ afterDrop room.old family }
+    ensures says_numbered { SaysNumbered result (numbered_as (drop_in room.old family)) }
+    ensures room_after { room.new ≡ after_drop room.old family }
 {
     numbered_reply(drop_old(room, family))
 }
@@ -74,7 +74,7 @@ fn run_under(
     image: &mut [u8],
 ) -> Answer
     ensures { let text = listing.now in
-        let x = runUnder store.now family edition text (length out.old) (length image.old) in
+        let x = run_under store.now family edition text (length out.old) (length image.old) in
         Delivers x result out.old image.old out.new image.new }
 {
     if edition == 0 {
@@ -95,7 +95,7 @@ pub extern "C" fn mortarbee_optimize_jumps_under(
     image: &mut [u8],
 ) -> Reply
     ensures { let text = listing.now in
-        let end = runUnder store.now family edition text (length out.old) (length image.old) in
+        let end = run_under store.now family edition text (length out.old) (length image.old) in
         Ends end result out.old image.old out.new image.new }
 {
     reply_of(run_under(store, family, edition, listing, out, image))
@@ -104,9 +104,9 @@ pub extern "C" fn mortarbee_optimize_jumps_under(
 // `read_back`, for C: the listing of an image from a start on. `rewrites` and `image` are 0.
 #[unsafe(no_mangle)]
 pub extern "C" fn mortarbee_read_back(image: &[u8], start: usize, listing: &mut [u8]) -> Reply
-    ensures fact { let x = readBack image.now start (length listing.old) in Says result (readAs x) }
-    ensures listing_after { let x = readBack image.now start (length listing.old) in
-        listing.new ≡ readRoom x listing.old }
+    ensures fact { let x = read_back image.now start (length listing.old) in Says result (read_as x) }
+    ensures listing_after { let x = read_back image.now start (length listing.old) in
+        listing.new ≡ read_room x listing.old }
 {
     reply_of(read_back(image, start, listing))
 }

@@ -2,7 +2,7 @@
 ghost use Rattle.std.specs.Prelude.{◌≡◌, length};
 ghost use Rattle.salvage.specs.declared.Saved.TheVariants.{Refused as NotSaved};
 ghost use Rattle.salvage.specs.Salvage.{salvage as answer};
-ghost use Rattle.salvage.specs.Entry.{answerAs, listingAs, reportAs};
+ghost use Rattle.salvage.specs.Entry.{answer_as, listing_as, report_as};
 ghost use Rattle.border.specs.Salvaging.{SaysSaved};
 
 use border_core::told_of;
@@ -63,11 +63,11 @@ pub extern "C" fn mortarbee_salvage(
     report: &mut [u8],
 ) -> SavedReply
     ensures fact { let x = answer text.now (length listing.old) (length report.old) in
-        SaysSaved result (answerAs x) }
+        SaysSaved result (answer_as x) }
     ensures listing_after { let x = answer text.now (length listing.old) (length report.old) in
-        listing.new ≡ listingAs x listing.old }
+        listing.new ≡ listing_as x listing.old }
     ensures report_after { let x = answer text.now (length listing.old) (length report.old) in
-        report.new ≡ reportAs x report.old }
+        report.new ≡ report_as x report.old }
 {
     saved_reply(salvage(text, listing, report))
 }

@@ -1,4 +1,4 @@
--- The same is answered to equal settings: `why`. That two results coincide is `Same.one-why`.
+-- The same is answered to equal settings: `why`. That two results coincide is `Same.one_why`.
 use mathlib.Core.Path.{◌≡◌, subst}
 use mathlib.Core.List.{List}
 use Prim.Native.Nat.{ℕ}
@@ -7,6 +7,6 @@ use Rattle.rules.specs.declared.Answer.{Answer}
 use Rattle.rules.specs.declared.Settings.{Settings}
 use Rattle.why.specs.Entry.{told, Leaves}
 
-pub why-as-asked : (asked given : Settings) (text out : List ℕ) (a : Answer) (out' : List ℕ) → asked ≡ given → Leaves (told asked text (length out)) a out out'
+pub why_as_asked : (asked given : Settings) (text out : List ℕ) (a : Answer) (out' : List ℕ) → asked ≡ given → Leaves (told asked text (length out)) a out out'
     → Leaves (told given text (length out)) a out out'
-why-as-asked asked given text out a out' e h = subst (λ (x : Settings). Leaves (told x text (length out)) a out out') e h
+why_as_asked asked given text out a out' e h = subst (λ (x : Settings). Leaves (told x text (length out)) a out out') e h

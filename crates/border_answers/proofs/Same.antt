@@ -5,30 +5,30 @@ use Prim.Native.Nat.{ℕ}
 use lib.ListN.{length}
 use Rattle.rules.specs.declared.Answer.{Answer}
 use Rattle.rules.specs.declared.Settings.{Settings}
-use Rattle.rules.specs.Refusals.{Fault, faultOf}
+use Rattle.rules.specs.Refusals.{Fault, fault_of}
 use Rattle.asm.specs.declared.Origin.{Origin}
 use Rattle.asm.specs.declared.Origin.TheVariants.{Nothing}
 use Rattle.audit.specs.declared.Found.{Found}
 use Rattle.audit.specs.declared.Found.TheVariants.{Same, Differs, Short, Long, Refused}
-use Rattle.steps.specs.Entry.{told, answerAs, roomAs, Leaves}
-use Rattle.why.specs.Entry.{told as whyTold, answerAs as whyAnswer, roomAs as whyRoom}
+use Rattle.steps.specs.Entry.{told, answer_as, room_as, Leaves}
+use Rattle.why.specs.Entry.{told as why_told, answer_as as why_answer, room_as as why_room}
 use Rattle.border_answers.specs.declared.rewrites.StepsReply.{StepsReply}
 use Rattle.border_answers.specs.declared.audits.AuditReply.{AuditReply}
 use Rattle.border_answers.specs.Replies.{SaysSteps, SaysAt, SaysFault, SaysAudit}
 
-pub steps-same : (r : StepsReply) (a b : Answer) → a ≡ b → SaysSteps r a → SaysSteps r b
-steps-same r a b e h = subst (λ (x : Answer). SaysSteps r x) e h
+pub steps_same : (r : StepsReply) (a b : Answer) → a ≡ b → SaysSteps r a → SaysSteps r b
+steps_same r a b e h = subst (λ (x : Answer). SaysSteps r x) e h
 
-pub audit-same : (r : AuditReply) (a b : Found) → a ≡ b → SaysAudit r a → SaysAudit r b
-audit-same r a b e h = subst (λ (x : Found). SaysAudit r x) e h
+pub audit_same : (r : AuditReply) (a b : Found) → a ≡ b → SaysAudit r a → SaysAudit r b
+audit_same r a b e h = subst (λ (x : Found). SaysAudit r x) e h
 
 -- the same is answered to equal settings
-pub as-asked : (asked given : Settings) (text out : List ℕ) (a : Answer) (out' : List ℕ) → asked ≡ given → Leaves (told asked text (length out)) a out out'
+pub as_asked : (asked given : Settings) (text out : List ℕ) (a : Answer) (out' : List ℕ) → asked ≡ given → Leaves (told asked text (length out)) a out out'
     → Leaves (told given text (length out)) a out out'
-as-asked asked given text out a out' e h = subst (λ (x : Settings). Leaves (told x text (length out)) a out out') e h
+as_asked asked given text out a out' e h = subst (λ (x : Settings). Leaves (told x text (length out)) a out out') e h
 
-one-said : (a : Answer) (r s : StepsReply) → SaysSteps r a → SaysSteps s a → r ≡ s
-one-said a r s h k =
+one_said : (a : Answer) (r s : StepsReply) → SaysSteps r a → SaysSteps s a → r ≡ s
+one_said a r s h k =
     rw (
       h.number ∙ sym k.number,
       h.place ∙ sym k.place,
@@ -40,14 +40,14 @@ one-said a r s h k =
 
 module _ (asked : Settings) (text room : List ℕ) (r s : StepsReply) (x y : List ℕ) where
   -- `mortarbee_steps`
-  pub one-steps : let t = told asked text (length room) in
-      SaysSteps r (answerAs t) × (x ≡ roomAs t room) → SaysSteps s (answerAs t) × (y ≡ roomAs t room) → (r ≡ s) × (x ≡ y)
-  one-steps a b = (one-said _ r s a.0 b.0, a.1 ∙ sym b.1)
+  pub one_steps : let t = told asked text (length room) in
+      SaysSteps r (answer_as t) × (x ≡ room_as t room) → SaysSteps s (answer_as t) × (y ≡ room_as t room) → (r ≡ s) × (x ≡ y)
+  one_steps a b = (one_said _ r s a.0 b.0, a.1 ∙ sym b.1)
 
   -- `mortarbee_why`
-  pub one-why : let t = whyTold asked text (length room) in
-      SaysSteps r (whyAnswer t) × (x ≡ whyRoom t room) → SaysSteps s (whyAnswer t) × (y ≡ whyRoom t room) → (r ≡ s) × (x ≡ y)
-  one-why a b = (one-said _ r s a.0 b.0, a.1 ∙ sym b.1)
+  pub one_why : let t = why_told asked text (length room) in
+      SaysSteps r (why_answer t) × (x ≡ why_room t room) → SaysSteps s (why_answer t) × (y ≡ why_room t room) → (r ≡ s) × (x ≡ y)
+  one_why a b = (one_said _ r s a.0 b.0, a.1 ∙ sym b.1)
 
 -- `mortarbee_audit`, which is lent no room: each number
 pub record Alike (r s : AuditReply) : Type 0 where
@@ -70,17 +70,17 @@ alike_at r s f a w x o h k =
       place = h.place ∙ sym k.place;
       argument = h.argument ∙ sym k.argument;
       amount = h.amount ∙ sym k.amount;
-      finding = h.finding-is ∙ sym k.finding-is;
+      finding = h.finding_is ∙ sym k.finding_is;
       address = h.address_is ∙ sym k.address_is;
-      wanted = h.wanted-is ∙ sym k.wanted-is;
-      shipped = h.shipped-is ∙ sym k.shipped-is;
+      wanted = h.wanted_is ∙ sym k.wanted_is;
+      shipped = h.shipped_is ∙ sym k.shipped_is;
       owned = h.owned ∙ sym k.owned;
       statement = h.statement ∙ sym k.statement;
       offset = h.offset ∙ sym k.offset;
     }
 
-alike-refused : (r s : AuditReply) (f : Fault) → SaysFault r f → SaysFault s f → Alike r s
-alike-refused r s f h k =
+alike_refused : (r s : AuditReply) (f : Fault) → SaysFault r f → SaysFault s f → Alike r s
+alike_refused r s f h k =
     record {
       number = h.number ∙ sym k.number;
       place = h.place ∙ sym k.place;
@@ -95,9 +95,9 @@ alike-refused r s f h k =
       offset = h.zeros.6 ∙ sym k.zeros.6;
     }
 
-pub one-audit : (r s : AuditReply) (a : Found) → SaysAudit r a → SaysAudit s a → Alike r s
-one-audit r s Same h k = alike_at r s 0 0 0 0 Nothing h k
-one-audit r s (Differs a w x o) h k = alike_at r s 1 a.0 w x o h k
-one-audit r s (Short a o) h k = alike_at r s 2 a.0 0 0 o h k
-one-audit r s (Long a) h k = alike_at r s 3 a.0 0 0 Nothing h k
-one-audit r s (Refused q) h k = alike-refused r s (faultOf q) h k
+pub one_audit : (r s : AuditReply) (a : Found) → SaysAudit r a → SaysAudit s a → Alike r s
+one_audit r s Same h k = alike_at r s 0 0 0 0 Nothing h k
+one_audit r s (Differs a w x o) h k = alike_at r s 1 a.0 w x o h k
+one_audit r s (Short a o) h k = alike_at r s 2 a.0 0 0 o h k
+one_audit r s (Long a) h k = alike_at r s 3 a.0 0 0 Nothing h k
+one_audit r s (Refused q) h k = alike_refused r s (fault_of q) h k

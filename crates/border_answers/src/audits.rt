@@ -2,8 +2,8 @@
 ghost use Rattle.std.specs.Prelude.{◌≡◌};
 ghost use Rattle.audit.specs.declared.Found.TheVariants.{Refused};
 ghost use Rattle.audit.specs.Audit.{audit as answer};
-ghost use Rattle.audit.specs.Held.{auditAs};
-ghost use Rattle.border_core.specs.Replies.{askedBy};
+ghost use Rattle.audit.specs.Held.{audit_as};
+ghost use Rattle.border_core.specs.Replies.{asked_by};
 ghost use Rattle.border_answers.specs.Replies.{IsBehind, SaysAudit, SaysAt};
 
 use asm::Origin;
@@ -112,7 +112,7 @@ pub fn audit_answer(
     listing: &[u8],
     shipped: &[u8],
 ) -> AuditReply
-    ensures { SaysAudit result (auditAs (answer (askedBy comments callf folds) listing.now shipped.now)) }
+    ensures { SaysAudit result (audit_as (answer (asked_by comments callf folds) listing.now shipped.now)) }
 {
     audit_reply(audit(settings_of(comments, callf, folds), listing, shipped))
 }

@@ -1,8 +1,8 @@
 // `steps`, for C, and its answer as a struct of numbers.
 ghost use Rattle.std.specs.Prelude.{◌≡◌, length};
 ghost use Rattle.rules.specs.declared.Answer.TheVariants.{Refused};
-ghost use Rattle.steps.specs.Entry.{told, answerAs, roomAs};
-ghost use Rattle.border_core.specs.Replies.{askedBy};
+ghost use Rattle.steps.specs.Entry.{told, answer_as, room_as};
+ghost use Rattle.border_core.specs.Replies.{asked_by};
 ghost use Rattle.border_answers.specs.Replies.{SaysSteps};
 
 use border_core::{settings_of, told_of};
@@ -59,10 +59,10 @@ pub fn steps_answer(
     listing: &[u8],
     out: &mut [u8],
 ) -> StepsReply
-    ensures fact { let x = told (askedBy comments callf folds) listing.now (length out.old) in
-        SaysSteps result (answerAs x) }
-    ensures out_after { let x = told (askedBy comments callf folds) listing.now (length out.old) in
-        out.new ≡ roomAs x out.old }
+    ensures fact { let x = told (asked_by comments callf folds) listing.now (length out.old) in
+        SaysSteps result (answer_as x) }
+    ensures out_after { let x = told (asked_by comments callf folds) listing.now (length out.old) in
+        out.new ≡ room_as x out.old }
 {
     steps_reply(steps(settings_of(comments, callf, folds), listing, out))
 }

@@ -9,16 +9,16 @@ use Rattle.targets.specs.Entry.{told, Leaves}
 use Rattle.border_core.specs.declared.aims.TargetsReply.{TargetsReply}
 use Rattle.border_core.specs.Aims.{SaysTargets, Aims}
 
-pub targets-same : (r : TargetsReply) (a b : Told) → a ≡ b → SaysTargets r a → SaysTargets r b
-targets-same r a b e h = subst (λ (x : Told). SaysTargets r x) e h
+pub targets_same : (r : TargetsReply) (a b : Told) → a ≡ b → SaysTargets r a → SaysTargets r b
+targets_same r a b e h = subst (λ (x : Told). SaysTargets r x) e h
 
 -- the same is answered to equal settings
-pub targets-asked : (asked given : Settings) (text out : List ℕ) (a : Told) (out' : List ℕ) → asked ≡ given → Leaves (told asked text (length out)) a out out'
+pub targets_asked : (asked given : Settings) (text out : List ℕ) (a : Told) (out' : List ℕ) → asked ≡ given → Leaves (told asked text (length out)) a out out'
     → Leaves (told given text (length out)) a out out'
-targets-asked asked given text out a out' e h = subst (λ (x : Settings). Leaves (told x text (length out)) a out out') e h
+targets_asked asked given text out a out' e h = subst (λ (x : Settings). Leaves (told x text (length out)) a out out') e h
 
-one-said : (a : Told) (r s : TargetsReply) → SaysTargets r a → SaysTargets s a → r ≡ s
-one-said a r s h k =
+one_said : (a : Told) (r s : TargetsReply) → SaysTargets r a → SaysTargets s a → r ≡ s
+one_said a r s h k =
     rw (
       h.number ∙ sym k.number,
       h.place ∙ sym k.place,
@@ -30,5 +30,5 @@ one-said a r s h k =
     )
 
 -- `mortarbee_targets`
-pub one-targets : (asked : Settings) (text room : List ℕ) (r s : TargetsReply) (x y : List ℕ) → Aims asked text r room x → Aims asked text s room y → (r ≡ s) × (x ≡ y)
-one-targets asked text room r s x y a b = (one-said _ r s a.says b.says, a.room-is ∙ sym b.room-is)
+pub one_targets : (asked : Settings) (text room : List ℕ) (r s : TargetsReply) (x y : List ℕ) → Aims asked text r room x → Aims asked text s room y → (r ≡ s) × (x ≡ y)
+one_targets asked text room r s x y a b = (one_said _ r s a.says b.says, a.room_is ∙ sym b.room_is)

@@ -5,27 +5,27 @@ use Prim.Native.Nat.{ℕ}
 use Rattle.rules.specs.declared.Answer.{Answer}
 use Rattle.rules.specs.declared.Settings.{Settings}
 use Rattle.rules.specs.Answers.{Judged}
-use Rattle.rules.specs.Listing.{readListing}
+use Rattle.rules.specs.Listing.{read_listing}
 use Rattle.rules.specs.Run.{Output}
 use Rattle.listing.specs.declared.Listed.{Listed}
 use Rattle.entries.specs.declared.optimizing.Stemmed.{Stemmed}
-use Rattle.entries.proofs.Coincide.{one-stems}
-use Rattle.printing.proofs.Coincide.{one-printed}
+use Rattle.entries.proofs.Coincide.{one_stems}
+use Rattle.printing.proofs.Coincide.{one_printed}
 use Rattle.sits.specs.declared.Sits.{Sits}
-use Rattle.sits.specs.Sits.{sits, sitsAs}
+use Rattle.sits.specs.Sits.{sits, sits_as}
 use Rattle.border_core.specs.declared.replies.Reply.{Reply}
 use Rattle.border_core.specs.declared.replies.CountedReply.{CountedReply}
 use Rattle.border_core.specs.declared.replies.SitsReply.{SitsReply}
 use Rattle.border_core.specs.declared.pages.PrintedReply.{PrintedReply}
 use Rattle.border_core.specs.declared.stems.StemsReply.{StemsReply}
-use Rattle.border_core.specs.Replies.{countedAs, Says, SaysCounted, SaysSits, Assembles, Reads, Ends, Positions}
+use Rattle.border_core.specs.Replies.{counted_as, Says, SaysCounted, SaysSits, Assembles, Reads, Ends, Positions}
 use Rattle.border_core.specs.Pages.{SaysPrinted, Prints}
 use Rattle.border_core.specs.Stems.{SaysStems, HandsOut}
 
 -- ---- an answer is said by one struct
 
-pub one-reply : (a : Answer) (r s : Reply) → Says r a → Says s a → r ≡ s
-one-reply a r s h k =
+pub one_reply : (a : Answer) (r s : Reply) → Says r a → Says s a → r ≡ s
+one_reply a r s h k =
     rw (
       h.number ∙ sym k.number,
       h.place ∙ sym k.place,
@@ -36,16 +36,16 @@ one-reply a r s h k =
       h.image ∙ sym k.image,
     )
 
-one-counted : (a : Listed) (r s : CountedReply) → SaysCounted r a → SaysCounted s a → r ≡ s
-one-counted a r s h k =
+one_counted : (a : Listed) (r s : CountedReply) → SaysCounted r a → SaysCounted s a → r ≡ s
+one_counted a r s h k =
     rw (h.number ∙ sym k.number, h.place ∙ sym k.place, h.argument ∙ sym k.argument, h.amount ∙ sym k.amount, h.statements ∙ sym k.statements)
 
-one-sits : (a : Sits) (r s : SitsReply) → SaysSits r a → SaysSits s a → r ≡ s
-one-sits a r s h k =
+one_sits : (a : Sits) (r s : SitsReply) → SaysSits r a → SaysSits s a → r ≡ s
+one_sits a r s h k =
     rw (h.number ∙ sym k.number, h.place ∙ sym k.place, h.argument ∙ sym k.argument, h.amount ∙ sym k.amount, h.address ∙ sym k.address)
 
-one-page-said : (a : Answer) (r s : PrintedReply) → SaysPrinted r a → SaysPrinted s a → r ≡ s
-one-page-said a r s h k =
+one_page_said : (a : Answer) (r s : PrintedReply) → SaysPrinted r a → SaysPrinted s a → r ≡ s
+one_page_said a r s h k =
     rw (
       h.number ∙ sym k.number,
       h.place ∙ sym k.place,
@@ -57,8 +57,8 @@ one-page-said a r s h k =
       h.image ∙ sym k.image,
     )
 
-one-said : (a : Stemmed) (r s : StemsReply) → SaysStems r a → SaysStems s a → r ≡ s
-one-said a r s h k =
+one_said : (a : Stemmed) (r s : StemsReply) → SaysStems r a → SaysStems s a → r ≡ s
+one_said a r s h k =
     rw (
       h.number ∙ sym k.number,
       h.place ∙ sym k.place,
@@ -75,39 +75,39 @@ one-said a r s h k =
 -- a run that ends so: `mortarbee_optimize_jumps`, and border's `mortarbee_optimize_jumps_under`
 pub one_end : (end : Judged Output) (out image : List ℕ) (r s : Reply) (x y v w : List ℕ)
     → Ends end r out image x v → Ends end s out image y w → (r ≡ s) × (x ≡ y) × (v ≡ w)
-one_end end out image r s x y v w a b = (one-reply _ r s a.says b.says, a.listing-is ∙ sym b.listing-is, a.image-is ∙ sym b.image-is)
+one_end end out image r s x y v w a b = (one_reply _ r s a.says b.says, a.listing_is ∙ sym b.listing_is, a.image_is ∙ sym b.image_is)
 
 module _ (text : List ℕ) where
   -- `mortarbee_assemble`
-  pub one-assembled : (room : List ℕ) (r s : Reply) (x y : List ℕ) → Assembles text r room x → Assembles text s room y → (r ≡ s) × (x ≡ y)
-  one-assembled room r s x y a b = (one-reply _ r s a.says b.says, a.room-is ∙ sym b.room-is)
+  pub one_assembled : (room : List ℕ) (r s : Reply) (x y : List ℕ) → Assembles text r room x → Assembles text s room y → (r ≡ s) × (x ≡ y)
+  one_assembled room r s x y a b = (one_reply _ r s a.says b.says, a.room_is ∙ sym b.room_is)
 
   -- `mortarbee_text`
-  pub one-text : (room : List ℕ) (r s : Reply) (x y : List ℕ) → Reads text r room x → Reads text s room y → (r ≡ s) × (x ≡ y)
-  one-text room r s x y a b = (one-reply _ r s a.says b.says, a.room-is ∙ sym b.room-is)
+  pub one_text : (room : List ℕ) (r s : Reply) (x y : List ℕ) → Reads text r room x → Reads text s room y → (r ≡ s) × (x ≡ y)
+  one_text room r s x y a b = (one_reply _ r s a.says b.says, a.room_is ∙ sym b.room_is)
 
   -- `mortarbee_check`
-  pub one-check : (r s : CountedReply) → SaysCounted r (countedAs (readListing text)) → SaysCounted s (countedAs (readListing text)) → r ≡ s
-  one-check r s a b = one-counted _ r s a b
+  pub one_check : (r s : CountedReply) → SaysCounted r (counted_as (read_listing text)) → SaysCounted s (counted_as (read_listing text)) → r ≡ s
+  one_check r s a b = one_counted _ r s a b
 
   -- `mortarbee_where_sits`
-  pub one_place : (n : ℕ) (r s : SitsReply) → SaysSits r (sitsAs (sits text n)) → SaysSits s (sitsAs (sits text n)) → r ≡ s
-  one_place n r s a b = one-sits _ r s a b
+  pub one_place : (n : ℕ) (r s : SitsReply) → SaysSits r (sits_as (sits text n)) → SaysSits s (sits_as (sits text n)) → r ≡ s
+  one_place n r s a b = one_sits _ r s a b
 
   -- `mortarbee_positions`
   pub one_table : (table : List ℕ) (r s : CountedReply) (x y : List ℕ) → Positions text r table x → Positions text s table y → (r ≡ s) × (x ≡ y)
-  one_table table r s x y a b = (one-counted _ r s a.says b.says, a.table_is ∙ sym b.table_is)
+  one_table table r s x y a b = (one_counted _ r s a.says b.says, a.table_is ∙ sym b.table_is)
 
   -- `mortarbee_print_run`
-  pub one-page : (asked : Settings) (page image : List ℕ) (r s : PrintedReply) (x y v w : List ℕ)
+  pub one_page : (asked : Settings) (page image : List ℕ) (r s : PrintedReply) (x y v w : List ℕ)
       → Prints asked text r page image x v → Prints asked text s page image y w → (r ≡ s) × (x ≡ y) × (v ≡ w)
-  one-page asked page image r s x y v w a b =
-      let e = one-printed asked text page image a.answer b.answer x y v w a.leaves b.leaves in
-      (one-page-said b.answer r s (subst (λ (z : Answer). SaysPrinted r z) e.0 a.says) b.says, e.1, e.2)
+  one_page asked page image r s x y v w a b =
+      let e = one_printed asked text page image a.answer b.answer x y v w a.leaves b.leaves in
+      (one_page_said b.answer r s (subst (λ (z : Answer). SaysPrinted r z) e.0 a.says) b.says, e.1, e.2)
 
   -- `mortarbee_stems`
-  pub one-handed-out : (asked : Settings) (out image list : List ℕ) (r s : StemsReply) (x y v w l m : List ℕ)
+  pub one_handed_out : (asked : Settings) (out image list : List ℕ) (r s : StemsReply) (x y v w l m : List ℕ)
       → HandsOut asked text r out image list x v l → HandsOut asked text s out image list y w m → (r ≡ s) × (x ≡ y) × (v ≡ w) × (l ≡ m)
-  one-handed-out asked out image list r s x y v w l m a b =
-      let e = one-stems asked text out image list a.answer b.answer x y v w l m a.leaves b.leaves in
-      (one-said b.answer r s (subst (λ (z : Stemmed). SaysStems r z) e.0 a.says) b.says, e.1, e.2, e.3)
+  one_handed_out asked out image list r s x y v w l m a b =
+      let e = one_stems asked text out image list a.answer b.answer x y v w l m a.leaves b.leaves in
+      (one_said b.answer r s (subst (λ (z : Stemmed). SaysStems r z) e.0 a.says) b.says, e.1, e.2, e.3)

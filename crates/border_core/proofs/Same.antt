@@ -17,14 +17,14 @@ use Rattle.listing.specs.Tables.{ListedAs}
 use Rattle.entries.specs.declared.optimizing.Stemmed.{Stemmed}
 use Rattle.entries.specs.declared.optimizing.Stemmed.TheVariants.{Done}
 use Rattle.entries.specs.Stems as entry
-use Rattle.entries.specs.Stems.{runStems}
-use Rattle.printing.specs.Page.{pageLength, PrintedRun}
+use Rattle.entries.specs.Stems.{run_stems}
+use Rattle.printing.specs.Page.{page_length, PrintedRun}
 use Rattle.sits.specs.declared.Sits.{Sits}
 use Rattle.border_core.specs.declared.replies.Reply.{Reply}
 use Rattle.border_core.specs.declared.replies.CountedReply.{CountedReply}
 use Rattle.border_core.specs.declared.replies.SitsReply.{SitsReply}
 use Rattle.border_core.specs.declared.pages.PrintedReply.{PrintedReply}
-use Rattle.border_core.specs.Replies.{countedAs, Says, SaysCounted, SaysSits}
+use Rattle.border_core.specs.Replies.{counted_as, Says, SaysCounted, SaysSits}
 use Rattle.border_core.specs.Pages.{SaysPrinted}
 use Rattle.border_core.specs.Stems.{SaysStems}
 
@@ -34,16 +34,16 @@ says_same r a b e h = subst (λ (x : Answer). Says r x) e h
 pub counted_same : (r : CountedReply) (a b : Listed) → a ≡ b → SaysCounted r a → SaysCounted r b
 counted_same r a b e h = subst (λ (x : Listed). SaysCounted r x) e h
 
-pub sits-same : (r : SitsReply) (a b : Sits) → a ≡ b → SaysSits r a → SaysSits r b
-sits-same r a b e h = subst (λ (x : Sits). SaysSits r x) e h
+pub sits_same : (r : SitsReply) (a b : Sits) → a ≡ b → SaysSits r a → SaysSits r b
+sits_same r a b e h = subst (λ (x : Sits). SaysSits r x) e h
 
-pub printed-same : (r : PrintedReply) (a b : Answer) → a ≡ b → SaysPrinted r a → SaysPrinted r b
-printed-same r a b e h = subst (λ (x : Answer). SaysPrinted r x) e h
+pub printed_same : (r : PrintedReply) (a b : Answer) → a ≡ b → SaysPrinted r a → SaysPrinted r b
+printed_same r a b e h = subst (λ (x : Answer). SaysPrinted r x) e h
 
 -- C-13: what was handed out
-pub done-said : (a : Stemmed) (s : Sizes) (n : ℕ) → a ≡ Done s n
+pub done_said : (a : Stemmed) (s : Sizes) (n : ℕ) → a ≡ Done s n
     → SaysStems record { number = 0; place = 0; argument = 0; amount = pos 0; listing = s.listing; rewrites = s.rewrites; image = s.image; stems = n } a
-done-said a s n e =
+done_said a s n e =
     subst
     (λ (x : Stemmed).
     SaysStems record { number = 0; place = 0; argument = 0; amount = pos 0; listing = s.listing; rewrites = s.rewrites; image = s.image; stems = n } x)
@@ -51,34 +51,34 @@ done-said a s n e =
     record { number = refl; place = refl; argument = refl; amount = refl; listing = refl; rewrites = refl; image = refl; stems = refl }
 
 -- what is printed
-pub page-said : (a : Answer) (s : Sizes) (n : ℕ) → a ≡ Finished s → n ≡ pageLength a
+pub page_said : (a : Answer) (s : Sizes) (n : ℕ) → a ≡ Finished s → n ≡ page_length a
     → SaysPrinted record { number = 0; place = 0; argument = 0; amount = pos 0; page = n; listing = s.listing; rewrites = s.rewrites; image = s.image } a
-page-said a s n e p =
+page_said a s n e p =
     subst
     (λ (x : Answer).
     SaysPrinted record { number = 0; place = 0; argument = 0; amount = pos 0; page = n; listing = s.listing; rewrites = s.rewrites; image = s.image } x)
     (sym e)
-    record { number = refl; place = refl; argument = refl; amount = refl; page = p ∙ ap pageLength e; listing = refl; rewrites = refl; image = refl }
+    record { number = refl; place = refl; argument = refl; amount = refl; page = p ∙ ap page_length e; listing = refl; rewrites = refl; image = refl }
 
 -- what was read
-pub listed-counted : (frames starts : List ℕ) (r : Listed) (x : Judged Program) → ListedAs frames starts r x → r ≡ countedAs x
-listed-counted frames starts (Read n) (ok p) h = ap Read h.count
-listed-counted frames starts (Read n) (no q) h = absurd h
-listed-counted frames starts (Unread q) (ok p) h = absurd h
-listed-counted frames starts (Unread q) (no r) h = ap Unread h
+pub listed_counted : (frames starts : List ℕ) (r : Listed) (x : Judged Program) → ListedAs frames starts r x → r ≡ counted_as x
+listed_counted frames starts (Read n) (ok p) h = ap Read h.count
+listed_counted frames starts (Read n) (no q) h = absurd h
+listed_counted frames starts (Unread q) (ok p) h = absurd h
+listed_counted frames starts (Unread q) (no r) h = ap Unread h
 
 -- ---- equal settings
 
 module _ (asked given : Settings) (e : asked ≡ given) (text : List ℕ) where
-  pub as-asked : (out image : List ℕ) (a : Answer) (out' image' : List ℕ) → Answered asked text out image a out' image' → Answered given text out image a out' image'
-  as-asked out image a out' image' h = subst (λ (x : Settings). Answered x text out image a out' image') e h
+  pub as_asked : (out image : List ℕ) (a : Answer) (out' image' : List ℕ) → Answered asked text out image a out' image' → Answered given text out image a out' image'
+  as_asked out image a out' image' h = subst (λ (x : Settings). Answered x text out image a out' image') e h
 
-  pub printed-as-asked : (page image : List ℕ) (a : Answer) (page' image' : List ℕ) → PrintedRun asked text page image a page' image'
+  pub printed_as_asked : (page image : List ℕ) (a : Answer) (page' image' : List ℕ) → PrintedRun asked text page image a page' image'
       → PrintedRun given text page image a page' image'
-  printed-as-asked page image a page' image' h = subst (λ (x : Settings). PrintedRun x text page image a page' image') e h
+  printed_as_asked page image a page' image' h = subst (λ (x : Settings). PrintedRun x text page image a page' image') e h
 
-  pub stems-as-asked : (out image list : List ℕ) (a : Stemmed) (out' image' list' : List ℕ)
-      → entry.Stems (runStems asked text (length out) (length image) (length list)) a out image list out' image' list'
-      → entry.Stems (runStems given text (length out) (length image) (length list)) a out image list out' image' list'
-  stems-as-asked out image list a out' image' list' h =
-      subst (λ (x : Settings). entry.Stems (runStems x text (length out) (length image) (length list)) a out image list out' image' list') e h
+  pub stems_as_asked : (out image list : List ℕ) (a : Stemmed) (out' image' list' : List ℕ)
+      → entry.Stems (run_stems asked text (length out) (length image) (length list)) a out image list out' image' list'
+      → entry.Stems (run_stems given text (length out) (length image) (length list)) a out image list out' image' list'
+  stems_as_asked out image list a out' image' list' h =
+      subst (λ (x : Settings). entry.Stems (run_stems x text (length out) (length image) (length list)) a out image list out' image' list') e h

@@ -1,39 +1,39 @@
 -- What `targets` answers for C: a struct of numbers, the first 0 where nothing is refused, and what it leaves in the room.
 use Rattle.std.specs.Prelude.{◌≡◌, List, ℕ, length}
 use Rattle.rules.specs.declared.Settings.{Settings}
-use Rattle.rules.specs.Refusals.{Fault, faultOf}
+use Rattle.rules.specs.Refusals.{Fault, fault_of}
 use Rattle.targets.specs.declared.Told.{Told}
 use Rattle.targets.specs.declared.Told.TheVariants.{Done, Refused}
-use Rattle.targets.specs.Entry.{told, answerAs, roomAs}
+use Rattle.targets.specs.Entry.{told, answer_as, room_as}
 use Rattle.border_core.specs.declared.aims.TargetsReply.{TargetsReply}
 use Rattle.border_core.specs.Replies.{nothing}
 
-abbrev pub targetsFault : Told → Fault
-targetsFault (Done c) = nothing
-targetsFault (Refused r) = faultOf r
+abbrev pub targets_fault : Told → Fault
+targets_fault (Done c) = nothing
+targets_fault (Refused r) = fault_of r
 
 abbrev pub bytes_of : Told → ℕ
 bytes_of (Done c) = c.bytes
 bytes_of (Refused r) = 0
 
-abbrev pub transfersOf : Told → ℕ
-transfersOf (Done c) = c.transfers
-transfersOf (Refused r) = 0
+abbrev pub transfers_of : Told → ℕ
+transfers_of (Done c) = c.transfers
+transfers_of (Refused r) = 0
 
-abbrev pub markedOf : Told → ℕ
-markedOf (Done c) = c.marked
-markedOf (Refused r) = 0
+abbrev pub marked_of : Told → ℕ
+marked_of (Done c) = c.marked
+marked_of (Refused r) = 0
 
 pub record SaysTargets (r : TargetsReply) (a : Told) : Type 0 where
-  pub number : r.number ≡ (targetsFault a).number
-  pub place : r.place ≡ (targetsFault a).place
-  pub argument : r.argument ≡ (targetsFault a).argument
-  pub amount : r.amount ≡ (targetsFault a).amount
+  pub number : r.number ≡ (targets_fault a).number
+  pub place : r.place ≡ (targets_fault a).place
+  pub argument : r.argument ≡ (targets_fault a).argument
+  pub amount : r.amount ≡ (targets_fault a).amount
   pub lines : r.lines ≡ bytes_of a
-  pub transfers : r.transfers ≡ transfersOf a
-  pub marked : r.marked ≡ markedOf a
+  pub transfers : r.transfers ≡ transfers_of a
+  pub marked : r.marked ≡ marked_of a
 
 -- as the entry
 pub record Aims (asked : Settings) (text : List ℕ) (r : TargetsReply) (room room' : List ℕ) : Type 0 where
-  pub says : SaysTargets r (answerAs (told asked text (length room)))
-  pub room-is : room' ≡ roomAs (told asked text (length room)) room
+  pub says : SaysTargets r (answer_as (told asked text (length room)))
+  pub room_is : room' ≡ room_as (told asked text (length room)) room

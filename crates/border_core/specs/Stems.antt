@@ -2,35 +2,35 @@
 use Rattle.std.specs.Prelude.{◌≡◌, List, ℕ, length}
 use Rattle.rules.specs.declared.Settings.{Settings}
 use Rattle.rules.specs.declared.Sizes.{Sizes}
-use Rattle.rules.specs.Refusals.{Fault, faultOf}
+use Rattle.rules.specs.Refusals.{Fault, fault_of}
 use Rattle.entries.specs.declared.optimizing.Stemmed.{Stemmed}
 use Rattle.entries.specs.declared.optimizing.Stemmed.TheVariants.{Done, Refused}
 use Rattle.entries.specs.Stems as entry
-use Rattle.entries.specs.Stems.{runStems}
+use Rattle.entries.specs.Stems.{run_stems}
 use Rattle.border_core.specs.declared.stems.StemsReply.{StemsReply}
 use Rattle.border_core.specs.Replies.{nothing}
 
-abbrev pub stemsFault : Stemmed → Fault
-stemsFault (Done s n) = nothing
-stemsFault (Refused r) = faultOf r
+abbrev pub stems_fault : Stemmed → Fault
+stems_fault (Done s n) = nothing
+stems_fault (Refused r) = fault_of r
 
 -- a number of what was handed out
-abbrev pub ofStems : (Sizes → ℕ → ℕ) → Stemmed → ℕ
-ofStems f (Done s n) = f s n
-ofStems f (Refused r) = 0
+abbrev pub of_stems : (Sizes → ℕ → ℕ) → Stemmed → ℕ
+of_stems f (Done s n) = f s n
+of_stems f (Refused r) = 0
 
 pub record SaysStems (r : StemsReply) (a : Stemmed) : Type 0 where
-  pub number : r.number ≡ (stemsFault a).number
-  pub place : r.place ≡ (stemsFault a).place
-  pub argument : r.argument ≡ (stemsFault a).argument
-  pub amount : r.amount ≡ (stemsFault a).amount
-  pub listing : r.listing ≡ ofStems (λ s n. s.listing) a
-  pub rewrites : r.rewrites ≡ ofStems (λ s n. s.rewrites) a
-  pub image : r.image ≡ ofStems (λ s n. s.image) a
-  pub stems : r.stems ≡ ofStems (λ s n. n) a
+  pub number : r.number ≡ (stems_fault a).number
+  pub place : r.place ≡ (stems_fault a).place
+  pub argument : r.argument ≡ (stems_fault a).argument
+  pub amount : r.amount ≡ (stems_fault a).amount
+  pub listing : r.listing ≡ of_stems (λ s n. s.listing) a
+  pub rewrites : r.rewrites ≡ of_stems (λ s n. s.rewrites) a
+  pub image : r.image ≡ of_stems (λ s n. s.image) a
+  pub stems : r.stems ≡ of_stems (λ s n. n) a
 
 -- as the entry
 pub record HandsOut (asked : Settings) (text : List ℕ) (r : StemsReply) (out image list out' image' list' : List ℕ) : Type 0 where
   pub answer : Stemmed
   pub says : SaysStems r answer
-  pub leaves : entry.Stems (runStems asked text (length out) (length image) (length list)) answer out image list out' image' list'
+  pub leaves : entry.Stems (run_stems asked text (length out) (length image) (length list)) answer out image list out' image' list'

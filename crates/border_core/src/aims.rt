@@ -1,6 +1,6 @@
 // `targets`, for C, and its answer as a struct of numbers.
 ghost use Rattle.targets.specs.declared.Told.TheVariants.{Refused};
-ghost use Rattle.border_core.specs.Replies.{askedBy};
+ghost use Rattle.border_core.specs.Replies.{asked_by};
 ghost use Rattle.border_core.specs.Aims.{Aims, SaysTargets};
 
 use crate::faults::{settings_of, told_of};
@@ -61,7 +61,7 @@ pub extern "C" fn mortarbee_targets(
     listing: &[u8],
     out: &mut [u8],
 ) -> TargetsReply
-    ensures { Aims (askedBy comments callf folds) listing.now result out.old out.new }
+    ensures { Aims (asked_by comments callf folds) listing.now result out.old out.new }
 {
     targets_reply(targets(settings_of(comments, callf, folds), listing, out))
 }

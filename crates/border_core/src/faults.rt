@@ -1,7 +1,7 @@
 // What each answer begins with: a refusal's number, its place, for 8 to 11 the argument's place and the number at fault. And settings.
 ghost use Rattle.std.specs.Prelude.{◌≡◌};
-ghost use Rattle.rules.specs.Refusals.{faultOf};
-ghost use Rattle.border_core.specs.Replies.{askedBy, Tells};
+ghost use Rattle.rules.specs.Refusals.{fault_of};
+ghost use Rattle.border_core.specs.Replies.{asked_by, Tells};
 
 use entries::fault_of;
 use rules::{Refusal, Settings};
@@ -15,7 +15,7 @@ pub struct Told {
 }
 
 pub fn told_of(r: Refusal) -> Told
-    ensures { Tells result (faultOf r) }
+    ensures { Tells result (fault_of r) }
 {
     let f = fault_of(r);
     Told {
@@ -28,7 +28,7 @@ pub fn told_of(r: Refusal) -> Told
 
 // The settings that three bytes ask for: 0 is no, any other yes.
 pub fn settings_of(comments: u8, callf: u8, folds: u8) -> Settings
-    ensures { result ≡ askedBy comments callf folds }
+    ensures { result ≡ asked_by comments callf folds }
 {
     Settings {
         comments: comments != 0,

@@ -1,8 +1,8 @@
 // What document 01's program prints: the page of an accepted text, or a refusal's 7E line.
 ghost use Rattle.std.specs.Prelude.{◌≡◌};
 ghost use Rattle.rules.specs.declared.Answer.TheVariants.{Refused};
-ghost use Rattle.rules.specs.Output.{refusedLine};
-ghost use Rattle.border_core.specs.Replies.{askedBy};
+ghost use Rattle.rules.specs.Output.{refused_line};
+ghost use Rattle.border_core.specs.Replies.{asked_by};
 ghost use Rattle.border_core.specs.Pages.{SaysPrinted, Prints};
 
 use crate::faults::{settings_of, told_of};
@@ -69,7 +69,7 @@ pub extern "C" fn mortarbee_print_run(
     page: &mut [u8; 62482],
     image: &mut [u8; 65536],
 ) -> PrintedReply
-    ensures { Prints (askedBy comments callf folds) listing.now result page.old image.old
+    ensures { Prints (asked_by comments callf folds) listing.now result page.old image.old
         page.new image.new }
 {
     printed_reply(print_run(settings_of(comments, callf, folds), listing, page, image))
@@ -84,7 +84,7 @@ pub extern "C" fn mortarbee_refusal_line(
     amount: i32,
     line: &mut [u8; 19],
 )
-    ensures { line.new ≡ refusedLine (record { number = number; place = place; argument = argument; amount = amount }) }
+    ensures { line.new ≡ refused_line (record { number = number; place = place; argument = argument; amount = amount }) }
 {
     refused_line(number, place as usize, argument as usize, amount, line);
 }

@@ -1,6 +1,6 @@
 // C-13: a run that hands out its list of stems, and its answer as a struct of numbers.
 ghost use Rattle.entries.specs.declared.optimizing.Stemmed.TheVariants.{Refused};
-ghost use Rattle.border_core.specs.Replies.{askedBy};
+ghost use Rattle.border_core.specs.Replies.{asked_by};
 ghost use Rattle.border_core.specs.Stems.{SaysStems, HandsOut};
 
 use crate::faults::{settings_of, told_of};
@@ -66,7 +66,7 @@ pub extern "C" fn mortarbee_stems(
     image: &mut [u8],
     list: &mut [u8],
 ) -> StemsReply
-    ensures { let asked = askedBy comments callf folds in
+    ensures { let asked = asked_by comments callf folds in
         HandsOut asked listing.now result out.old image.old list.old
         out.new image.new list.new }
 {

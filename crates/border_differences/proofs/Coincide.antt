@@ -6,8 +6,8 @@ use Rattle.differences.specs.declared.entry.Differs.{Differs}
 use Rattle.border_differences.specs.declared.differing.DiffersReply.{DiffersReply}
 use Rattle.border_differences.specs.Replies.{SaysDiffers, TellsDifferences}
 
-one-differing : (a : Differs) (r s : DiffersReply) → SaysDiffers r a → SaysDiffers s a → r ≡ s
-one-differing a r s h k =
+one_differing : (a : Differs) (r s : DiffersReply) → SaysDiffers r a → SaysDiffers s a → r ≡ s
+one_differing a r s h k =
     rw (
       h.number ∙ sym k.number,
       h.place ∙ sym k.place,
@@ -18,8 +18,8 @@ one-differing a r s h k =
     )
 
 -- `mortarbee_differences`
-pub one-difference : (first second : List ℕ) (given : ℕ) (pairing room : List ℕ) (r s : DiffersReply) (x y : List ℕ)
+pub one_difference : (first second : List ℕ) (given : ℕ) (pairing room : List ℕ) (r s : DiffersReply) (x y : List ℕ)
     → TellsDifferences first second given pairing r room x → TellsDifferences first second given pairing s room y → (r ≡ s) × (x ≡ y)
-one-difference first second given pairing room r s x y a b =
+one_difference first second given pairing room r s x y a b =
     let e : a.answer ≡ b.answer = a.leaves.answer ∙ sym b.leaves.answer in
-    (one-differing b.answer r s (subst (λ (z : Differs). SaysDiffers r z) e a.says) b.says, a.leaves.room ∙ sym b.leaves.room)
+    (one_differing b.answer r s (subst (λ (z : Differs). SaysDiffers r z) e a.says) b.says, a.leaves.room ∙ sym b.leaves.room)

@@ -1,5 +1,5 @@
 // The differences of two listings: the answer, whose refusal it is, and how long the text is.
-ghost use Rattle.rules.specs.Refusals.{faultOf};
+ghost use Rattle.rules.specs.Refusals.{fault_of};
 ghost use Rattle.border_differences.specs.Replies.{TellsWhose, SaysDiffers, TellsDifferences};
 
 use border_core::told_of;
@@ -19,7 +19,7 @@ pub struct DiffersReply {
 }
 
 fn refused_for(whose: u64, r: Refusal) -> DiffersReply
-    ensures { TellsWhose result whose (faultOf r) }
+    ensures { TellsWhose result whose (fault_of r) }
 {
     let t = told_of(r);
     DiffersReply {

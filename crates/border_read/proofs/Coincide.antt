@@ -3,12 +3,12 @@ use mathlib.Core.Path.{◌≡◌, sym, ◌∙◌, subst}
 use mathlib.Core.List.{List}
 use Prim.Native.Nat.{ℕ}
 use Rattle.rules.specs.declared.Answer.{Answer}
-use Rattle.intake.proofs.Coincide.{one-read}
+use Rattle.intake.proofs.Coincide.{one_read}
 use Rattle.border_read.specs.declared.ReadReply.{ReadReply}
 use Rattle.border_read.specs.Replies.{Says, Replies}
 
-one-said : (a : Answer) (r s : ReadReply) → Says r a → Says s a → r ≡ s
-one-said a r s h k =
+one_said : (a : Answer) (r s : ReadReply) → Says r a → Says s a → r ≡ s
+one_said a r s h k =
     rw (
       h.number ∙ sym k.number,
       h.place ∙ sym k.place,
@@ -17,7 +17,7 @@ one-said a r s h k =
       h.listing ∙ sym k.listing,
     )
 
-pub one-reply : (text room : List ℕ) (r s : ReadReply) (x y : List ℕ) → Replies text r room x → Replies text s room y → (r ≡ s) × (x ≡ y)
-one-reply text room r s x y a b =
-    let e = one-read text room b.answer a.answer y x b.leaves a.leaves in
-    (one-said a.answer r s a.says (subst (λ z. Says s z) e.0 b.says), sym e.1)
+pub one_reply : (text room : List ℕ) (r s : ReadReply) (x y : List ℕ) → Replies text r room x → Replies text s room y → (r ≡ s) × (x ≡ y)
+one_reply text room r s x y a b =
+    let e = one_read text room b.answer a.answer y x b.leaves a.leaves in
+    (one_said a.answer r s a.says (subst (λ z. Says s z) e.0 b.says), sym e.1)

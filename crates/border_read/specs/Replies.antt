@@ -2,25 +2,25 @@
 use Rattle.std.specs.Prelude.{◌≡◌, List, ℕ}
 use Rattle.rules.specs.declared.Answer.{Answer}
 use Rattle.rules.specs.declared.Answer.TheVariants.{Done, Refused}
-use Rattle.rules.specs.Refusals.{Fault, of_none, faultOf}
+use Rattle.rules.specs.Refusals.{Fault, of_none, fault_of}
 use Rattle.intake.specs.Intake.{Leaves}
 use Rattle.border_read.specs.declared.ReadReply.{ReadReply}
 
 -- "15 in place of 1, with the column": the number at fault
-abbrev pub faultIn : Answer → Fault
-faultIn (Done s) = of_none 0
-faultIn (Refused r) = faultOf r
+abbrev pub fault_in : Answer → Fault
+fault_in (Done s) = of_none 0
+fault_in (Refused r) = fault_of r
 
-abbrev pub lengthIn : Answer → ℕ
-lengthIn (Done s) = s.listing
-lengthIn (Refused r) = 0
+abbrev pub length_in : Answer → ℕ
+length_in (Done s) = s.listing
+length_in (Refused r) = 0
 
 pub record Says (r : ReadReply) (a : Answer) : Type 0 where
-  pub number : r.number ≡ (faultIn a).number
-  pub place : r.place ≡ (faultIn a).place
-  pub argument : r.argument ≡ (faultIn a).argument
-  pub amount : r.amount ≡ (faultIn a).amount
-  pub listing : r.listing ≡ lengthIn a
+  pub number : r.number ≡ (fault_in a).number
+  pub place : r.place ≡ (fault_in a).place
+  pub argument : r.argument ≡ (fault_in a).argument
+  pub amount : r.amount ≡ (fault_in a).amount
+  pub listing : r.listing ≡ length_in a
 
 -- as the entry
 pub record Replies (text : List ℕ) (r : ReadReply) (before after : List ℕ) : Type 0 where

@@ -5,7 +5,7 @@ use Prim.Native.Nat.{ℕ}
 use lib.ListN.{length}
 use Rattle.rules.specs.declared.Settings.{Settings}
 use Rattle.mapping.specs.declared.Mapped.{Mapped}
-use Rattle.mapping.specs.Entry.{mapped, answerAs, roomAs, Leaves}
+use Rattle.mapping.specs.Entry.{mapped, answer_as, room_as, Leaves}
 use Rattle.border_walks.specs.declared.maps.MapReply.{MapReply}
 use Rattle.border_walks.specs.Maps.{SaysMap}
 
@@ -13,12 +13,12 @@ pub map_same : (r : MapReply) (a b : Mapped) → a ≡ b → SaysMap r a → Say
 map_same r a b e h = subst (λ (x : Mapped). SaysMap r x) e h
 
 -- the same is answered to equal settings
-pub map-asked : (asked given : Settings) (text out : List ℕ) (a : Mapped) (out' : List ℕ) → asked ≡ given → Leaves (mapped asked text (length out)) a out out'
+pub map_asked : (asked given : Settings) (text out : List ℕ) (a : Mapped) (out' : List ℕ) → asked ≡ given → Leaves (mapped asked text (length out)) a out out'
     → Leaves (mapped given text (length out)) a out out'
-map-asked asked given text out a out' e h = subst (λ (x : Settings). Leaves (mapped x text (length out)) a out out') e h
+map_asked asked given text out a out' e h = subst (λ (x : Settings). Leaves (mapped x text (length out)) a out out') e h
 
-one-said : (a : Mapped) (r s : MapReply) → SaysMap r a → SaysMap s a → r ≡ s
-one-said a r s h k =
+one_said : (a : Mapped) (r s : MapReply) → SaysMap r a → SaysMap s a → r ≡ s
+one_said a r s h k =
     rw (
       h.number ∙ sym k.number,
       h.place ∙ sym k.place,
@@ -31,5 +31,5 @@ one-said a r s h k =
 -- `mortarbee_map`
 pub one_map : (asked : Settings) (text room : List ℕ) (r s : MapReply) (x y : List ℕ)
     → let m = mapped asked text (length room) in
-    SaysMap r (answerAs m) × (x ≡ roomAs m room) → SaysMap s (answerAs m) × (y ≡ roomAs m room) → (r ≡ s) × (x ≡ y)
-one_map asked text room r s x y a b = (one-said _ r s a.0 b.0, a.1 ∙ sym b.1)
+    SaysMap r (answer_as m) × (x ≡ room_as m room) → SaysMap s (answer_as m) × (y ≡ room_as m room) → (r ≡ s) × (x ≡ y)
+one_map asked text room r s x y a b = (one_said _ r s a.0 b.0, a.1 ∙ sym b.1)

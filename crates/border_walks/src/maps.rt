@@ -1,8 +1,8 @@
 // `mapping`, for C, and its answer as a struct of numbers.
 ghost use Rattle.std.specs.Prelude.{◌≡◌, length};
 ghost use Rattle.mapping.specs.declared.Mapped.TheVariants.{Refused};
-ghost use Rattle.mapping.specs.Entry.{mapped, answerAs, roomAs};
-ghost use Rattle.border_core.specs.Replies.{askedBy};
+ghost use Rattle.mapping.specs.Entry.{mapped, answer_as, room_as};
+ghost use Rattle.border_core.specs.Replies.{asked_by};
 ghost use Rattle.border_walks.specs.Maps.{SaysMap};
 
 use border_core::{settings_of, told_of};
@@ -53,10 +53,10 @@ fn map_reply(answer: Mapped) -> MapReply
 
 // `mapping`, the settings as three bytes, with its answer so.
 pub fn map_answer(comments: u8, callf: u8, folds: u8, listing: &[u8], out: &mut [u8]) -> MapReply
-    ensures fact { let x = mapped (askedBy comments callf folds) listing.now (length out.old) in
-        SaysMap result (answerAs x) }
-    ensures out_after { let x = mapped (askedBy comments callf folds) listing.now (length out.old) in
-        out.new ≡ roomAs x out.old }
+    ensures fact { let x = mapped (asked_by comments callf folds) listing.now (length out.old) in
+        SaysMap result (answer_as x) }
+    ensures out_after { let x = mapped (asked_by comments callf folds) listing.now (length out.old) in
+        out.new ≡ room_as x out.old }
 {
     map_reply(mapping(settings_of(comments, callf, folds), listing, out))
 }

@@ -4,52 +4,52 @@ use mathlib.Core.List.{List, [], ◌∷◌, map}
 use mathlib.Core.Bool.{Bool, true, false, cond}
 use Prim.Native.Nat.{ℕ, ◌+◌, ◌-◌, ◌*◌, ◌/◌, ◌%◌, ◌^◌}
 use lib.Dec.{eqb}
-use Rattle.rules.specs.Forms.{formAt}
-use Rattle.rules.specs.Patterns.{Mode, bit, letter, digits, codes, argument, ontoByte, readPattern, rows_of}
-use Rattle.decoding.specs.Cells.{Cell, fixed, held, ontoRow, readCells, cells_of}
+use Rattle.rules.specs.Forms.{form_at}
+use Rattle.rules.specs.Patterns.{Mode, bit, letter, digits, codes, argument, onto_byte, read_pattern, rows_of}
+use Rattle.decoding.specs.Cells.{Cell, fixed, held, onto_row, read_cells, cells_of}
 
 module _ (a b c : ℕ) where
-  abbrev pub worthOf : Cell → ℕ
-  worthOf (fixed v) = v
-  worthOf (held l n) = argument a b c l / 2 ^ n % 2
+  abbrev pub worth_of : Cell → ℕ
+  worth_of (fixed v) = v
+  worth_of (held l n) = argument a b c l / 2 ^ n % 2
 
   abbrev pub worths : List (List Cell) → List (List ℕ)
-  worths rows = map (λ row. map worthOf row) rows
+  worths rows = map (λ row. map worth_of row) rows
 
-  onto-says : (x : Cell) (rows : List (List Cell)) → worths (ontoRow x rows) ≡ ontoByte (worthOf x) (worths rows)
-  onto-says x [] = refl
-  onto-says x (r ∷ rs) = refl
+  onto_says : (x : Cell) (rows : List (List Cell)) → worths (onto_row x rows) ≡ onto_byte (worth_of x) (worths rows)
+  onto_says x [] = refl
+  onto_says x (r ∷ rs) = refl
 
-  says : (m : Mode) (s : List ℕ) → readPattern a b c m s ≡ worths (readCells m s)
+  says : (m : Mode) (s : List ℕ) → read_pattern a b c m s ≡ worths (read_cells m s)
   says bit [] = refl
   says letter [] = refl
   says (digits l n) [] = refl
-  says bit (x ∷ s) = at-bit (eqb x 91) (eqb x 32) (says letter s) (says bit s)
+  says bit (x ∷ s) = at_bit (eqb x 91) (eqb x 32) (says letter s) (says bit s)
     where
-      at-bit : (t u : Bool) → readPattern a b c letter s ≡ worths (readCells letter s) → readPattern a b c bit s ≡ worths (readCells bit s)
-          → cond t (readPattern a b c letter s) (cond u ([] ∷ readPattern a b c bit s) (ontoByte (x - 48) (readPattern a b c bit s)))
-          ≡ worths (cond t (readCells letter s) (cond u ([] ∷ readCells bit s) (ontoRow (fixed (x - 48)) (readCells bit s))))
-      at-bit true u e d = e
-      at-bit false true e d = rw d
-      at-bit false false e d = ap (ontoByte (x - 48)) d ∙ sym-onto (fixed (x - 48)) (readCells bit s)
+      at_bit : (t u : Bool) → read_pattern a b c letter s ≡ worths (read_cells letter s) → read_pattern a b c bit s ≡ worths (read_cells bit s)
+          → cond t (read_pattern a b c letter s) (cond u ([] ∷ read_pattern a b c bit s) (onto_byte (x - 48) (read_pattern a b c bit s)))
+          ≡ worths (cond t (read_cells letter s) (cond u ([] ∷ read_cells bit s) (onto_row (fixed (x - 48)) (read_cells bit s))))
+      at_bit true u e d = e
+      at_bit false true e d = rw d
+      at_bit false false e d = ap (onto_byte (x - 48)) d ∙ sym_onto (fixed (x - 48)) (read_cells bit s)
         where
-          sym-onto : (y : Cell) (rows : List (List Cell)) → ontoByte (worthOf y) (worths rows) ≡ worths (ontoRow y rows)
-          sym-onto y [] = refl
-          sym-onto y (r ∷ rs) = refl
+          sym_onto : (y : Cell) (rows : List (List Cell)) → onto_byte (worth_of y) (worths rows) ≡ worths (onto_row y rows)
+          sym_onto y [] = refl
+          sym_onto y (r ∷ rs) = refl
   says letter (x ∷ s) = says (digits (x - 97) 0) s
-  says (digits l n) (x ∷ s) = at-digit (eqb x 93) (says bit s) (says (digits l (n * 10 + (x - 48))) s)
+  says (digits l n) (x ∷ s) = at_digit (eqb x 93) (says bit s) (says (digits l (n * 10 + (x - 48))) s)
     where
-      at-digit : (t : Bool) → readPattern a b c bit s ≡ worths (readCells bit s)
-          → readPattern a b c (digits l (n * 10 + (x - 48))) s ≡ worths (readCells (digits l (n * 10 + (x - 48))) s)
-          → cond t (ontoByte (argument a b c l / 2 ^ n % 2) (readPattern a b c bit s)) (readPattern a b c (digits l (n * 10 + (x - 48))) s)
-          ≡ worths (cond t (ontoRow (held l n) (readCells bit s)) (readCells (digits l (n * 10 + (x - 48))) s))
-      at-digit true d e = ap (ontoByte (argument a b c l / 2 ^ n % 2)) d ∙ onto (readCells bit s)
+      at_digit : (t : Bool) → read_pattern a b c bit s ≡ worths (read_cells bit s)
+          → read_pattern a b c (digits l (n * 10 + (x - 48))) s ≡ worths (read_cells (digits l (n * 10 + (x - 48))) s)
+          → cond t (onto_byte (argument a b c l / 2 ^ n % 2) (read_pattern a b c bit s)) (read_pattern a b c (digits l (n * 10 + (x - 48))) s)
+          ≡ worths (cond t (onto_row (held l n) (read_cells bit s)) (read_cells (digits l (n * 10 + (x - 48))) s))
+      at_digit true d e = ap (onto_byte (argument a b c l / 2 ^ n % 2)) d ∙ onto (read_cells bit s)
         where
-          onto : (rows : List (List Cell)) → ontoByte (worthOf (held l n)) (worths rows) ≡ worths (ontoRow (held l n) rows)
+          onto : (rows : List (List Cell)) → onto_byte (worth_of (held l n)) (worths rows) ≡ worths (onto_row (held l n) rows)
           onto [] = refl
           onto (r ∷ rs) = refl
-      at-digit false d e = e
+      at_digit false d e = e
 
   pub cells_say : (f : ℕ) → rows_of f a b c ≡ worths (cells_of f)
   unfolding rows_of cells_of
-  cells_say f = says bit (codes (formAt f).pattern)
+  cells_say f = says bit (codes (form_at f).pattern)

@@ -12,40 +12,40 @@ use lib.IntN.{ℤ, pos, negsuc, ◌-ℤ◌}
 use borrow.Author.Tests.{ltb-true, ltb-false, lt-ltb, le-ltb, eq-eqb, le-leb}
 use Rattle.laws.specs.Lists.{each}
 use Rattle.laws.specs.Bits.{bits}
-use Rattle.laws.proofs.Bits.{length-bits}
-use Rattle.laws.proofs.Tests.{and-true, false-true, lt-or-le}
+use Rattle.laws.proofs.Bits.{length_bits}
+use Rattle.laws.proofs.Tests.{and_true, false_true, lt_or_le}
 use Rattle.rules.specs.declared.Kind.{Kind}
 use Rattle.rules.specs.declared.Kind.TheVariants.{Reg, I8, D9, Bit, Rel8, A12, A16, Rel16}
 use Rattle.rules.specs.Answers.{ok, require, ◌>>=◌}
-use Rattle.rules.specs.Values.{below, signedByte, mod256}
-use Rattle.rules.specs.Expressions.{evalTree}
+use Rattle.rules.specs.Values.{below, signed_byte, mod256}
+use Rattle.rules.specs.Expressions.{eval_tree}
 use Rattle.rules.specs.Programs.{Placeℕ, Addressℕ, Program}
 use Rattle.rules.specs.Names.{Entry}
 use Rattle.rules.specs.Encoding.{page, field}
-use Rattle.rules.specs.Judging.{value_at, worthOf, fields}
-use Rattle.decoding.specs.Cells.{allCells, place_in}
-use Rattle.decoding.specs.Operands.{bits_of, width, heldBit, heldIn, near, reads, operandOf, operandsFrom, noneOutside}
-use Rattle.decoding.proofs.Numbers.{Bit-each, bit-back, bits_below, low_bit}
+use Rattle.rules.specs.Judging.{value_at, worth_of, fields}
+use Rattle.decoding.specs.Cells.{all_cells, place_in}
+use Rattle.decoding.specs.Operands.{bits_of, width, held_bit, held_in, near, reads, operand_of, operands_from, none_outside}
+use Rattle.decoding.proofs.Numbers.{Bit-each, bit_back, bits_below, low_bit}
 use Rattle.decoding.proofs.Tables.{width_in}
 
 -- ---- a bit is 0 or 1
-bits-bit : (x lo n k : ℕ) → get_or (bits x lo n) k 0 < 2
+bits_bit : (x lo n k : ℕ) → get_or (bits x lo n) k 0 < 2
 unfolding bits
-bits-bit x lo zero k = omega arith
-bits-bit x lo (suc n) zero = omega arith
-bits-bit x lo (suc n) (suc k) = bits-bit x lo n k
+bits_bit x lo zero k = omega arith
+bits_bit x lo (suc n) zero = omega arith
+bits_bit x lo (suc n) (suc k) = bits_bit x lo n k
 
-bits-below-2 : (s : List ℕ) (k : ℕ) → get_or (bits_of s) k 0 < 2
+bits_below_2 : (s : List ℕ) (k : ℕ) → get_or (bits_of s) k 0 < 2
 unfolding bits_of each
-bits-below-2 [] k = omega arith
-bits-below-2 (b ∷ s) k = ⊎_elim first (rest (bits-below-2 s (k - 8))) (lt-or-le k 8)
+bits_below_2 [] k = omega arith
+bits_below_2 (b ∷ s) k = ⊎_elim first (rest (bits_below_2 s (k - 8))) (lt_or_le k 8)
   where
     first : k < 8 → get_or (bits b 0 8 ++ bits_of s) k 0 < 2
-    first l = rw (get_or-append (bits b 0 8) (bits_of s) 0 k (omega (arith, length-bits b 0 8))) (bits-bit b 0 8 k)
+    first l = rw (get_or-append (bits b 0 8) (bits_of s) 0 k (omega (arith, length_bits b 0 8))) (bits_bit b 0 8 k)
 
     rest : get_or (bits_of s) (k - 8) 0 < 2 → 8 ≤ k → get_or (bits b 0 8 ++ bits_of s) k 0 < 2
     rest below l =
-        let e : length (bits b 0 8) + (k - 8) ≡ k = omega (arith, length-bits b 0 8) in
+        let e : length (bits b 0 8) + (k - 8) ≡ k = omega (arith, length_bits b 0 8) in
         let g = get_or-append-add (bits b 0 8) (bits_of s) (k - 8) 0 in
         let g' : get_or (bits b 0 8 ++ bits_of s) k 0 ≡ get_or (bits_of s) (k - 8) 0 = rw e at g in
         rw g' below
@@ -62,15 +62,15 @@ written n A16 v = v
 written n Rel16 v = v
 
 -- its bits are those of v
-pub written-bit : (n : Addressℕ) (d : Kind) (v k : ℕ) → v < 2 ^ width d → k < width d → written n d v / 2 ^ k % 2 ≡ v / 2 ^ k % 2
-written-bit n Reg v k h l = refl
-written-bit n I8 v k h l = refl
-written-bit n D9 v k h l = refl
-written-bit n Bit v k h l = refl
-written-bit n Rel8 v k h l = refl
-written-bit n A12 v k h l = low_bit (page n) v 12 k h l
-written-bit n A16 v k h l = refl
-written-bit n Rel16 v k h l = refl
+pub written_bit : (n : Addressℕ) (d : Kind) (v k : ℕ) → v < 2 ^ width d → k < width d → written n d v / 2 ^ k % 2 ≡ v / 2 ^ k % 2
+written_bit n Reg v k h l = refl
+written_bit n I8 v k h l = refl
+written_bit n D9 v k h l = refl
+written_bit n Bit v k h l = refl
+written_bit n Rel8 v k h l = refl
+written_bit n A12 v k h l = low_bit (page n) v 12 k h l
+written_bit n A16 v k h l = refl
+written_bit n Rel16 v k h l = refl
 
 -- ---- rel8
 
@@ -87,38 +87,38 @@ down a (suc n) l = rw (lt-ltb a (suc n) l)
 abbrev offset : ℕ → ℤ
 offset v = cond (ltb v 128) (pos v) (negsuc (255 - v))
 
-offset-signed : (v : ℕ) → v < 256 → signedByte (offset v) ≡ true
-offset-signed v h = on (ltb v 128) refl
+offset_signed : (v : ℕ) → v < 256 → signed_byte (offset v) ≡ true
+offset_signed v h = on (ltb v 128) refl
   where
-    on : (t : Bool) → ltb v 128 ≡ t → signedByte (cond t (pos v) (negsuc (255 - v))) ≡ true
+    on : (t : Bool) → ltb v 128 ≡ t → signed_byte (cond t (pos v) (negsuc (255 - v))) ≡ true
     on true e = le-leb v 127 (omega (arith, ltb-true v 128 e))
     on false e = le-leb (suc (255 - v)) 128 (omega (arith, ltb-false v 128 e))
 
-offset-mod : (v : ℕ) → v < 256 → mod256 (offset v) ≡ v
-offset-mod v h = on (ltb v 128)
+offset_mod : (v : ℕ) → v < 256 → mod256 (offset v) ≡ v
+offset_mod v h = on (ltb v 128)
   where
     on : (t : Bool) → mod256 (cond t (pos v) (negsuc (255 - v))) ≡ v
     on true = omega arith
     on false = omega arith
 
 -- a target that falls inside is so far from n
-near-offset : (n v : ℕ) → v < 256 → below 65536 (near n v) ≡ true → near n v -ℤ pos n ≡ offset v
-near-offset n v h b = on (ltb v 128) refl b
+near_offset : (n v : ℕ) → v < 256 → below 65536 (near n v) ≡ true → near n v -ℤ pos n ≡ offset v
+near_offset n v h b = on (ltb v 128) refl b
   where
     far : (n + v < 256) ⊎ (256 ≤ n + v) → 128 ≤ v → below 65536 (pos (n + v) -ℤ pos 256) ≡ true
         → pos (n + v) -ℤ pos 256 -ℤ pos n ≡ negsuc (255 - v)
-    far (inl l) k b = false-true (rw (down (n + v) 256 l) at b)
+    far (inl l) k b = false_true (rw (down (n + v) 256 l) at b)
     far (inr l) k b = rw (up (n + v) 256 l, down (n + v - 256) n (omega arith)) (ap negsuc (omega arith))
 
     on : (t : Bool) → ltb v 128 ≡ t → below 65536 (cond t (pos (n + v)) (pos (n + v) -ℤ pos 256)) ≡ true
         → cond t (pos (n + v)) (pos (n + v) -ℤ pos 256) -ℤ pos n ≡ cond t (pos v) (negsuc (255 - v))
     on true e b = up (n + v) n (omega arith) ∙ ap pos (omega arith)
-    on false e b = far (lt-or-le (n + v) 256) (ltb-false v 128 e) b
+    on false e b = far (lt_or_le (n + v) 256) (ltb-false v 128 e) b
 
-rel8-back : (i : Placeℕ) (j : ℕ) (n : Addressℕ) (v : ℕ) (z : ℤ) → v < 256 → below 65536 z ≡ true → z -ℤ pos n ≡ offset v
+rel8_back : (i : Placeℕ) (j : ℕ) (n : Addressℕ) (v : ℕ) (z : ℤ) → v < 256 → below 65536 z ≡ true → z -ℤ pos n ≡ offset v
     → field i j n Rel8 z ≡ ok v
 unfolding field require
-rel8-back i j n v z h b e = rw (b, e, offset-signed v h, offset-mod v h)
+rel8_back i j n v z h b e = rw (b, e, offset_signed v h, offset_mod v h)
 
 -- ---- each kind
 pub field_back : (i : Placeℕ) (j : ℕ) (n : Addressℕ) (d : Kind) (v : ℕ) → n ≤ 65536 → v < 2 ^ width d → below 65536 (reads n d v) ≡ true
@@ -128,53 +128,53 @@ field_back i j n Reg v m h b = refl
 field_back i j n I8 v m h b = rw (lt-ltb v 256 h)
 field_back i j n D9 v m h b = rw (lt-ltb v 512 h)
 field_back i j n Bit v m h b = rw (lt-ltb v 8 h)
-field_back i j n Rel8 v m h b = rel8-back i j n v (near n v) h b (near-offset n v h b)
+field_back i j n Rel8 v m h b = rel8_back i j n v (near n v) h b (near_offset n v h b)
 field_back i j n A12 v m h b = rw (b, eq-eqb (page (page n * 4096 + v)) (page n) (omega arith))
 field_back i j n A16 v m h b = rw (lt-ltb v 65536 h)
 field_back i j n Rel16 v m h b = rw b (ap (λ (x : ℕ). ok x) (omega arith))
 
 -- what an argument that was read back is worth
-pub worth-back : (names : List Entry) (p : Program) (i : Placeℕ) (k : ℕ) (n : Addressℕ) (d : Kind) (v : ℕ)
-    → value_at i (worthOf names p k (operandOf n d v)) ≡ ok (reads n d v)
-unfolding evalTree
-worth-back names p i k n Reg v = refl
-worth-back names p i k n I8 v = refl
-worth-back names p i k n D9 v = refl
-worth-back names p i k n Bit v = refl
-worth-back names p i k n Rel8 v = refl
-worth-back names p i k n A12 v = refl
-worth-back names p i k n A16 v = refl
-worth-back names p i k n Rel16 v = refl
+pub worth_back : (names : List Entry) (p : Program) (i : Placeℕ) (k : ℕ) (n : Addressℕ) (d : Kind) (v : ℕ)
+    → value_at i (worth_of names p k (operand_of n d v)) ≡ ok (reads n d v)
+unfolding eval_tree
+worth_back names p i k n Reg v = refl
+worth_back names p i k n I8 v = refl
+worth_back names p i k n D9 v = refl
+worth_back names p i k n Bit v = refl
+worth_back names p i k n Rel8 v = refl
+worth_back names p i k n A12 v = refl
+worth_back names p i k n A16 v = refl
+worth_back names p i k n Rel16 v = refl
 
 -- ---- the arguments of form f whose bytes are s
 module _ (f : ℕ) (s : List ℕ) where
-  held-bit : (j : ℕ) → Bit-each (heldBit f s j)
-  unfolding heldBit
-  held-bit j n = bits-below-2 s (place_in j n (allCells f))
+  held_bit_lem : (j : ℕ) → Bit-each (held_bit f s j)
+  unfolding held_bit
+  held_bit_lem j n = bits_below_2 s (place_in j n (all_cells f))
 
-  pub held_below : (j w : ℕ) → heldIn f s j w < 2 ^ w
-  unfolding heldIn
-  held_below j w = bits_below (heldBit f s j) (held-bit j) w
+  pub held_below : (j w : ℕ) → held_in f s j w < 2 ^ w
+  unfolding held_in
+  held_below j w = bits_below (held_bit f s j) (held_bit_lem j) w
 
-  held_back : (j w n : ℕ) → n < w → heldIn f s j w / 2 ^ n % 2 ≡ heldBit f s j n
-  unfolding heldIn
-  held_back j w n l = bit-back (heldBit f s j) (held-bit j) w n l
+  held_back : (j w n : ℕ) → n < w → held_in f s j w / 2 ^ n % 2 ≡ held_bit f s j n
+  unfolding held_in
+  held_back j w n l = bit_back (held_bit f s j) (held_bit_lem j) w n l
 
-  abbrev pub writtenFrom : (n : Addressℕ) (j : ℕ) → List Kind → List ℕ
-  writtenFrom n j [] = []
-  writtenFrom n j (d ∷ ds) = written n d (heldIn f s j (width d)) ∷ writtenFrom n (suc j) ds
+  abbrev pub written_from : (n : Addressℕ) (j : ℕ) → List Kind → List ℕ
+  written_from n j [] = []
+  written_from n j (d ∷ ds) = written n d (held_in f s j (width d)) ∷ written_from n (suc j) ds
 
   -- all are judged good
   pub fields_back : (names : List Entry) (p : Program) (i : Placeℕ) (k : ℕ) (n : Addressℕ) → n ≤ 65536 → (j : ℕ) (ds : List Kind)
-      → noneOutside f s n j ds ≡ true
-      → fields names p i k n j ds (operandsFrom f s n j ds) ≡ ok (writtenFrom n j ds)
-  unfolding fields operandsFrom noneOutside ◌>>=◌
+      → none_outside f s n j ds ≡ true
+      → fields names p i k n j ds (operands_from f s n j ds) ≡ ok (written_from n j ds)
+  unfolding fields operands_from none_outside ◌>>=◌
   fields_back names p i k n m j [] h = refl
   fields_back names p i k n m j (d ∷ ds) h =
-      let v : ℕ = heldIn f s j (width d) in
-      let t = and-true (below 65536 (reads n d v)) (noneOutside f s n (suc j) ds) h in
+      let v : ℕ = held_in f s j (width d) in
+      let t = and_true (below 65536 (reads n d v)) (none_outside f s n (suc j) ds) h in
       rw (
-        worth-back names p i k n d v,
+        worth_back names p i k n d v,
         ◌>>=◌,
         field_back i j n d v m (held_below j (width d)) t.0,
         ◌>>=◌,
@@ -184,10 +184,10 @@ module _ (f : ℕ) (s : List ℕ) where
       )
 
   -- and have the bits that are held
-  pub holds-back : (n : Addressℕ) (j : ℕ) (ds : List Kind) (l m : ℕ) → m < width_in l ds
-      → get_or (writtenFrom n j ds) l 0 / 2 ^ m % 2 ≡ heldBit f s (j + l) m
-  holds-back n j [] l m h = absurd (omega arith)
-  holds-back n j (d ∷ ds) zero m h =
+  pub holds_back : (n : Addressℕ) (j : ℕ) (ds : List Kind) (l m : ℕ) → m < width_in l ds
+      → get_or (written_from n j ds) l 0 / 2 ^ m % 2 ≡ held_bit f s (j + l) m
+  holds_back n j [] l m h = absurd (omega arith)
+  holds_back n j (d ∷ ds) zero m h =
       let z : j + 0 ≡ j = omega arith in
-      rw z (written-bit n d (heldIn f s j (width d)) m (held_below j (width d)) h ∙ held_back j (width d) m h)
-  holds-back n j (d ∷ ds) (suc l) m h = let z : j + suc l ≡ suc j + l = omega arith in rw z (holds-back n (suc j) ds l m h)
+      rw z (written_bit n d (held_in f s j (width d)) m (held_below j (width d)) h ∙ held_back j (width d) m h)
+  holds_back n j (d ∷ ds) (suc l) m h = let z : j + suc l ≡ suc j + l = omega arith in rw z (holds_back n (suc j) ds l m h)

@@ -5,7 +5,7 @@ use native.Mathlib.Nat.{pow-succ'}
 use native.Mathlib.Numerals.{one-add}
 use native.Mathlib.Omega.{arith}
 use lib.Pow.{shr-shr, field, mod-mod-pow, low}
-use Rattle.decoding.specs.Operands.{fromBits}
+use Rattle.decoding.specs.Operands.{from_bits}
 
 -- each below 2
 abbrev pub Bit-each : (ℕ → ℕ) → Type 0
@@ -15,18 +15,18 @@ half : (a v : ℕ) → a < 2 → (a + 2 * v) / 2 ≡ v
 half a v h = omega arith
 
 -- bit n of the number is F n
-pub bit-back : (F : ℕ → ℕ) → Bit-each F → (w n : ℕ) → n < w → fromBits F w / 2 ^ n % 2 ≡ F n
-bit-back F h zero n l = absurd (omega arith)
-bit-back F h (suc w) zero l = omega (arith, h 0)
-bit-back F h (suc w) (suc n) l =
-    let v : ℕ = fromBits (λ k. F (suc k)) w in
+pub bit_back : (F : ℕ → ℕ) → Bit-each F → (w n : ℕ) → n < w → from_bits F w / 2 ^ n % 2 ≡ F n
+bit_back F h zero n l = absurd (omega arith)
+bit_back F h (suc w) zero l = omega (arith, h 0)
+bit_back F h (suc w) (suc n) l =
+    let v : ℕ = from_bits (λ k. F (suc k)) w in
     ap (λ (x : ℕ). x % 2)
     (ap (λ (m : ℕ). (F 0 + 2 * v) / 2 ^ m) (sym (one-add n)) ∙ sym (shr-shr (F 0 + 2 * v) 1 n)
     ∙ ap (λ (x : ℕ). x / 2 ^ n) (half (F 0) v (h 0)))
-    ∙ bit-back (λ k. F (suc k)) (λ k. h (suc k)) w n (omega arith)
+    ∙ bit_back (λ k. F (suc k)) (λ k. h (suc k)) w n (omega arith)
 
 -- and it has no more bits
-pub bits_below : (F : ℕ → ℕ) → Bit-each F → (w : ℕ) → fromBits F w < 2 ^ w
+pub bits_below : (F : ℕ → ℕ) → Bit-each F → (w : ℕ) → from_bits F w < 2 ^ w
 bits_below F h zero = omega arith
 bits_below F h (suc w) = rw (pow-succ' 2 w) (omega (arith, h 0, bits_below (λ k. F (suc k)) (λ k. h (suc k)) w))
 

@@ -8,7 +8,7 @@ use Rattle.rules.specs.Values.{below}
 use Rattle.rules.specs.Expressions.{Expr, num}
 use Rattle.rules.specs.Programs.{Addressℕ, Operand, register, value}
 use Rattle.rules.specs.Encoding.{page}
-use Rattle.decoding.specs.Cells.{allCells, place_in}
+use Rattle.decoding.specs.Cells.{all_cells, place_in}
 
 -- ---- the bits of an argument
 
@@ -17,9 +17,9 @@ unfoldable pub bits_of : List ℕ → List ℕ
 bits_of s = each (λ b. bits b 0 8) s
 
 -- the number whose bit n is F n, for each n below w
-abbrev pub fromBits : (ℕ → ℕ) → (w : ℕ) → ℕ
-fromBits F zero = 0
-fromBits F (suc w) = F 0 + 2 * fromBits (λ n. F (suc n)) w
+abbrev pub from_bits : (ℕ → ℕ) → (w : ℕ) → ℕ
+from_bits F zero = 0
+from_bits F (suc w) = F 0 + 2 * from_bits (λ n. F (suc n)) w
 
 -- how many bits of an argument an instruction holds
 abbrev pub width : Kind → ℕ
@@ -33,12 +33,12 @@ width A16 = 16
 width Rel16 = 16
 
 -- bit n of argument j of form f, if s are its bytes: the bit that stands where the pattern has [j n]
-unfoldable pub heldBit : (f : ℕ) (s : List ℕ) (j n : ℕ) → ℕ
-heldBit f s j n = get_or (bits_of s) (place_in j n (allCells f)) 0
+unfoldable pub held_bit : (f : ℕ) (s : List ℕ) (j n : ℕ) → ℕ
+held_bit f s j n = get_or (bits_of s) (place_in j n (all_cells f)) 0
 
 -- what an instruction holds of its argument j, which has w bits
-unfoldable pub heldIn : (f : ℕ) (s : List ℕ) (j w : ℕ) → ℕ
-heldIn f s j w = fromBits (heldBit f s j) w
+unfoldable pub held_in : (f : ℕ) (s : List ℕ) (j w : ℕ) → ℕ
+held_in f s j w = from_bits (held_bit f s j) w
 
 -- ---- the number that is written for it: v is held, n is the address after the instruction
 
@@ -61,22 +61,22 @@ reads n Rel16 v = pos ((v + n + 65535) % 65536)
 abbrev pub plain : ℕ → Expr
 plain v = num (pos v)
 
-abbrev pub operandOf : (n : Addressℕ) → Kind → (v : ℕ) → Operand
-operandOf n Reg v = register v
-operandOf n I8 v = value (num (reads n I8 v))
-operandOf n D9 v = value (num (reads n D9 v))
-operandOf n Bit v = value (num (reads n Bit v))
-operandOf n Rel8 v = value (num (reads n Rel8 v))
-operandOf n A12 v = value (num (reads n A12 v))
-operandOf n A16 v = value (num (reads n A16 v))
-operandOf n Rel16 v = value (num (reads n Rel16 v))
+abbrev pub operand_of : (n : Addressℕ) → Kind → (v : ℕ) → Operand
+operand_of n Reg v = register v
+operand_of n I8 v = value (num (reads n I8 v))
+operand_of n D9 v = value (num (reads n D9 v))
+operand_of n Bit v = value (num (reads n Bit v))
+operand_of n Rel8 v = value (num (reads n Rel8 v))
+operand_of n A12 v = value (num (reads n A12 v))
+operand_of n A16 v = value (num (reads n A16 v))
+operand_of n Rel16 v = value (num (reads n Rel16 v))
 
 -- the arguments of form f whose bytes are s, from argument j on
-unfoldable pub operandsFrom : (f : ℕ) (s : List ℕ) (n : Addressℕ) (j : ℕ) → List Kind → List Operand
-operandsFrom f s n j [] = []
-operandsFrom f s n j (d ∷ ds) = operandOf n d (heldIn f s j (width d)) ∷ operandsFrom f s n (suc j) ds
+unfoldable pub operands_from : (f : ℕ) (s : List ℕ) (n : Addressℕ) (j : ℕ) → List Kind → List Operand
+operands_from f s n j [] = []
+operands_from f s n j (d ∷ ds) = operand_of n d (held_in f s j (width d)) ∷ operands_from f s n (suc j) ds
 
 -- none "falls outside 0..65,535"
-unfoldable pub noneOutside : (f : ℕ) (s : List ℕ) (n : Addressℕ) (j : ℕ) → List Kind → Bool
-noneOutside f s n j [] = true
-noneOutside f s n j (d ∷ ds) = below 65536 (reads n d (heldIn f s j (width d))) && noneOutside f s n (suc j) ds
+unfoldable pub none_outside : (f : ℕ) (s : List ℕ) (n : Addressℕ) (j : ℕ) → List Kind → Bool
+none_outside f s n j [] = true
+none_outside f s n j (d ∷ ds) = below 65536 (reads n d (held_in f s j (width d))) && none_outside f s n (suc j) ds

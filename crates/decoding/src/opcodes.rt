@@ -1,7 +1,7 @@
 // The form and the size of the instruction that a byte begins.
 ghost use Rattle.std.specs.Prelude.{◌≡◌};
 ghost use Rattle.rules.specs.Forms.{size_at};
-ghost use Rattle.decoding.specs.Opcodes.{formOfByte};
+ghost use Rattle.decoding.specs.Opcodes.{form_of_byte};
 
 // A form, and its size in bytes.
 #[derive(Drop)]
@@ -9,7 +9,7 @@ pub struct Opcode(pub u8, pub usize);
 
 // "Decide by ranges of the first byte".
 pub fn decode(b: u8) -> Opcode
-    ensures { (result.0 ≡ formOfByte b) × (result.1 ≡ size_at (formOfByte b)) }
+    ensures { (result.0 ≡ form_of_byte b) × (result.1 ≡ size_at (form_of_byte b)) }
 {
     match b {
         0x00 => Opcode(0x43, 1), // Nop

@@ -1,8 +1,8 @@
 // What the bytes of an instruction hold of its arguments. b0, b1, b2 are its bytes; those that it does not have count for nothing.
 ghost use Rattle.std.specs.Prelude.{◌≡◌, [], ◌∷◌, ◌+◌, ◌*◌, ◌^◌, ◌≤◌, ◌<◌, pos};
-ghost use Rattle.decoding.specs.Operands.{width, reads, near as nearTo};
-ghost use Rattle.decoding.specs.Numbers.{numberAs};
-ghost use Rattle.decoding.specs.Runs.{hasBit, runsOf, number_in};
+ghost use Rattle.decoding.specs.Operands.{width, reads, near as near_to};
+ghost use Rattle.decoding.specs.Numbers.{number_as};
+ghost use Rattle.decoding.specs.Runs.{has_bit, runs_of, number_in};
 
 use instruction::tables;
 use rules::Kind;
@@ -10,7 +10,7 @@ use rules::Kind;
 const MOV_D9: u8 = 0x23;
 
 fn has_bit(form: u8) -> bool
-    ensures { result ≡ hasBit form }
+    ensures { result ≡ has_bit form }
 {
     match form {
         0x30 => true,
@@ -32,7 +32,7 @@ fn join(high: u8, low: u8) -> u16
 
 // What form holds of an argument of this kind.
 pub fn held(form: u8, kind: Kind, b0: u8, b1: u8, b2: u8) -> u16
-    ensures { result ≡ number_in (b0 ∷ b1 ∷ b2 ∷ []) (runsOf form kind) }
+    ensures { result ≡ number_in (b0 ∷ b1 ∷ b2 ∷ []) (runs_of form kind) }
 {
     match kind {
         Kind::Reg => join(0, b0 % 4),
@@ -73,7 +73,7 @@ pub enum Number {
 
 // A relative target outside 0..65,535 is none.
 fn inside(a: usize) -> Number
-    ensures { result ≡ numberAs (pos a) }
+    ensures { result ≡ number_as (pos a) }
 {
     if a < 65536 {
         Number::Is(a)
@@ -85,7 +85,7 @@ fn inside(a: usize) -> Number
 // Eight bits, from the address after the instruction.
 fn near(n: usize, v: usize) -> Number
     requires { (n ≤ 65536) × (v < 256) }
-    ensures { result ≡ numberAs (nearTo n v) }
+    ensures { result ≡ number_as (near_to n v) }
 {
     if v < 128 {
         return inside(n + v);
@@ -100,7 +100,7 @@ fn near(n: usize, v: usize) -> Number
 // For what is held, v, of an argument of this kind, with n the address after the instruction.
 pub fn read_as(kind: Kind, n: usize, v: u16) -> Number
     requires { (n ≤ 65536) × (v < 2 ^ width kind) }
-    ensures { result ≡ numberAs (reads n kind v) }
+    ensures { result ≡ number_as (reads n kind v) }
 {
     let w = v as usize;
     match kind {

@@ -8,28 +8,28 @@ use lib.Dec.{eqb}
 use lib.ListN.{length, get_or, drop}
 use borrow.Author.Tests.{eqb-true}
 use Rattle.laws.specs.Lists.{every, each, same}
-use Rattle.laws.proofs.Tests.{and-true, true-false}
+use Rattle.laws.proofs.Tests.{and_true, true_false}
 use Rattle.rules.specs.Answers.{ok}
 use Rattle.rules.specs.Programs.{Program}
-use Rattle.rules.specs.Listing.{Line, ListingForm, ontoLine, lines_of, formIn, statementLines, unhex, readListing}
-use Rattle.rules.specs.Output.{hexByte, line_of, mark_of}
-use Rattle.listing.specs.Form.{form_of, isMarked, afterMark}
-use Rattle.listing.proofs.Forms.{mark-form, mark-lines, marked-long}
-use Rattle.pairing.specs.Pairings.{framesOf}
-use Rattle.pairing.proofs.Accepted.{Fine, AllFine, ended-all, listing-read}
-use Rattle.pairing.proofs.DigitsBack.{digits-back}
+use Rattle.rules.specs.Listing.{Line, ListingForm, onto_line, lines_of, form_in, statement_lines, unhex, read_listing}
+use Rattle.rules.specs.Output.{hex_byte, line_of, mark_of}
+use Rattle.listing.specs.Form.{form_of, is_marked, after_mark}
+use Rattle.listing.proofs.Forms.{mark_form, mark_lines, marked_long}
+use Rattle.pairing.specs.Pairings.{frames_of}
+use Rattle.pairing.proofs.Accepted.{Fine, AllFine, ended_all, listing_read}
+use Rattle.pairing.proofs.DigitsBack.{digits_back}
 
 -- ---- a text whose lines are all ended is its lines
-join-onto : (c : ℕ) (ls : List Line) → every (λ l. l.ended) (ontoLine c ls) ≡ true
-    → each (λ l. l.chars ++ (10 ∷ [])) (ontoLine c ls) ≡ c ∷ each (λ l. l.chars ++ (10 ∷ [])) ls
+join_onto : (c : ℕ) (ls : List Line) → every (λ l. l.ended) (onto_line c ls) ≡ true
+    → each (λ l. l.chars ++ (10 ∷ [])) (onto_line c ls) ≡ c ∷ each (λ l. l.chars ++ (10 ∷ [])) ls
 unfolding every each
-join-onto c [] e = true-false (sym e)
-join-onto c (l ∷ ls) e = refl
+join_onto c [] e = true_false (sym e)
+join_onto c (l ∷ ls) e = refl
 
-onto-ended : (c : ℕ) (ls : List Line) → every (λ l. l.ended) (ontoLine c ls) ≡ true → every (λ l. l.ended) ls ≡ true
+onto_ended : (c : ℕ) (ls : List Line) → every (λ l. l.ended) (onto_line c ls) ≡ true → every (λ l. l.ended) ls ≡ true
 unfolding every
-onto-ended c [] e = refl
-onto-ended c (l ∷ ls) e = e
+onto_ended c [] e = refl
+onto_ended c (l ∷ ls) e = e
 
 lines_join : (t : List ℕ) → every (λ l. l.ended) (lines_of t) ≡ true → each (λ l. l.chars ++ (10 ∷ [])) (lines_of t) ≡ t
 unfolding lines_of
@@ -37,54 +37,54 @@ lines_join [] e = unfold each in refl
 lines_join (c ∷ t) e = on (eqb c 10) refl e (lines_join t)
   where
     on : (b : Bool) → eqb c 10 ≡ b
-        → every (λ l. l.ended) (cond b (record { chars = []; ended = true } ∷ lines_of t) (ontoLine c (lines_of t))) ≡ true
+        → every (λ l. l.ended) (cond b (record { chars = []; ended = true } ∷ lines_of t) (onto_line c (lines_of t))) ≡ true
         → (every (λ l. l.ended) (lines_of t) ≡ true → each (λ l. l.chars ++ (10 ∷ [])) (lines_of t) ≡ t)
-        → each (λ l. l.chars ++ (10 ∷ [])) (cond b (record { chars = []; ended = true } ∷ lines_of t) (ontoLine c (lines_of t))) ≡ c ∷ t
+        → each (λ l. l.chars ++ (10 ∷ [])) (cond b (record { chars = []; ended = true } ∷ lines_of t) (onto_line c (lines_of t))) ≡ c ∷ t
     on true q h below = unfold each every in rw (below h, eqb-true c 10 q)
-    on false q h below = join-onto c (lines_of t) h ∙ ap (λ (s : List ℕ). c ∷ s) (below (onto-ended c (lines_of t) h))
+    on false q h below = join_onto c (lines_of t) h ∙ ap (λ (s : List ℕ). c ∷ s) (below (onto_ended c (lines_of t) h))
 
 -- ---- each line is its frame's
-lines-frames : (ls : List Line) → AllFine ls
+lines_frames : (ls : List Line) → AllFine ls
     → each (λ l. l.chars ++ (10 ∷ [])) ls ≡ each (λ f. line_of f) (map (λ l. unhex l.chars) ls)
 unfolding each line_of
-lines-frames [] h = refl
-lines-frames (l ∷ ls) h =
+lines_frames [] h = refl
+lines_frames (l ∷ ls) h =
     let w = h.0.written in
-    rw (lines-frames ls h.1, digits-back l.chars w.digits w.even)
+    rw (lines_frames ls h.1, digits_back l.chars w.digits w.even)
 
 -- ---- the mark
-mark-front : (t : List ℕ) → isMarked t ≡ true → t ≡ mark_of (form_of true) ++ drop 5 t
-unfolding isMarked line_of each
-mark-front t h = on t (marked-long t h) h
+mark_front : (t : List ℕ) → is_marked t ≡ true → t ≡ mark_of (form_of true) ++ drop 5 t
+unfolding is_marked line_of each
+mark_front t h = on t (marked_long t h) h
   where
-    on : (s : List ℕ) → 5 ≤ length s → isMarked s ≡ true → s ≡ mark_of (form_of true) ++ drop 5 s
+    on : (s : List ℕ) → 5 ≤ length s → is_marked s ≡ true → s ≡ mark_of (form_of true) ++ drop 5 s
     on [] l e = absurd (omega arith)
     on (a ∷ []) l e = absurd (omega arith)
     on (a ∷ b ∷ []) l e = absurd (omega arith)
     on (a ∷ b ∷ c ∷ []) l e = absurd (omega arith)
     on (a ∷ b ∷ c ∷ d ∷ []) l e = absurd (omega arith)
     on (a ∷ b ∷ c ∷ d ∷ f ∷ s) l e =
-        let p = and-true (eqb a 55) _ e in
-        let q = and-true (eqb b 68) _ p.1 in
-        let r = and-true (eqb c 48) _ q.1 in
-        let u = and-true (eqb d 50) (eqb f 10) r.1 in
+        let p = and_true (eqb a 55) _ e in
+        let q = and_true (eqb b 68) _ p.1 in
+        let r = and_true (eqb c 48) _ q.1 in
+        let u = and_true (eqb d 50) (eqb f 10) r.1 in
         rw (eqb-true a 55 p.0, eqb-true b 68 q.0, eqb-true c 48 r.0, eqb-true d 50 u.0, eqb-true f 10 u.1)
 
-mark-text : (t : List ℕ) → t ≡ mark_of (form_of (isMarked t)) ++ afterMark t
-unfolding afterMark
-mark-text t = on (isMarked t) refl
+mark_text : (t : List ℕ) → t ≡ mark_of (form_of (is_marked t)) ++ after_mark t
+unfolding after_mark
+mark_text t = on (is_marked t) refl
   where
-    on : (b : Bool) → isMarked t ≡ b → t ≡ mark_of (form_of b) ++ cond b (drop 5 t) t
-    on true e = mark-front t e
+    on : (b : Bool) → is_marked t ≡ b → t ≡ mark_of (form_of b) ++ cond b (drop 5 t) t
+    on true e = mark_front t e
     on false e = refl
 
-pub text-of-frames : (t : List ℕ) (p : Program) → readListing t ≡ ok p
-    → t ≡ mark_of (formIn (lines_of t)) ++ each (λ f. line_of f) (framesOf t)
-unfolding framesOf
-text-of-frames t p e =
-    let r = listing-read t p e in
-    let ls = statementLines (lines_of t) in
-    let rest : afterMark t ≡ each (λ f. line_of f) (map (λ l. unhex l.chars) ls) =
-    sym (lines_join (afterMark t) (ap (every (λ l. l.ended)) (sym (mark-lines t)) ∙ ended-all ls r.fine))
-    ∙ ap (each (λ l. l.chars ++ (10 ∷ []))) (sym (mark-lines t)) ∙ lines-frames ls r.fine in
-    mark-text t ∙ ap₂ (λ (w : ListingForm) (s : List ℕ). mark_of w ++ s) (sym (mark-form t)) rest
+pub text_of_frames : (t : List ℕ) (p : Program) → read_listing t ≡ ok p
+    → t ≡ mark_of (form_in (lines_of t)) ++ each (λ f. line_of f) (frames_of t)
+unfolding frames_of
+text_of_frames t p e =
+    let r = listing_read t p e in
+    let ls = statement_lines (lines_of t) in
+    let rest : after_mark t ≡ each (λ f. line_of f) (map (λ l. unhex l.chars) ls) =
+    sym (lines_join (after_mark t) (ap (every (λ l. l.ended)) (sym (mark_lines t)) ∙ ended_all ls r.fine))
+    ∙ ap (each (λ l. l.chars ++ (10 ∷ []))) (sym (mark_lines t)) ∙ lines_frames ls r.fine in
+    mark_text t ∙ ap₂ (λ (w : ListingForm) (s : List ℕ). mark_of w ++ s) (sym (mark_form t)) rest

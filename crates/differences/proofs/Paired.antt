@@ -9,41 +9,41 @@ use lib.Dec.{leb, ltb}
 use lib.ListN.{length, take}
 use lib.Seq.{take_all}
 use Rattle.rules.specs.declared.Refusal.TheVariants.{Pairing}
-use Rattle.pairing.specs.Pairings.{Frames, entriesOf, pairsFrom, goodFrom, goodEntries, defaultPairs}
-use Rattle.pairing.specs.Tables.{pairsIn}
+use Rattle.pairing.specs.Pairings.{Frames, entries_of, pairs_from, good_from, good_entries, default_pairs}
+use Rattle.pairing.specs.Tables.{pairs_in}
 use Rattle.pairing.proofs.EntryList.{length_pairs}
 use Rattle.differences.specs.declared.entry.Paired.TheVariants.{Are, Refused}
-use Rattle.differences.specs.Entry.{givenAs, PairedAs}
+use Rattle.differences.specs.Entry.{given_as, PairedAs}
 
-good-most : (n m low j : ℕ) (is : List ℕ) → goodFrom n m low j is ≤ length is
-unfolding goodFrom
-good-most n m low j [] = omega arith
-good-most n m low j (i ∷ is) = on (leb low i && (ltb i n && ltb j m)) (good-most n m (suc i) (suc j) is)
+good_most : (n m low j : ℕ) (is : List ℕ) → good_from n m low j is ≤ length is
+unfolding good_from
+good_most n m low j [] = omega arith
+good_most n m low j (i ∷ is) = on (leb low i && (ltb i n && ltb j m)) (good_most n m (suc i) (suc j) is)
   where
-    on : (t : Bool) → goodFrom n m (suc i) (suc j) is ≤ length is → cond t (suc (goodFrom n m (suc i) (suc j) is)) 0 ≤ suc (length is)
+    on : (t : Bool) → good_from n m (suc i) (suc j) is ≤ length is → cond t (suc (good_from n m (suc i) (suc j) is)) 0 ≤ suc (length is)
     on true h = omega arith
     on false h = omega arith
 
 module _ (a b : Frames) (given : Bool) (pairing pairs : List ℕ) where
-  pub paired_alike : (k : ℕ) → given ≡ false → pairsIn pairs k ≡ defaultPairs a b → k ≤ 1024
-      → PairedAs a b (givenAs given pairing) pairs (Are k)
-  unfolding goodEntries goodFrom
+  pub paired_alike : (k : ℕ) → given ≡ false → pairs_in pairs k ≡ default_pairs a b → k ≤ 1024
+      → PairedAs a b (given_as given pairing) pairs (Are k)
+  unfolding good_entries good_from
   paired_alike k e h l = rw e (refl, h, l)
 
-  module _ (n m r : ℕ) (e : given ≡ true) (x : n ≡ length a) (y : m ≡ length b) (g : r ≡ goodEntries n m (entriesOf pairing)) where
-    same_good : r ≡ goodEntries (length a) (length b) (entriesOf pairing)
+  module _ (n m r : ℕ) (e : given ≡ true) (x : n ≡ length a) (y : m ≡ length b) (g : r ≡ good_entries n m (entries_of pairing)) where
+    same_good : r ≡ good_entries (length a) (length b) (entries_of pairing)
     same_good = g ∙ rw (x, y)
 
-    pub paired-entries : length (entriesOf pairing) ≤ r → pairsIn pairs r ≡ take r (pairsFrom 0 (entriesOf pairing)) → r ≤ 1024
-        → PairedAs a b (givenAs given pairing) pairs (Are r)
-    paired-entries l h few =
-        let most : goodEntries (length a) (length b) (entriesOf pairing) ≤ length (entriesOf pairing) =
-        unfold goodEntries in good-most (length a) (length b) 0 0 (entriesOf pairing) in
+    pub paired_entries : length (entries_of pairing) ≤ r → pairs_in pairs r ≡ take r (pairs_from 0 (entries_of pairing)) → r ≤ 1024
+        → PairedAs a b (given_as given pairing) pairs (Are r)
+    paired_entries l h few =
+        let most : good_entries (length a) (length b) (entries_of pairing) ≤ length (entries_of pairing) =
+        unfold good_entries in good_most (length a) (length b) 0 0 (entries_of pairing) in
         rw e (
           omega (arith, same_good),
-          h ∙ take_all r (pairsFrom 0 (entriesOf pairing)) (omega (arith, length_pairs 0 (entriesOf pairing))),
+          h ∙ take_all r (pairs_from 0 (entries_of pairing)) (omega (arith, length_pairs 0 (entries_of pairing))),
           few,
         )
 
-    pub paired-bad : r < length (entriesOf pairing) → PairedAs a b (givenAs given pairing) pairs (Refused (Pairing r))
-    paired-bad l = rw e (omega (arith, same_good), ap Pairing same_good)
+    pub paired_bad : r < length (entries_of pairing) → PairedAs a b (given_as given pairing) pairs (Refused (Pairing r))
+    paired_bad l = rw e (omega (arith, same_good), ap Pairing same_good)

@@ -7,17 +7,17 @@ use lib.ListN.{length, get_or, length-append}
 use Rattle.rules.specs.Expressions.{pair}
 use Rattle.rules.specs.Listing.{unhex}
 use Rattle.rules.specs.Output.{line_of}
-use Rattle.pairing.specs.Pairings.{Frame, Frames, framesOf}
-use Rattle.pairing.specs.Lines.{lineIn, Lined}
-use Rattle.pairing.proofs.Frames.{frame-at}
-use Rattle.differences.specs.Walks.{runText}
+use Rattle.pairing.specs.Pairings.{Frame, Frames, frames_of}
+use Rattle.pairing.specs.Lines.{line_in, Lined}
+use Rattle.pairing.proofs.Frames.{frame_at}
+use Rattle.differences.specs.Walks.{run_text}
 use Rattle.differences.proofs.Pieces.{one_size}
 
 module _ (text starts : List ℕ) (n : ℕ) (l : Lined text starts n) where
   -- one more line of a run
-  pub line_of_run : (kind i : ℕ) → i < n → length (line_of (kind ∷ (pair i ++ get_or (framesOf text) i []))) ≡ 7 + length (lineIn text i)
+  pub line_of_run : (kind i : ℕ) → i < n → length (line_of (kind ∷ (pair i ++ get_or (frames_of text) i []))) ≡ 7 + length (line_in text i)
   line_of_run kind i h =
-      ap (λ (f : Frame). length (line_of (kind ∷ (pair i ++ f)))) (frame-at text i) ∙ one_size kind i (lineIn text i) (l.written i h)
+      ap (λ (f : Frame). length (line_of (kind ∷ (pair i ++ f)))) (frame_at text i) ∙ one_size kind i (line_in text i) (l.written i h)
 
   -- a run begins no later than it ends
   pub rising : (k i : ℕ) → i + k ≤ n → get_or starts i 0 ≤ get_or starts (i + k) 0
@@ -26,42 +26,42 @@ module _ (text starts : List ℕ) (n : ℕ) (l : Lined text starts n) where
       (omega (arith, (l.lines i (omega arith)).next, rising k (suc i) (omega arith)))
 
   -- no line begins later than it may
-  pub start-bound : (i : ℕ) → i ≤ n → get_or starts i 0 ≤ 5 + 249 * i
-  start-bound zero h = l.begins
-  start-bound (suc i) h = omega (arith, (l.lines i (omega arith)).next, (l.written i (omega arith)).short, start-bound i (omega arith))
+  pub start_bound : (i : ℕ) → i ≤ n → get_or starts i 0 ≤ 5 + 249 * i
+  start_bound zero h = l.begins
+  start_bound (suc i) h = omega (arith, (l.lines i (omega arith)).next, (l.written i (omega arith)).short, start_bound i (omega arith))
 
-  run-length' : (kind k i : ℕ) → i + k ≤ n → length (runText kind (framesOf text) k i) + get_or starts i 0 ≡ get_or starts (i + k) 0 + 6 * k
-  unfolding runText
-  run-length' kind zero i h = let z : i + 0 ≡ i = omega arith in rw z (omega arith)
-  run-length' kind (suc k) i h =
+  run_length' : (kind k i : ℕ) → i + k ≤ n → length (run_text kind (frames_of text) k i) + get_or starts i 0 ≡ get_or starts (i + k) 0 + 6 * k
+  unfolding run_text
+  run_length' kind zero i h = let z : i + 0 ≡ i = omega arith in rw z (omega arith)
+  run_length' kind (suc k) i h =
       let z : i + suc k ≡ suc i + k = omega arith in
       let x = line_of_run kind i (omega arith) in
-      let y = run-length' kind k (suc i) (omega arith) in
+      let y = run_length' kind k (suc i) (omega arith) in
       rw z (omega (
         arith,
-        length-append (line_of (kind ∷ (pair i ++ get_or (framesOf text) i []))) (runText kind (framesOf text) k (suc i)),
+        length-append (line_of (kind ∷ (pair i ++ get_or (frames_of text) i []))) (run_text kind (frames_of text) k (suc i)),
         x,
         y,
         (l.lines i (omega arith)).next,
       ))
 
   pub run_length : (kind i to : ℕ) → i ≤ to → to ≤ n
-      → get_or starts to 0 - get_or starts i 0 + 6 * (to - i) ≡ length (runText kind (framesOf text) (to - i) i)
+      → get_or starts to 0 - get_or starts i 0 + 6 * (to - i) ≡ length (run_text kind (frames_of text) (to - i) i)
   run_length kind i to h k =
       let z : i + (to - i) ≡ to = omega arith in
-      omega (arith, rw z at (run-length' kind (to - i) i (omega arith)), rw z at (rising (to - i) i (omega arith)))
+      omega (arith, rw z at (run_length' kind (to - i) i (omega arith)), rw z at (rising (to - i) i (omega arith)))
 
-  pub rises-to : (i to : ℕ) → i ≤ to → to ≤ n → get_or starts i 0 ≤ get_or starts to 0
-  rises-to i to h k = let z : i + (to - i) ≡ to = omega arith in rw z at (rising (to - i) i (omega arith))
+  pub rises_to : (i to : ℕ) → i ≤ to → to ≤ n → get_or starts i 0 ≤ get_or starts to 0
+  rises_to i to h k = let z : i + (to - i) ≡ to = omega arith in rw z at (rising (to - i) i (omega arith))
 
   -- a run has no more than 255 characters a line
-  pub run-bound : (k i : ℕ) → i + k ≤ n → get_or starts (i + k) 0 ≤ get_or starts i 0 + 249 * k
-  run-bound zero i h = let z : i + 0 ≡ i = omega arith in rw z (omega arith)
-  run-bound (suc k) i h =
+  pub run_bound : (k i : ℕ) → i + k ≤ n → get_or starts (i + k) 0 ≤ get_or starts i 0 + 249 * k
+  run_bound zero i h = let z : i + 0 ≡ i = omega arith in rw z (omega arith)
+  run_bound (suc k) i h =
       let z : i + suc k ≡ suc i + k = omega arith in
-      rw z (omega (arith, (l.lines i (omega arith)).next, (l.written i (omega arith)).short, run-bound k (suc i) (omega arith)))
+      rw z (omega (arith, (l.lines i (omega arith)).next, (l.written i (omega arith)).short, run_bound k (suc i) (omega arith)))
 
-  pub run-within : (i to : ℕ) → i ≤ to → to ≤ n → get_or starts to 0 - get_or starts i 0 + 6 * (to - i) ≤ 255 * (to - i)
-  run-within i to h k =
+  pub run_within : (i to : ℕ) → i ≤ to → to ≤ n → get_or starts to 0 - get_or starts i 0 + 6 * (to - i) ≤ 255 * (to - i)
+  run_within i to h k =
       let z : i + (to - i) ≡ to = omega arith in
-      omega (arith, rw z at (run-bound (to - i) i (omega arith)))
+      omega (arith, rw z at (run_bound (to - i) i (omega arith)))

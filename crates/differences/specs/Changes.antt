@@ -21,26 +21,26 @@ abbrev pub paired : (i j : Placeℕ) (old new : Frame) → Change
 paired i j old new = cond (same old new) (kept i j new) (changed i j old new)
 
 -- n statements from a place on, all removed or all added
-unfoldable pub removedFrom : (a : Frames) (n : ℕ) (i : Placeℕ) → List Change
-removedFrom a zero i = []
-removedFrom a (suc n) i = removed i (get_or a i []) ∷ removedFrom a n (suc i)
+unfoldable pub removed_from : (a : Frames) (n : ℕ) (i : Placeℕ) → List Change
+removed_from a zero i = []
+removed_from a (suc n) i = removed i (get_or a i []) ∷ removed_from a n (suc i)
 
-unfoldable pub addedFrom : (b : Frames) (n : ℕ) (j : Placeℕ) → List Change
-addedFrom b zero j = []
-addedFrom b (suc n) j = added j (get_or b j []) ∷ addedFrom b n (suc j)
+unfoldable pub added_from : (b : Frames) (n : ℕ) (j : Placeℕ) → List Change
+added_from b zero j = []
+added_from b (suc n) j = added j (get_or b j []) ∷ added_from b n (suc j)
 
 -- "Order is kept; between pairs, removed ones come before added ones", before the first pair and behind the last one too: the
 -- differences of a from place i on and b from place j on
 unfoldable pub between : (a b : Frames) (i j : Placeℕ) → List Pair → List Change
-between a b i j [] = removedFrom a (length a - i) i ++ addedFrom b (length b - j) j
+between a b i j [] = removed_from a (length a - i) i ++ added_from b (length b - j) j
 between a b i j (p ∷ ps) =
-    removedFrom a (p.first - i) i
-    ++ (addedFrom b (p.second - j) j
+    removed_from a (p.first - i) i
+    ++ (added_from b (p.second - j) j
     ++ (paired p.first p.second (get_or a p.first []) (get_or b p.second [])
     ∷ between a b (suc p.first) (suc p.second) ps))
 
-unfoldable pub changesOf : (a b : Frames) → List Pair → List Change
-changesOf a b ps = between a b 0 0 ps
+unfoldable pub changes_of : (a b : Frames) → List Pair → List Change
+changes_of a b ps = between a b 0 0 ps
 
 -- the next statement of the first, which has to be the one that is mentioned
 abbrev pub taking : Frame → Frames → (Frames → Option Frames) → Option Frames
@@ -75,15 +75,15 @@ text_of ds = each (λ d. line_of (bytes_of d)) ds
 -- ---- and read again, from the bytes that were handed out
 
 -- two bytes from byte k on
-abbrev pub twoAt : (s : List ℕ) (k : ℕ) → ℕ
-twoAt s k = get_or s k 0 * 256 + get_or s (k + 1) 0
+abbrev pub two_at : (s : List ℕ) (k : ℕ) → ℕ
+two_at s k = get_or s k 0 * 256 + get_or s (k + 1) 0
 
-unfoldable pub changeIn : (s : List ℕ) → Change
-changeIn s =
-    cond (eqb (get_or s 0 0) 0x70) (kept (twoAt s 1) (twoAt s 3) (drop 5 s))
-    (cond (eqb (get_or s 0 0) 0x71) (removed (twoAt s 1) (drop 3 s))
-    (cond (eqb (get_or s 0 0) 0x72) (added (twoAt s 1) (drop 3 s))
-    (changed (twoAt s 1) (twoAt s 3) (take (get_or s 5 0) (drop 6 s)) (drop (get_or s 5 0) (drop 6 s)))))
+unfoldable pub change_in : (s : List ℕ) → Change
+change_in s =
+    cond (eqb (get_or s 0 0) 0x70) (kept (two_at s 1) (two_at s 3) (drop 5 s))
+    (cond (eqb (get_or s 0 0) 0x71) (removed (two_at s 1) (drop 3 s))
+    (cond (eqb (get_or s 0 0) 0x72) (added (two_at s 1) (drop 3 s))
+    (changed (two_at s 1) (two_at s 3) (take (get_or s 5 0) (drop 6 s)) (drop (get_or s 5 0) (drop 6 s)))))
 
-unfoldable pub changesIn : (text : List ℕ) → List Change
-changesIn text = map (λ l. changeIn (unhex l.chars)) (lines_of text)
+unfoldable pub changes_in : (text : List ℕ) → List Change
+changes_in text = map (λ l. change_in (unhex l.chars)) (lines_of text)

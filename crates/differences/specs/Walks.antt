@@ -4,17 +4,17 @@ use Rattle.rules.specs.Expressions.{pair}
 use Rattle.rules.specs.Programs.{Placeℕ}
 use Rattle.rules.specs.Listing.{unhex}
 use Rattle.rules.specs.Output.{line_of}
-use Rattle.pairing.specs.Pairings.{Frames, framesOf}
+use Rattle.pairing.specs.Pairings.{Frames, frames_of}
 use Rattle.pairing.specs.Promise.{InOrder}
 use Rattle.pairing.specs.Lines.{Lined}
-use Rattle.pairing.specs.Tables.{pairsIn}
-use Rattle.differences.specs.Changes.{paired, bytes_of, changesOf, text_of}
+use Rattle.pairing.specs.Tables.{pairs_in}
+use Rattle.differences.specs.Changes.{paired, bytes_of, changes_of, text_of}
 use Rattle.differences.specs.declared.walks.Counts.{Counts}
 
 -- n frames from place i on, each a line of this kind: all removed or all added
-unfoldable pub runText : (kind : ℕ) (a : Frames) (n : ℕ) (i : Placeℕ) → List ℕ
-runText kind a zero i = []
-runText kind a (suc n) i = line_of (kind ∷ (pair i ++ get_or a i [])) ++ runText kind a n (suc i)
+unfoldable pub run_text : (kind : ℕ) (a : Frames) (n : ℕ) (i : Placeℕ) → List ℕ
+run_text kind a zero i = []
+run_text kind a (suc n) i = line_of (kind ∷ (pair i ++ get_or a i [])) ++ run_text kind a n (suc i)
 
 -- how many characters the line of a pair has
 abbrev pub PairSize : (old new : List ℕ) (r : ℕ) → Type 0
@@ -25,8 +25,8 @@ pub record Ready (first firsts second seconds pairs : List ℕ) (counts : Counts
   pub lined : Lined first firsts counts.first
   pub lined' : Lined second seconds counts.second
   pub few : counts.pairs ≤ 1024
-  pub order : InOrder counts.first counts.second 0 0 (pairsIn pairs counts.pairs)
+  pub order : InOrder counts.first counts.second 0 0 (pairs_in pairs counts.pairs)
 
 -- the text of their differences
-abbrev pub textFor : (first second pairs : List ℕ) → Counts → List ℕ
-textFor first second pairs counts = text_of (changesOf (framesOf first) (framesOf second) (pairsIn pairs counts.pairs))
+abbrev pub text_for : (first second pairs : List ℕ) → Counts → List ℕ
+text_for first second pairs counts = text_of (changes_of (frames_of first) (frames_of second) (pairs_in pairs counts.pairs))

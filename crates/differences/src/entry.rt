@@ -1,12 +1,12 @@
 // The entry: 1 and 2 of the first listing, the second's form, its 1 and 2, 13, 12, and then the text.
 ghost use Rattle.std.specs.Prelude.{◌≡◌, true, ◌≤◌, length};
-ghost use Rattle.rules.specs.Answers.{isOk};
-ghost use Rattle.rules.specs.Listing.{lines_of, formIn, readListing};
-ghost use Rattle.pairing.specs.Pairings.{framesOf};
-ghost use Rattle.pairing.specs.Lines.{charsOf, Lined};
-ghost use Rattle.differences.specs.Differences.{of_both, text, after, sameForm, compared, differences as differencesOf};
-ghost use Rattle.differences.specs.Entry.{givenAs, PairedAs, roomed, Leaves};
-ghost use Rattle.differences.specs.Walks.{Ready, textFor};
+ghost use Rattle.rules.specs.Answers.{is_ok};
+ghost use Rattle.rules.specs.Listing.{lines_of, form_in, read_listing};
+ghost use Rattle.pairing.specs.Pairings.{frames_of};
+ghost use Rattle.pairing.specs.Lines.{chars_of, Lined};
+ghost use Rattle.differences.specs.Differences.{of_both, text, after, same_form, compared, differences as differences_of};
+ghost use Rattle.differences.specs.Entry.{given_as, PairedAs, roomed, Leaves};
+ghost use Rattle.differences.specs.Walks.{Ready, text_for};
 
 use crate::walks::{Counts, measure, put_all};
 use listing::new_form;
@@ -24,7 +24,7 @@ pub enum Differs {
 
 // Whether both listings have source lines, or neither.
 fn same_form(first: &[u8], second: &[u8]) -> bool
-    ensures { result ≡ sameForm (formIn (lines_of first.now)) (formIn (lines_of second.now)) }
+    ensures { result ≡ same_form (form_in (lines_of first.now)) (form_in (lines_of second.now)) }
 {
     let lined = new_form(second);
     if new_form(first) { lined } else { !lined }
@@ -50,7 +50,7 @@ fn pair_up(
 ) -> Paired
     requires { Lined first.now firsts.now counts.first × Lined second.now seconds.now counts.second
         × (length pairs.old ≡ 2048) }
-    ensures { PairedAs (framesOf first.now) (framesOf second.now) (givenAs given pairing.now)
+    ensures { PairedAs (frames_of first.now) (frames_of second.now) (given_as given pairing.now)
         pairs.new result }
 {
     let n = counts.first;
@@ -76,7 +76,7 @@ fn write_differences(
     out: &mut [u8],
 ) -> Differs
     requires { Ready first.now firsts.now second.now seconds.now pairs.now counts }
-    ensures { let t = textFor first.now second.now pairs.now counts in
+    ensures { let t = text_for first.now second.now pairs.now counts in
         Leaves (roomed t counts.first (length out.old)) result out.old out.new }
 {
     let size = measure(first, firsts, second, seconds, counts, pairs);
@@ -97,10 +97,10 @@ fn compare(
     pairing: &[u8],
     out: &mut [u8],
 ) -> Differs
-    requires { (isOk (readListing first.now) ≡ true) × (n ≡ length (charsOf first.now))
-        × (isOk (readListing second.now) ≡ true) × (m ≡ length (charsOf second.now)) }
-    ensures { let x = compared (framesOf first.now) (framesOf second.now)
-        (givenAs given pairing.now) n (length out.old) in
+    requires { (is_ok (read_listing first.now) ≡ true) × (n ≡ length (chars_of first.now))
+        × (is_ok (read_listing second.now) ≡ true) × (m ≡ length (chars_of second.now)) }
+    ensures { let x = compared (frames_of first.now) (frames_of second.now)
+        (given_as given pairing.now) n (length out.old) in
         Leaves (after of_both x text) result out.old out.new }
 {
     let mut firsts = [0usize; 1025];
@@ -136,7 +136,7 @@ pub fn differences(
     pairing: &[u8],
     out: &mut [u8],
 ) -> Differs
-    ensures { let x = differencesOf first.now second.now (givenAs given pairing.now)
+    ensures { let x = differences_of first.now second.now (given_as given pairing.now)
         (length out.old) in
         Leaves x result out.old out.new }
 {

@@ -1,9 +1,9 @@
 // The walk over two listings: up to each pair what is removed, then what is added, then the pair; and behind the last one the same.
 ghost use Rattle.std.specs.Prelude.{◌≡◌, ◌+◌, ◌-◌, ◌*◌, ◌≤◌, ◌<◌, length, get_or};
 ghost use Rattle.digits.specs.Digits.{laid};
-ghost use Rattle.pairing.specs.Pairings.{framesOf};
+ghost use Rattle.pairing.specs.Pairings.{frames_of};
 ghost use Rattle.pairing.specs.Lines.{Lined};
-ghost use Rattle.differences.specs.Walks.{Ready, runText, textFor};
+ghost use Rattle.differences.specs.Walks.{Ready, run_text, text_for};
 
 use crate::lines::{pair_size, put_one, put_pair};
 use pairing::line_at;
@@ -39,7 +39,7 @@ pub fn measure(
     pairs: &[usize; 2048],
 ) -> usize
     requires { Ready first.now firsts.now second.now seconds.now pairs.now counts }
-    ensures { result ≡ length (textFor first.now second.now pairs.now counts) }
+    ensures { result ≡ length (text_for first.now second.now pairs.now counts) }
 {
     let n = counts.first;
     let m = counts.second;
@@ -72,8 +72,8 @@ fn put_run(
     at: usize,
 ) -> usize
     requires { Lined text.now starts.now n × (from ≤ to) × (to ≤ n)
-        × (at + length (runText kind (framesOf text.now) (to - from) from) ≤ length out.old) }
-    ensures { let x = runText kind (framesOf text.now) (to - from) from in
+        × (at + length (run_text kind (frames_of text.now) (to - from) from) ≤ length out.old) }
+    ensures { let x = run_text kind (frames_of text.now) (to - from) from in
         (out.new ≡ laid out.old at x) × (result ≡ at + length x) }
 {
     let mut a = at;
@@ -96,8 +96,8 @@ pub fn put_all(
     out: &mut [u8],
 )
     requires { Ready first.now firsts.now second.now seconds.now pairs.now counts
-        × (length (textFor first.now second.now pairs.now counts) ≤ length out.old) }
-    ensures { let x = textFor first.now second.now pairs.now counts in
+        × (length (text_for first.now second.now pairs.now counts) ≤ length out.old) }
+    ensures { let x = text_for first.now second.now pairs.now counts in
         out.new ≡ laid out.old 0 x }
 {
     let n = counts.first;

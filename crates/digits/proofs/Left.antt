@@ -8,18 +8,18 @@ use Rattle.rules.specs.declared.Answer.TheVariants.{Done, Refused}
 use Rattle.rules.specs.declared.Refusal.{Refusal}
 use Rattle.rules.specs.Answers.{Judged, ok, no}
 use Rattle.digits.specs.Digits.{laid}
-use Rattle.digits.specs.Leaves.{answerAs, roomAs, Leaves}
-use Rattle.digits.proofs.Rooms.{laid-front}
+use Rattle.digits.specs.Leaves.{answer_as, room_as, Leaves}
+use Rattle.digits.proofs.Rooms.{laid_front}
 
 pub refused : (x : Judged (List ℕ)) (r : Refusal) (room : List ℕ) → x ≡ no r → Leaves x (Refused r) room room
-refused x r room e = record { answer = sym (ap answerAs e); room = sym (ap (λ (y : Judged (List ℕ)). roomAs y room) e) }
+refused x r room e = record { answer = sym (ap answer_as e); room = sym (ap (λ (y : Judged (List ℕ)). room_as y room) e) }
 
 pub written : (x : Judged (List ℕ)) (text : List ℕ) (n : ℕ) (room after : List ℕ) → x ≡ ok text → n ≡ length text → after ≡ laid room 0 text
     → Leaves x (Done (record { listing = n; rewrites = 0; image = 0 })) room after
 written x text n room after e k w =
     record {
-      answer = ap (λ (m : ℕ). Done (record { listing = m; rewrites = 0; image = 0 })) k ∙ sym (ap answerAs e);
-      room = w ∙ laid-front room text ∙ sym (ap (λ (y : Judged (List ℕ)). roomAs y room) e);
+      answer = ap (λ (m : ℕ). Done (record { listing = m; rewrites = 0; image = 0 })) k ∙ sym (ap answer_as e);
+      room = w ∙ laid_front room text ∙ sym (ap (λ (y : Judged (List ℕ)). room_as y room) e);
     }
 
 -- "Show that any two results allowed by the contract coincide": the answer, and every byte of the room

@@ -8,13 +8,13 @@ use lib.ListN.{length, get_or, set, take, drop, length-append, length-drop, take
 use lib.Seq.{length-take-le, set_split, drop-drop}
 use Rattle.laws.specs.Lists.{each}
 use Rattle.laws.proofs.Lists.{each_more}
-use Rattle.laws.proofs.Stores.{front-put}
-use Rattle.rules.specs.Output.{hexByte, line_of}
-use Rattle.digits.specs.Digits.{hexOf, laid}
+use Rattle.laws.proofs.Stores.{front_put}
+use Rattle.rules.specs.Output.{hex_byte, line_of}
+use Rattle.digits.specs.Digits.{hex_of, laid}
 
-pub length-laid : (d : List ℕ) (a : ℕ) (x : List ℕ) → a + length x ≤ length d → length (laid d a x) ≡ length d
+pub length_laid : (d : List ℕ) (a : ℕ) (x : List ℕ) → a + length x ≤ length d → length (laid d a x) ≡ length d
 unfolding laid
-length-laid d a x h =
+length_laid d a x h =
     omega (
       arith,
       length-append (take a d) (x ++ drop (a + length x) d),
@@ -31,39 +31,39 @@ laid_more d x y a b e h =
     let out : List ℕ = laid d a x in
     let room : out ≡ (take a d ++ x) ++ drop b d = rw (← e) (sym (append_assoc (take a d) x (drop (a + length x) d))) in
     let all : a + length (x ++ y) ≡ b + length y = omega (arith, length-append x y) in
-    front-put (take a d ++ x) d out b room size y (laid out b y) (length y) (rw (drop-drop (length y) b out))
+    front_put (take a d ++ x) d out b room size y (laid out b y) (length y) (rw (drop-drop (length y) b out))
     ∙ rw (all, append_assoc (take a d) x y, append_assoc (take a d) (x ++ y) (drop (b + length y) d))
 
 pub laid_one : (d : List ℕ) (a v : ℕ) → a < length d → set d a v ≡ laid d a (v ∷ [])
 unfolding laid
 laid_one d a v h = set_split d a v h ∙ rw (add-one a)
 
-pub laid-two : (d : List ℕ) (a v w : ℕ) → a + 2 ≤ length d → set (set d a v) (a + 1) w ≡ laid d a (v ∷ w ∷ [])
-laid-two d a v w h =
+pub laid_two : (d : List ℕ) (a v w : ℕ) → a + 2 ≤ length d → set (set d a v) (a + 1) w ≡ laid d a (v ∷ w ∷ [])
+laid_two d a v w h =
     let one : set d a v ≡ laid d a (v ∷ []) = laid_one d a v (omega arith) in
-    let l = length-laid d a (v ∷ []) (omega arith) in
+    let l = length_laid d a (v ∷ []) (omega arith) in
     rw one (laid_one (laid d a (v ∷ [])) (a + 1) w (omega arith) ∙ laid_more d (v ∷ []) (w ∷ []) a (a + 1) refl (omega arith))
 
 -- from the start
-pub laid-front : (d x : List ℕ) → laid d 0 x ≡ x ++ drop (length x) d
+pub laid_front : (d x : List ℕ) → laid d 0 x ≡ x ++ drop (length x) d
 unfolding laid
-laid-front d x = let z : 0 + length x ≡ length x = omega arith in rw z
+laid_front d x = let z : 0 + length x ≡ length x = omega arith in rw z
 
-pub laid-nothing : (d : List ℕ) (a : ℕ) → laid d a [] ≡ d
+pub laid_nothing : (d : List ℕ) (a : ℕ) → laid d a [] ≡ d
 unfolding laid
-laid-nothing d a = let z : a + 0 ≡ a = omega arith in rw z (take-append-drop a d)
+laid_nothing d a = let z : a + 0 ≡ a = omega arith in rw z (take-append-drop a d)
 
 -- ---- digits
 
-pub length-hex : (s : List ℕ) → length (hexOf s) ≡ 2 * length s
+pub length_hex : (s : List ℕ) → length (hex_of s) ≡ 2 * length s
 unfolding each
-length-hex [] = refl
-length-hex (b ∷ s) = omega (arith, length-hex s)
+length_hex [] = refl
+length_hex (b ∷ s) = omega (arith, length_hex s)
 
-pub hex-more : (s : List ℕ) (k : ℕ) → k < length s → hexOf (take (k + 1) s) ≡ hexOf (take k s) ++ hexByte (get_or s k 0)
-hex-more s k h = each_more (λ b. hexByte b) s k 0 h
+pub hex_more : (s : List ℕ) (k : ℕ) → k < length s → hex_of (take (k + 1) s) ≡ hex_of (take k s) ++ hex_byte (get_or s k 0)
+hex_more s k h = each_more (λ b. hex_byte b) s k 0 h
 
 -- bytes and the line feed
-pub length-line : (s : List ℕ) → length (line_of s) ≡ 2 * length s + 1
+pub length_line : (s : List ℕ) → length (line_of s) ≡ 2 * length s + 1
 unfolding line_of
-length-line s = length-append (hexOf s) (10 ∷ []) ∙ omega (arith, length-hex s)
+length_line s = length-append (hex_of s) (10 ∷ []) ∙ omega (arith, length_hex s)

@@ -6,15 +6,15 @@ use Rattle.rules.specs.Answers.{Judged, ok, no}
 use Rattle.rules.specs.Run.{front}
 
 -- a text is written, and no image
-abbrev pub answerAs : Judged (List ℕ) → Answer
-answerAs (ok text) = Done (record { listing = length text; rewrites = 0; image = 0 })
-answerAs (no r) = Refused r
+abbrev pub answer_as : Judged (List ℕ) → Answer
+answer_as (ok text) = Done (record { listing = length text; rewrites = 0; image = 0 })
+answer_as (no r) = Refused r
 
 -- "No lent byte changes" on refusal; "On acceptance, room beyond the result is unchanged."
-abbrev pub roomAs : Judged (List ℕ) → (room : List ℕ) → List ℕ
-roomAs (ok text) room = front text room
-roomAs (no r) room = room
+abbrev pub room_as : Judged (List ℕ) → (room : List ℕ) → List ℕ
+room_as (ok text) room = front text room
+room_as (no r) room = room
 
 pub record Leaves (x : Judged (List ℕ)) (r : Answer) (before after : List ℕ) : Type 0 where
-  pub answer : r ≡ answerAs x
-  pub room : after ≡ roomAs x before
+  pub answer : r ≡ answer_as x
+  pub room : after ≡ room_as x before

@@ -1,11 +1,11 @@
 // Bytes to upper-case digit pairs, stored in a lent room.
 ghost use Rattle.std.specs.Prelude.{◌≡◌, ◌+◌, ◌*◌, ◌<◌, ◌≤◌, ◌/◌, ◌%◌, length};
-ghost use Rattle.rules.specs.Output.{hexDigit, hexByte, line_of};
-ghost use Rattle.digits.specs.Digits.{hexOf, laid};
+ghost use Rattle.rules.specs.Output.{hex_digit, hex_byte, line_of};
+ghost use Rattle.digits.specs.Digits.{hex_of, laid};
 
 fn hex_digit(d: u8) -> u8
     requires { d < 16 }
-    ensures { result ≡ hexDigit d }
+    ensures { result ≡ hex_digit d }
 {
     if d < 10 { 48 + d } else { 55 + d }
 }
@@ -13,7 +13,7 @@ fn hex_digit(d: u8) -> u8
 // The two digits of a byte, the high one first.
 pub fn put_byte(out: &mut [u8], at: usize, b: u8)
     requires { at + 2 ≤ length out.old }
-    ensures { out.new ≡ laid out.old at (hexByte b) }
+    ensures { out.new ≡ laid out.old at (hex_byte b) }
 {
     out[at] = hex_digit(b / 16);
     out[at + 1] = hex_digit(b % 16);
@@ -22,7 +22,7 @@ pub fn put_byte(out: &mut [u8], at: usize, b: u8)
 // The digits of the bytes of s, from `at` on.
 pub fn put_bytes(out: &mut [u8], at: usize, s: &[u8])
     requires { at + 2 * length s.now ≤ length out.old }
-    ensures { out.new ≡ laid out.old at (hexOf s.now) }
+    ensures { out.new ≡ laid out.old at (hex_of s.now) }
 {
     let mut k = 0;
     while k < s.len() {

@@ -7,7 +7,7 @@ use Rattle.rules.specs.Answers.{Judged}
 use Rattle.rules.specs.Run.{Output}
 use Rattle.finishing.specs.Ending.{Delivers}
 
-pub one-run : (x : Judged Output) (listing image : List ℕ) (a b : Answer) (la ia lb ib : List ℕ)
+pub one_run : (x : Judged Output) (listing image : List ℕ) (a b : Answer) (la ia lb ib : List ℕ)
     → Delivers x a listing image la ia → Delivers x b listing image lb ib → (a ≡ b) × (la ≡ lb) × (ia ≡ ib)
-one-run x listing image a b la ia lb ib d e =
-    (d.answers ∙ sym e.answers, d.listing-is ∙ sym e.listing-is, d.image-is ∙ sym e.image-is)
+one_run x listing image a b la ia lb ib d e =
+    (d.answers ∙ sym e.answers, d.listing_is ∙ sym e.listing_is, d.image_is ∙ sym e.image_is)

@@ -12,12 +12,12 @@ use Rattle.rules.specs.Answers.{Judged, ok, no, ◌>>=◌}
 use Rattle.rules.specs.Run.{Output, answer_of}
 use Rattle.promises.specs.Demand1.{Cause}
 use Rattle.promises.specs.Demand2.{Accepted, Answered}
-use Rattle.promises.proofs.Entry.{on-acceptance, accepts, on-refusal, refuses}
-use Rattle.walk.proofs.Entry.{walked-alike}
+use Rattle.promises.proofs.Entry.{on_acceptance, accepts, on_refusal, refuses}
+use Rattle.walk.proofs.Entry.{walked_alike}
 use Rattle.finishing.specs.Ending.{Delivers}
 use Rattle.store.specs.declared.Edition.{Edition}
 use Rattle.editions.specs.Under.{under}
-use Rattle.editions.specs.Promise.{AcceptedUnder, RefusedUnder, by-store, by-run}
+use Rattle.editions.specs.Promise.{AcceptedUnder, RefusedUnder, by_store, by_run}
 
 module _ (text listing image : List ℕ) (listing' image' : List ℕ) where
   abbrev Under : Judged Edition → Answer → Type 0
@@ -26,37 +26,37 @@ module _ (text listing image : List ℕ) (listing' image' : List ℕ) where
   -- the contract of the main entry, at the settings found
   pub answered : (e : Edition) (r : Answer) → Under (ok e) r → Answered e.settings text listing image r listing' image'
   unfolding under ◌>>=◌
-  answered e r d = record { answers = d.answers; listing-is = d.listing-is; image-is = d.image-is }
+  answered e r d = record { answers = d.answers; listing_is = d.listing_is; image_is = d.image_is }
 
-  pub accepted-under : (asked : Judged Edition) (sizes : Sizes) → Under asked (Done sizes)
+  pub accepted_under : (asked : Judged Edition) (sizes : Sizes) → Under asked (Done sizes)
       → AcceptedUnder asked text listing image sizes listing' image'
   unfolding under ◌>>=◌
-  accepted-under (ok e) sizes d =
+  accepted_under (ok e) sizes d =
       let a = answered e (Done sizes) d in
       record {
         edition = e;
         found = refl;
-        on-acceptance = on-acceptance e.settings text listing image sizes listing' image' a;
-        walked-alike = walked-alike e.settings text listing image sizes listing' image' a;
+        on_acceptance = on_acceptance e.settings text listing image sizes listing' image' a;
+        walked_alike = walked_alike e.settings text listing image sizes listing' image' a;
       }
-  accepted-under (no r) sizes d = let q = d.answers in clash (cc)
+  accepted_under (no r) sizes d = let q = d.answers in clash (cc)
 
-  pub refused-under : (asked : Judged Edition) (r : Refusal) → Under asked (Refused r)
+  pub refused_under : (asked : Judged Edition) (r : Refusal) → Under asked (Refused r)
       → RefusedUnder asked text listing image r listing' image'
   unfolding under ◌>>=◌
-  refused-under (ok e) r d = by-run e refl (on-refusal e.settings text listing image r listing' image' (answered e (Refused r) d))
-  refused-under (no s) r d =
+  refused_under (ok e) r d = by_run e refl (on_refusal e.settings text listing image r listing' image' (answered e (Refused r) d))
+  refused_under (no s) r d =
       let q : s ≡ r = told s r d.answers in
-      by-store (ap no q) d.listing-is d.image-is
+      by_store (ap no q) d.listing_is d.image_is
     where
       told : (s r : Refusal) → Refused r ≡ Refused s → s ≡ r
       told s r e = cc
 
   -- and "exactly when": what is accepted under the settings found is answered so, and what has a cause there is refused with it
-  pub accepts-under : (e : Edition) (o : Output) (r : Answer) → Under (ok e) r
+  pub accepts_under : (e : Edition) (o : Output) (r : Answer) → Under (ok e) r
       → Accepted e.settings text (length listing) (length image) o → r ≡ answer_of (ok o)
-  accepts-under e o r d a = accepts e.settings text listing image o r listing' image' (answered e r d) a
+  accepts_under e o r d a = accepts e.settings text listing image o r listing' image' (answered e r d) a
 
-  pub refuses-under : (e : Edition) (s : Refusal) (r : Answer) → Under (ok e) r
+  pub refuses_under : (e : Edition) (s : Refusal) (r : Answer) → Under (ok e) r
       → Cause e.settings text (length listing) (length image) s → r ≡ Refused s
-  refuses-under e s r d c = refuses e.settings text listing image s r listing' image' (answered e r d) c
+  refuses_under e s r d c = refuses e.settings text listing image s r listing' image' (answered e r d) c

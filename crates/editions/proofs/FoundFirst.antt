@@ -12,28 +12,28 @@ use Rattle.finishing.specs.Ending.{Delivers}
 use Rattle.store.specs.declared.Edition.{Edition}
 use Rattle.store.specs.declared.Found.{Found}
 use Rattle.store.specs.declared.Found.TheVariants.{Is, Refused}
-use Rattle.store.specs.Rooms.{foundAs}
-use Rattle.editions.specs.Under.{under, runFound}
+use Rattle.store.specs.Rooms.{found_as}
+use Rattle.editions.specs.Under.{under, run_found}
 
 module _ (text out image : List ℕ) where
-  pub found-not : (x : Found) (r : Refusal) → x ≡ Refused r
-      → Delivers (runFound x text (length out) (length image)) (NotDone r) out image out image
-  found-not x r e = record { answers = rw e; listing-is = rw e; image-is = rw e }
+  pub found_not : (x : Found) (r : Refusal) → x ≡ Refused r
+      → Delivers (run_found x text (length out) (length image)) (NotDone r) out image out image
+  found_not x r e = record { answers = rw e; listing_is = rw e; image_is = rw e }
 
-  pub found-is : (x : Found) (e : Edition) (a : Answer) (out' image' : List ℕ) → x ≡ Is e
+  pub found_is : (x : Found) (e : Edition) (a : Answer) (out' image' : List ℕ) → x ≡ Is e
       → Answered e.settings text out image a out' image'
-      → Delivers (runFound x text (length out) (length image)) a out image out' image'
-  found-is x e a out' image' q h = record { answers = rw q h.answers; listing-is = rw q h.listing-is; image-is = rw q h.image-is }
+      → Delivers (run_found x text (length out) (length image)) a out image out' image'
+  found_is x e a out' image' q h = record { answers = rw q h.answers; listing_is = rw q h.listing_is; image_is = rw q h.image_is }
 
   -- the code's answer is what the definitions ask of the store
-  same-run : (x : Judged Edition) → runFound (foundAs x) text (length out) (length image) ≡ under x text (length out) (length image)
+  same_run : (x : Judged Edition) → run_found (found_as x) text (length out) (length image) ≡ under x text (length out) (length image)
   unfolding under ◌>>=◌
-  same-run (ok e) = refl
-  same-run (no r) = refl
+  same_run (ok e) = refl
+  same_run (no r) = refl
 
-  pub delivered : (x : Judged Edition) (y : Found) (a : Answer) (out' image' : List ℕ) → y ≡ foundAs x
-      → Delivers (runFound y text (length out) (length image)) a out image out' image'
+  pub delivered : (x : Judged Edition) (y : Found) (a : Answer) (out' image' : List ℕ) → y ≡ found_as x
+      → Delivers (run_found y text (length out) (length image)) a out image out' image'
       → Delivers (under x text (length out) (length image)) a out image out' image'
   delivered x y a out' image' e d =
-      let q = ap (λ (z : Found). runFound z text (length out) (length image)) e ∙ same-run x in
+      let q = ap (λ (z : Found). run_found z text (length out) (length image)) e ∙ same_run x in
       rw q at d

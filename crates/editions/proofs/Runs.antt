@@ -11,11 +11,11 @@ use Rattle.laws.specs.Lists.{same}
 use Rattle.laws.specs.Counts.{tab}
 use Rattle.rules.specs.Answers.{Judged, ◌>>=◌, ◌>>◌}
 use Rattle.rules.specs.Listing.{unhex}
-use Rattle.rules.specs.Run.{Output, printed, listingRoomOfProgram, imageRoomOfProgram}
+use Rattle.rules.specs.Run.{Output, printed, listing_room_of_program, image_room_of_program}
 use Rattle.rules.proofs.Computed.{chars, lines, all, answer}
-use Rattle.store.specs.Store.{noneHolds, noneTwice, isGood, find, newest, get, getNewest}
-use Rattle.store.specs.Rooms.{storeIn, judged, inStore}
-use Rattle.editions.specs.Under.{under, runEdition, runNewest}
+use Rattle.store.specs.Store.{none_holds, none_twice, is_good, find, newest, get, get_newest}
+use Rattle.store.specs.Rooms.{store_in, judged, in_store}
+use Rattle.editions.specs.Under.{under, run_edition, run_newest}
 
 -- a room of n bytes that begins so
 unfoldable room : (n : ℕ) → String → List ℕ
@@ -23,15 +23,15 @@ unfolding unhex
 room n s = let x : List ℕ = unhex (chars s) in take n (x ++ replicate 160 0)
 
 unfoldable prints : Judged Output → String → Bool
-unfolding answer same tab noneHolds noneTwice isGood find newest get getNewest storeIn judged inStore under room
+unfolding answer same tab none_holds none_twice is_good find newest get get_newest store_in judged in_store under room
 prints x expected = same (printed x) (lines expected)
 
 -- under an edition of family 7, and under its newest
 abbrev edition : (store : String) (e : ℕ) (text expected : String) → Bool
-edition store e text expected = prints (runEdition (room 160 store) 7 e (lines text) listingRoomOfProgram imageRoomOfProgram) expected
+edition store e text expected = prints (run_edition (room 160 store) 7 e (lines text) listing_room_of_program image_room_of_program) expected
 
-abbrev theNewest : (store : String) (text expected : String) → Bool
-theNewest store text expected = prints (runNewest (room 160 store) 7 (lines text) listingRoomOfProgram imageRoomOfProgram) expected
+abbrev the_newest : (store : String) (text expected : String) → Bool
+the_newest store text expected = prints (run_newest (room 160 store) 7 (lines text) listing_room_of_program image_room_of_program) expected
 
 runs : List Bool
 runs =
@@ -47,19 +47,19 @@ runs =
     -- an old edition and the newest, whichever stands first
     edition "00070002060007000107" 1 "04AA 0143" "04AA 0143 7F0000000001" ∷
     edition "00070002060007000107" 2 "04AA 0143" "0143 7F0000000001" ∷
-    theNewest "00070002060007000107" "04AA 0143" "0143 7F0000000001" ∷
-    theNewest "00070001070007000206" "04AA 0143" "0143 7F0000000001" ∷
+    the_newest "00070002060007000107" "04AA 0143" "0143 7F0000000001" ∷
+    the_newest "00070001070007000206" "04AA 0143" "0143 7F0000000001" ∷
     -- 17, 19 and 12 of the store go before 1 of the listing
     edition "0007000107" 2 "00" "7E1100000000000000" ∷
-    theNewest "0008000107" "00" "7E1100000000000000" ∷
+    the_newest "0008000107" "00" "7E1100000000000000" ∷
     edition "0007000108" 1 "00" "7E1300000000000000" ∷
-    prints (runNewest (room 159 "0007000107") 7 (lines "00") listingRoomOfProgram imageRoomOfProgram) "7E0C00000000000000" ∷
+    prints (run_newest (room 159 "0007000107") 7 (lines "00") listing_room_of_program image_room_of_program) "7E0C00000000000000" ∷
     edition "0007000107" 1 "00" "7E0100000000000000" ∷
     -- 12 of the listing's room has the statement count
-    prints (runNewest (room 160 "0007000107") 7 (lines "0143 0143") 9 2) "7E0C00020000000000" ∷
-    prints (runNewest (room 160 "0007000107") 7 (lines "0143 0143") 10 2) "0143 0143 7F0000000002" ∷
+    prints (run_newest (room 160 "0007000107") 7 (lines "0143 0143") 9 2) "7E0C00020000000000" ∷
+    prints (run_newest (room 160 "0007000107") 7 (lines "0143 0143") 10 2) "0143 0143 7F0000000002" ∷
     []
 
-runs-hold : T (all runs)
+runs_hold : T (all runs)
 unfolding all runs prints
-runs-hold = tt
+runs_hold = tt

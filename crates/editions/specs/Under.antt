@@ -6,23 +6,23 @@ use Rattle.rules.specs.Run.{Output, run}
 use Rattle.store.specs.declared.Edition.{Edition}
 use Rattle.store.specs.declared.Found.{Found}
 use Rattle.store.specs.declared.Found.TheVariants.{Is, Refused}
-use Rattle.store.specs.Rooms.{getIn, newestIn}
+use Rattle.store.specs.Rooms.{get_in, newest_in}
 
 -- the run under what was asked of the store, if that is not refused
-unfoldable pub under : Judged Edition → (text : List ℕ) (listingRoom imageRoom : ℕ) → Judged Output
-under x text listingRoom imageRoom = do
+unfoldable pub under : Judged Edition → (text : List ℕ) (listing_room image_room : ℕ) → Judged Output
+under x text listing_room image_room = do
   e ← x
-  run e.settings text listingRoom imageRoom
+  run e.settings text listing_room image_room
 
 -- under edition e of family f
-abbrev pub runEdition : (store : List ℕ) (f e : ℕ) (text : List ℕ) (listingRoom imageRoom : ℕ) → Judged Output
-runEdition store f e text listingRoom imageRoom = under (getIn store f e) text listingRoom imageRoom
+abbrev pub run_edition : (store : List ℕ) (f e : ℕ) (text : List ℕ) (listing_room image_room : ℕ) → Judged Output
+run_edition store f e text listing_room image_room = under (get_in store f e) text listing_room image_room
 
 -- under the newest edition of family f
-abbrev pub runNewest : (store : List ℕ) (f : ℕ) (text : List ℕ) (listingRoom imageRoom : ℕ) → Judged Output
-runNewest store f text listingRoom imageRoom = under (newestIn store f) text listingRoom imageRoom
+abbrev pub run_newest : (store : List ℕ) (f : ℕ) (text : List ℕ) (listing_room image_room : ℕ) → Judged Output
+run_newest store f text listing_room image_room = under (newest_in store f) text listing_room image_room
 
 -- the same by the code's answer
-abbrev pub runFound : Found → (text : List ℕ) (listingRoom imageRoom : ℕ) → Judged Output
-runFound (Is e) text listingRoom imageRoom = run e.settings text listingRoom imageRoom
-runFound (Refused r) text listingRoom imageRoom = no r
+abbrev pub run_found : Found → (text : List ℕ) (listing_room image_room : ℕ) → Judged Output
+run_found (Is e) text listing_room image_room = run e.settings text listing_room image_room
+run_found (Refused r) text listing_room image_room = no r

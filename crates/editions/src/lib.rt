@@ -1,7 +1,7 @@
 // C-24: a run under a family's edition, or under its newest. The store is judged and asked first; the run is that of the settings found.
 ghost use Rattle.std.specs.Prelude.{length};
 ghost use Rattle.finishing.specs.Ending.{Delivers};
-ghost use Rattle.editions.specs.Under.{runFound, runEdition, runNewest};
+ghost use Rattle.editions.specs.Under.{run_found, run_edition, run_newest};
 
 use entries::optimize_jumps;
 use rules::Answer;
@@ -9,7 +9,7 @@ use store::{Found, get_edition, get_newest};
 
 // The run under what was found, or its refusal.
 fn run_found(found: Found, listing: &[u8], out: &mut [u8], image: &mut [u8]) -> Answer
-    ensures { let x = runFound found listing.now (length out.old) (length image.old) in
+    ensures { let x = run_found found listing.now (length out.old) (length image.old) in
         Delivers x result out.old image.old out.new image.new }
 {
     match found {
@@ -31,7 +31,7 @@ pub fn optimize_under(
     image: &mut [u8],
 ) -> Answer
     ensures { let text = listing.now in
-        let x = runEdition store.now family edition text (length out.old) (length image.old) in
+        let x = run_edition store.now family edition text (length out.old) (length image.old) in
         Delivers x result out.old image.old out.new image.new }
 {
     run_found(get_edition(store, family, edition), listing, out, image)
@@ -46,7 +46,7 @@ pub fn optimize_under_newest(
     image: &mut [u8],
 ) -> Answer
     ensures { let text = listing.now in
-        let x = runNewest store.now family text (length out.old) (length image.old) in
+        let x = run_newest store.now family text (length out.old) (length image.old) in
         Delivers x result out.old image.old out.new image.new }
 {
     run_found(get_newest(store, family), listing, out, image)

@@ -8,9 +8,9 @@ use Rattle.rules.specs.Values.{below, nat}
 use Rattle.encoding.specs.declared.operands.Field.{Field}
 use Rattle.encoding.specs.declared.operands.Field.TheVariants.{Is, Refused}
 
-abbrev pub fieldAs : Judged ℕ → Field
-fieldAs (ok n) = Is n
-fieldAs (no r) = Refused r
+abbrev pub field_as : Judged ℕ → Field
+field_as (ok n) = Is n
+field_as (no r) = Refused r
 
 -- "Ranges: i8 and byte data 0..255, d9 0..511, bit 0..7, 16-bit and word 0..65,535. Negative values are refused there."
 unfoldable pub ranged : (i j bound : ℕ) (v : ℤ) → Judged ℕ

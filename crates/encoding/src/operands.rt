@@ -1,9 +1,9 @@
 // The range of each operand and of each item of data, and what is written for it. Refusals 8 to 11 keep the argument's place and the
 // number at fault.
 ghost use Rattle.std.specs.Prelude.{◌≡◌, true, ◌≤◌, ◌^◌, pos, ◌-ℤ◌};
-ghost use Rattle.rules.specs.Values.{below, nat, mod256, signedByte};
+ghost use Rattle.rules.specs.Values.{below, nat, mod256, signed_byte};
 ghost use Rattle.rules.specs.Encoding.{page, field};
-ghost use Rattle.encoding.specs.Operands.{fieldAs, ranged, held};
+ghost use Rattle.encoding.specs.Operands.{field_as, ranged, held};
 
 use rules::{Address, Kind, Place, Refusal};
 
@@ -33,7 +33,7 @@ fn number(v: i32) -> u16
 // A number of the width, or refusal 8.
 fn in_range(i: Place, j: usize, bits: u32, v: i32) -> Field
     requires { bits ≤ 16 }
-    ensures { result ≡ fieldAs (ranged i.0 j (2 ^ bits) v) }
+    ensures { result ≡ field_as (ranged i.0 j (2 ^ bits) v) }
 {
     if unsigned(v, bits) {
         Field::Is(number(v))
@@ -43,13 +43,13 @@ fn in_range(i: Place, j: usize, bits: u32, v: i32) -> Field
 }
 
 pub fn byte_item(i: Place, j: usize, v: i32) -> Field
-    ensures { result ≡ fieldAs (ranged i.0 j 256 v) }
+    ensures { result ≡ field_as (ranged i.0 j 256 v) }
 {
     in_range(i, j, 8, v)
 }
 
 pub fn word_item(i: Place, j: usize, v: i32) -> Field
-    ensures { result ≡ fieldAs (ranged i.0 j 65536 v) }
+    ensures { result ≡ field_as (ranged i.0 j 65536 v) }
 {
     in_range(i, j, 16, v)
 }
@@ -70,7 +70,7 @@ fn distance(n: Address, v: i32) -> i32
 }
 
 fn signed_byte(d: i32) -> bool
-    ensures { result ≡ signedByte d }
+    ensures { result ≡ signed_byte d }
 {
     -128 <= d && d <= 127
 }
@@ -83,7 +83,7 @@ fn low_byte(d: i32) -> u16
 
 fn rel8(i: Place, j: usize, n: Address, v: i32) -> Field
     requires { n.0 ≤ 65536 }
-    ensures { result ≡ fieldAs (field i.0 j n.0 Kind.Rel8 v) }
+    ensures { result ≡ field_as (field i.0 j n.0 Kind.Rel8 v) }
 {
     if !unsigned(v, 16) {
         return Field::Refused(Refusal::Outside(i, j, v));
@@ -104,7 +104,7 @@ fn page_of(a: usize) -> usize
 }
 
 fn page_address(i: Place, j: usize, n: Address, v: i32) -> Field
-    ensures { result ≡ fieldAs (field i.0 j n.0 Kind.A12 v) }
+    ensures { result ≡ field_as (field i.0 j n.0 Kind.A12 v) }
 {
     if !unsigned(v, 16) {
         return Field::Refused(Refusal::Range(i, j, v));
@@ -119,7 +119,7 @@ fn page_address(i: Place, j: usize, n: Address, v: i32) -> Field
 
 fn rel16(i: Place, j: usize, n: Address, v: i32) -> Field
     requires { n.0 ≤ 65536 }
-    ensures { result ≡ fieldAs (field i.0 j n.0 Kind.Rel16 v) }
+    ensures { result ≡ field_as (field i.0 j n.0 Kind.Rel16 v) }
 {
     if unsigned(v, 16) {
         let a = number(v);
@@ -132,7 +132,7 @@ fn rel16(i: Place, j: usize, n: Address, v: i32) -> Field
 // What the instruction at place i, with n the address after it, writes for its argument j of value v.
 pub fn field_of(i: Place, j: usize, n: Address, kind: Kind, v: i32) -> Field
     requires { n.0 ≤ 65536 }
-    ensures { result ≡ fieldAs (field i.0 j n.0 kind (held kind v)) }
+    ensures { result ≡ field_as (field i.0 j n.0 kind (held kind v)) }
 {
     match kind {
         Kind::Reg => Field::Is(register(v)),

@@ -6,25 +6,25 @@ use Prim.Native.String.{String}
 use lib.Dec.{T}
 use Rattle.laws.specs.Lists.{same, each}
 use Rattle.laws.specs.Counts.{tab}
-use Rattle.rules.specs.Listing.{readListing}
+use Rattle.rules.specs.Listing.{read_listing}
 use Rattle.rules.proofs.Computed.{lines, all, freely}
-use Rattle.paths.specs.Walk.{class, codeFrom, code_at, namesBefore, labelNames, isClouded}
+use Rattle.paths.specs.Walk.{class, code_from, code_at, names_before, label_names, is_clouded}
 use Rattle.paths.proofs.Examples.{holds_of}
-use Rattle.endings.specs.Endings.{Reason, isData, leavesMemory, behindCloud, computesLabel, intoMiddle, isNoAddress, isReturn, Listed, report}
+use Rattle.endings.specs.Endings.{Reason, is_data, leaves_memory, behind_cloud, computes_label, into_middle, is_no_address, is_return, Listed, report}
 
 abbrev number_of : Reason → ℕ
-number_of isData = 1
-number_of leavesMemory = 2
-number_of behindCloud = 3
-number_of computesLabel = 4
-number_of intoMiddle = 5
-number_of isNoAddress = 6
-number_of isReturn = 7
+number_of is_data = 1
+number_of leaves_memory = 2
+number_of behind_cloud = 3
+number_of computes_label = 4
+number_of into_middle = 5
+number_of is_no_address = 6
+number_of is_return = 7
 
 -- places and reasons, one behind the other
 unfoldable lists : String → List ℕ → Bool
-unfolding freely same class codeFrom code_at namesBefore labelNames isClouded report each tab
-lists text expected = holds_of (λ p. same (each (λ (x : Listed). x.place ∷ number_of x.reason ∷ []) (report p)) expected) (readListing (lines text))
+unfolding freely same class code_from code_at names_before label_names is_clouded report each tab
+lists text expected = holds_of (λ p. same (each (λ (x : Listed). x.place ∷ number_of x.reason ∷ []) (report p)) expected) (read_listing (lines text))
 
 examples : List Bool
 examples =
@@ -37,6 +37,6 @@ examples =
     lists "012B0000000003" [] ∷
     []
 
-examples-hold : T (all examples)
+examples_hold : T (all examples)
 unfolding all examples lists
-examples-hold = tt
+examples_hold = tt

@@ -8,8 +8,8 @@ ghost use Rattle.slots.specs.Slots.{Slots, program_of, Sound};
 ghost use Rattle.slots.specs.Links.{Together};
 ghost use Rattle.asm.specs.Assembling.{Placed, Whole};
 ghost use Rattle.fitting.specs.Fitting.{Leaves};
-ghost use Rattle.entries.specs.Assembling.{imageIn};
-ghost use Rattle.slots.specs.State.{startsIn, formsIn, table_of};
+ghost use Rattle.entries.specs.Assembling.{image_in};
+ghost use Rattle.slots.specs.State.{starts_in, forms_in, table_of};
 
 use asm::{Verdict, judge, start_state};
 use env::fill_contexts;
@@ -27,10 +27,10 @@ fn judge_slots(
     image: &mut [u8],
 ) -> Answer
     requires { let t : Slots = table_of frames.now state.now count in
-        Sound t × Together t × Any frames.now (startsIn state.now) count (formsIn state.now) (λ u. Placed u contexts.now
+        Sound t × Together t × Any frames.now (starts_in state.now) count (forms_in state.now) (λ u. Placed u contexts.now
         × Whole u) }
     ensures { let t : Slots = table_of frames.now state.now count in
-        Leaves (imageIn (length image.old) (program_of t)) result image.old image.new }
+        Leaves (image_in (length image.old) (program_of t)) result image.old image.new }
 {
     let mut links = [0u16; 28672];
     let mut positions = [0u32; 1025];
@@ -54,7 +54,7 @@ fn place_slots(frames: &[u8], state: &State, count: usize, image: &mut [u8]) -> 
     requires { let t : Slots = table_of frames.now state.now count in
         Sound t × Together t × Whole t }
     ensures { let t : Slots = table_of frames.now state.now count in
-        Leaves (imageIn (length image.old) (program_of t)) result image.old image.new }
+        Leaves (image_in (length image.old) (program_of t)) result image.old image.new }
 {
     let mut contexts = [0u16; 1024];
     fill_contexts(frames, state, count, &mut contexts);
@@ -65,7 +65,7 @@ fn place_slots(frames: &[u8], state: &State, count: usize, image: &mut [u8]) -> 
 fn assemble_read(frames: &[u8], starts: &Starts, count: usize, image: &mut [u8]) -> Answer
     requires { Held frames.now starts.now count }
     ensures { let p : Program = input_of frames.now starts.now count in
-        Leaves (imageIn (length image.old) p) result image.old image.new }
+        Leaves (image_in (length image.old) p) result image.old image.new }
 {
     let state = start_state(starts, count);
     place_slots(frames, &state, count, image)

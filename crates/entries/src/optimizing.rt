@@ -6,9 +6,9 @@ ghost use Rattle.rules.specs.Judging.{assembles};
 ghost use Rattle.promises.specs.Demand2.{Answered};
 ghost use Rattle.listing.specs.Tables.{input_of, Held};
 ghost use Rattle.env.specs.Tables.{Any};
-ghost use Rattle.output.specs.Lines.{besideIn};
+ghost use Rattle.output.specs.Lines.{beside_in};
 ghost use Rattle.slots.specs.Slots.{Slots, program_of, Sound};
-ghost use Rattle.slots.specs.State.{startsIn, formsIn, table_of};
+ghost use Rattle.slots.specs.State.{starts_in, forms_in, table_of};
 ghost use Rattle.slots.specs.Links.{Beside};
 ghost use Rattle.asm.specs.Assembling.{Placed, Whole};
 ghost use Rattle.attempts.specs.Standing.{Standing};
@@ -17,8 +17,8 @@ ghost use Rattle.rules.specs.Answers.{Judged};
 ghost use Rattle.rules.specs.Run.{Output};
 ghost use Rattle.output.specs.Stems.{kept_to};
 ghost use Rattle.finishing.specs.Ending.{Delivers, Fitted};
-ghost use Rattle.entries.specs.Optimizing.{rewritten, judgedRun, Full, Left};
-ghost use Rattle.entries.specs.Stems.{runStems, Stems};
+ghost use Rattle.entries.specs.Optimizing.{rewritten, judged_run, Full, Left};
+ghost use Rattle.entries.specs.Stems.{run_stems, Stems};
 
 use anchors::anchor;
 use asm::{Verdict, judge, start_state};
@@ -42,12 +42,12 @@ fn rewrite_anchored(
     image: &mut [u8],
 ) -> Answer
     requires { let t : Slots = table_of frames.now state.old count in
-        Standing t × (assembles (program_of t) ≡ true) × Beside frames.now (startsIn state.old) count links.now }
+        Standing t × (assembles (program_of t) ≡ true) × Beside frames.now (starts_in state.old) count links.now }
     ensures { let t : Slots = table_of frames.now state.old count in
-        let marks : Lines = besideIn wanted.marked lines.now count in
+        let marks : Lines = beside_in wanted.marked lines.now count in
         let o : Output = rewritten wanted.settings marks (program_of t) in
         Fitted count wanted.list o result out.old image.old out.new image.new
-        × (kept_to (formsIn state.new) count ≡ o.stems) }
+        × (kept_to (forms_in state.new) count ≡ o.stems) }
 {
     let asked = wanted.settings;
     let rewrites = optimize(asked, frames, state, count, links);
@@ -71,13 +71,13 @@ fn judge_read(
 ) -> Answer
     requires { let t : Slots = table_of frames.now state.old count in
         Sound t × AsRead t × Full state.old
-        × Any frames.now (startsIn state.old) count (formsIn state.old) (λ u. Placed u contexts.now × Whole u) }
+        × Any frames.now (starts_in state.old) count (forms_in state.old) (λ u. Placed u contexts.now × Whole u) }
     ensures { let t : Slots = table_of frames.now state.old count in
-        let marks : Lines = besideIn wanted.marked lines.now count in
-        let x : Judged Output = judgedRun wanted.settings marks (length out.old) (length image.old) wanted.list
+        let marks : Lines = beside_in wanted.marked lines.now count in
+        let x : Judged Output = judged_run wanted.settings marks (length out.old) (length image.old) wanted.list
         (program_of t) in
         Delivers x result out.old image.old out.new image.new
-        × Left x (formsIn state.new) count }
+        × Left x (forms_in state.new) count }
 {
     let mut links = [0u16; 28672];
     let mut positions = [0u32; 1025];
@@ -114,11 +114,11 @@ fn place_read(
     requires { let t : Slots = table_of frames.now state.old count in
         Sound t × AsRead t × Full state.old × Whole t }
     ensures { let t : Slots = table_of frames.now state.old count in
-        let marks : Lines = besideIn wanted.marked lines.now count in
-        let x : Judged Output = judgedRun wanted.settings marks (length out.old) (length image.old) wanted.list
+        let marks : Lines = beside_in wanted.marked lines.now count in
+        let x : Judged Output = judged_run wanted.settings marks (length out.old) (length image.old) wanted.list
         (program_of t) in
         Delivers x result out.old image.old out.new image.new
-        × Left x (formsIn state.new) count }
+        × Left x (forms_in state.new) count }
 {
     let mut contexts = [0u16; 1024];
     fill_contexts(frames, state, count, &mut contexts);
@@ -145,9 +145,9 @@ fn optimize_read(
     list: &mut [u8],
 ) -> Stemmed
     requires { Held frames.now starts.now count }
-    ensures { let marks : Lines = besideIn marked lines.now count in
+    ensures { let marks : Lines = beside_in marked lines.now count in
         let p : Program = input_of frames.now starts.now count in
-        let x : Judged Output = judgedRun asked marks (length out.old) (length image.old)
+        let x : Judged Output = judged_run asked marks (length out.old) (length image.old)
         (length list.old) p in
         Stems x result out.old image.old list.old
         out.new image.new list.new }
@@ -173,7 +173,7 @@ pub fn optimize_stems(
     image: &mut [u8],
     list: &mut [u8],
 ) -> Stemmed
-    ensures { let x : Judged Output = runStems asked listing.now (length out.old) (length image.old)
+    ensures { let x : Judged Output = run_stems asked listing.now (length out.old) (length image.old)
         (length list.old) in
         Stems x result out.old image.old list.old
         out.new image.new list.new }

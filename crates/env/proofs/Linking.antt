@@ -13,23 +13,23 @@ use Rattle.rules.specs.declared.Tag.TheVariants.{Name}
 use Rattle.rules.specs.Expressions.{tag_of, name_of}
 use Rattle.expression.specs.Linked.{Links}
 use Rattle.listing.specs.Tables.{frame_at, Held}
-use Rattle.slots.proofs.Tables.{length-frame}
+use Rattle.slots.proofs.Tables.{length_frame}
 use Rattle.env.specs.Linking.{OneAtMost, Means, LinkedTo}
 
 -- the name that begins at byte b
-pub name-at-byte : (frames : List ℕ) (b : ℕ) → name_of (drop b frames) ≡ get_or frames (b + 1) 0 * 256 + get_or frames (b + 2) 0
-name-at-byte frames b = ap₂ (λ x y. x * 256 + y) (get_or-drop b frames 1 0) (get_or-drop b frames 2 0)
+pub name_at_byte : (frames : List ℕ) (b : ℕ) → name_of (drop b frames) ≡ get_or frames (b + 1) 0 * 256 + get_or frames (b + 2) 0
+name_at_byte frames b = ap₂ (λ x y. x * 256 + y) (get_or-drop b frames 1 0) (get_or-drop b frames 2 0)
 
 -- ---- the bytes of a frame, come to byte a
 
 module _ (frames names contexts : List ℕ) (n k from end : ℕ) (old : List ℕ) where
-  pub linked-start : LinkedTo frames names contexts n k from end from old old
-  linked-start = record { linked = λ b p q. absurd (omega arith); below = λ b l. refl }
+  pub linked_start : LinkedTo frames names contexts n k from end from old old
+  linked_start = record { linked = λ b p q. absurd (omega arith); below = λ b l. refl }
 
   module _ (a : ℕ) (new : List ℕ) (h : LinkedTo frames names contexts n k from end a old new) (f : from ≤ a) where
-    pub linked-byte : (l : ℕ) → a < length new → (tag_of (get_or frames a 0) ≡ Name → Means names contexts n k (name_of (drop a frames)) l)
+    pub linked_byte : (l : ℕ) → a < length new → (tag_of (get_or frames a 0) ≡ Name → Means names contexts n k (name_of (drop a frames)) l)
         → LinkedTo frames names contexts n k from end (a + 1) old (set new a l)
-    linked-byte l room m =
+    linked_byte l room m =
         record {
           linked = λ b p q r t. ⊎_elim
               (λ e. subst (λ x. Means names contexts n k (name_of (drop x frames)) (get_or (set new a l) x 0)) (sym e)
@@ -40,8 +40,8 @@ module _ (frames names contexts : List ℕ) (n k from end : ℕ) (old : List ℕ
         }
 
     -- no name begins in the last two bytes
-    pub linked-end : end ≤ a + 2 → LinkedTo frames names contexts n k from end end old new
-    linked-end e = record { linked = λ b p q r t. h.linked b p (omega arith) r t; below = h.below }
+    pub linked_end : end ≤ a + 2 → LinkedTo frames names contexts n k from end end old new
+    linked_end e = record { linked = λ b p q r t. h.linked b p (omega arith) r t; below = h.below }
 
 -- ---- frame by frame
 
@@ -59,9 +59,9 @@ module _ (frames starts : List ℕ) (n : ℕ) (held : Held frames starts n) (nam
       (c : ℕ) → c < i → (b : ℕ) → get_or starts c 0 ≤ b → b < get_or starts (suc c) 0 → b + 2 < get_or starts (suc c) 0 → tag_of (get_or frames b 0) ≡ Name
       → Means names contexts n (get_or contexts c 0) (name_of (drop b frames)) (get_or links b 0)
 
-  pub all-next : (i : ℕ) (old new : List ℕ) → i < n → AllTo i old
+  pub all_next : (i : ℕ) (old new : List ℕ) → i < n → AllTo i old
       → LinkedTo frames names contexts n (get_or contexts i 0) (get_or starts i 0) (get_or starts (i + 1) 0) (get_or starts (i + 1) 0) old new → AllTo (i + 1) new
-  all-next i old new l all h c q b p r s t =
+  all_next i old new l all h c q b p r s t =
       ⊎_elim
       (λ e. let z : get_or starts (i + 1) 0 ≡ get_or starts (suc c) 0 = ap (λ x. get_or starts x 0) (omega arith) in
       rw e (h.linked b (rw e at p) (omega (arith, ap (λ x. get_or starts x 0) e)) (omega arith) t))
@@ -73,23 +73,23 @@ module _ (frames starts : List ℕ) (n : ℕ) (held : Held frames starts n) (nam
       upto c less = omega arith
 
   -- a byte of a frame, in the whole
-  byte-in : (l : List ℕ) (c j : ℕ) → j < get_or starts (suc c) 0 - get_or starts c 0 → get_or (frame_at l starts c) j 0 ≡ get_or l (get_or starts c 0 + j) 0
+  byte_in : (l : List ℕ) (c j : ℕ) → j < get_or starts (suc c) 0 - get_or starts c 0 → get_or (frame_at l starts c) j 0 ≡ get_or l (get_or starts c 0 + j) 0
   unfolding frame_at
-  byte-in l c j q =
+  byte_in l c j q =
       get_or-take (get_or starts (suc c) 0 - get_or starts c 0) (drop (get_or starts c 0) l) j 0 q ∙ get_or-drop (get_or starts c 0) l j 0
 
-  pub all-links : (links : List ℕ) → AllTo n links → (c : ℕ) → c < n
+  pub all_links : (links : List ℕ) → AllTo n links → (c : ℕ) → c < n
       → Links names contexts n (get_or contexts c 0) (frame_at frames starts c) (frame_at links starts c)
-  all-links links all c l =
+  all_links links all c l =
       record {
         place = λ j q t i m.
             let s : ℕ = get_or starts c 0 in
-            let long = length-frame frames starts n held c l in
+            let long = length_frame frames starts n held c l in
             let at : (x : ℕ) → j + x < length (frame_at frames starts c) → get_or (drop j (frame_at frames starts c)) x 0 ≡ get_or frames (s + j + x) 0 =
-            (λ x r. get_or-drop j (frame_at frames starts c) x 0 ∙ byte-in frames c (j + x) (omega (arith, long)) ∙ ap (λ y. get_or frames y 0) (omega arith)) in
+            (λ x r. get_or-drop j (frame_at frames starts c) x 0 ∙ byte_in frames c (j + x) (omega (arith, long)) ∙ ap (λ y. get_or frames y 0) (omega arith)) in
             let name : name_of (drop j (frame_at frames starts c)) ≡ name_of (drop (s + j) frames) =
-            ap₂ (λ x y. x * 256 + y) (at 1 (omega arith)) (at 2 (omega arith)) ∙ sym (name-at-byte frames (s + j)) in
-            let tag : tag_of (get_or frames (s + j) 0) ≡ Name = sym (ap (λ x. tag_of x) (byte-in frames c j (omega (arith, long)))) ∙ t in
-            rw (name, byte-in links c j (omega (arith, long)))
+            ap₂ (λ x y. x * 256 + y) (at 1 (omega arith)) (at 2 (omega arith)) ∙ sym (name_at_byte frames (s + j)) in
+            let tag : tag_of (get_or frames (s + j) 0) ≡ Name = sym (ap (λ x. tag_of x) (byte_in frames c j (omega (arith, long)))) ∙ t in
+            rw (name, byte_in links c j (omega (arith, long)))
             ((all c l (s + j) (omega arith) (omega (arith, long)) (omega (arith, long)) tag).place i m);
       }

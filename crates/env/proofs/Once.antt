@@ -8,19 +8,19 @@ use native.Mathlib.Omega.{arith}
 use lib.Dec.{eqb, ltb}
 use lib.ListN.{get_or, length}
 use borrow.Author.Tests.{eqb-true, ltb-true, eq-eqb, lt-ltb}
-use Rattle.laws.proofs.Tests.{and-true, and_both, eq-or-not, lt-or-le, both_ways}
+use Rattle.laws.proofs.Tests.{and_true, and_both, eq_or_not, lt_or_le, both_ways}
 use Rattle.rules.specs.declared.Refusal.TheVariants.{Again}
 use Rattle.rules.specs.Answers.{at_place, ok}
 use Rattle.rules.specs.Programs.{Placeℕ, Program}
-use Rattle.rules.specs.Names.{is_local, key_of, sameKey, placed}
-use Rattle.rules.specs.Judging.{keysIn, areNew, noNameTwice}
-use Rattle.rules.proofs.Laws.{require-ok}
-use Rattle.expression.specs.Environment.{isHere, keys_of}
+use Rattle.rules.specs.Names.{is_local, key_of, same_key, placed}
+use Rattle.rules.specs.Judging.{keys_in, are_new, no_name_twice}
+use Rattle.rules.proofs.Laws.{require_ok}
+use Rattle.expression.specs.Environment.{is_here, keys_of}
 use Rattle.expression.proofs.Keys.{seen, here, seen_here, seen_below}
-use Rattle.env.specs.Tables.{nameSaid, Named}
+use Rattle.env.specs.Tables.{name_said, Named}
 use Rattle.env.specs.Linking.{OneAtMost}
 use Rattle.env.proofs.Passes.{left}
-use Rattle.env.proofs.Naming.{said-some, OnceTo, once-start, once-turn, once-goes}
+use Rattle.env.proofs.Naming.{said_some, OnceTo, once_start, once_turn, once_goes}
 
 -- where no place below the limit has a key, each of them has another
 unseen : (names contexts : List ℕ) (k m limit : ℕ) → seen names contexts k m limit ≡ false → (j : ℕ) → j < limit → here names contexts k m j ≡ false
@@ -38,49 +38,49 @@ unseen names contexts k m (suc i) e j l = on (here names contexts k m i) refl (u
     on false h before =
         ⊎_elim (λ q. ap (here names contexts k m) q ∙ h)
         (λ q. before (sym (seen_more false h) ∙ e) j (omega arith))
-        (eq-or-not j i)
+        (eq_or_not j i)
 
 -- two statements that define what m means in context k define the same
-same_here : (n c n' c' m k : ℕ) → isHere n c m k ≡ true → isHere n' c' m k ≡ true → isHere n c n' c' ≡ true
+same_here : (n c n' c' m k : ℕ) → is_here n c m k ≡ true → is_here n' c' m k ≡ true → is_here n c n' c' ≡ true
 same_here n c n' c' m k a b =
-    let x = and-true (ltb n 65536) (sameKey (key_of c n) (key_of k m)) a in
-    let y = and-true (ltb n' 65536) (sameKey (key_of c' n') (key_of k m)) b in
-    let u = and-true (eqb n m) (eqb (cond (is_local n) c 0) (cond (is_local m) k 0)) x.1 in
-    let v = and-true (eqb n' m) (eqb (cond (is_local n') c' 0) (cond (is_local m) k 0)) y.1 in
-    and_both (ltb n 65536) (sameKey (key_of c n) (key_of c' n')) x.0
+    let x = and_true (ltb n 65536) (same_key (key_of c n) (key_of k m)) a in
+    let y = and_true (ltb n' 65536) (same_key (key_of c' n') (key_of k m)) b in
+    let u = and_true (eqb n m) (eqb (cond (is_local n) c 0) (cond (is_local m) k 0)) x.1 in
+    let v = and_true (eqb n' m) (eqb (cond (is_local n') c' 0) (cond (is_local m) k 0)) y.1 in
+    and_both (ltb n 65536) (same_key (key_of c n) (key_of c' n')) x.0
     (and_both (eqb n n') (eqb (cond (is_local n) c 0) (cond (is_local n') c' 0)) (eq-eqb n n' (eqb-true n m u.0 ∙ sym (eqb-true n' m v.0)))
     (eq-eqb (cond (is_local n) c 0) (cond (is_local n') c' 0)
     (eqb-true (cond (is_local n) c 0) (cond (is_local m) k 0) u.1 ∙ sym (eqb-true (cond (is_local n') c' 0) (cond (is_local m) k 0) v.1))))
 
-module _ (p : Program) (n : ℕ) (names contexts : List ℕ) (h : Named p n names contexts) (once : noNameTwice [] (placed p) ≡ ok tt) where
-  new-at : (i : Placeℕ) → i < n → OnceTo p n names contexts h i → areNew (keys_of names contexts i) (keysIn (get_or contexts i 0) (nameSaid (get_or names i 0))) ≡ true
-  new-at i l o = (require-ok _ (Again (at_place i)) _ tt (sym (o ∙ once-turn p n names contexts h i l) ∙ once)).0
+module _ (p : Program) (n : ℕ) (names contexts : List ℕ) (h : Named p n names contexts) (once : no_name_twice [] (placed p) ≡ ok tt) where
+  new_at : (i : Placeℕ) → i < n → OnceTo p n names contexts h i → are_new (keys_of names contexts i) (keys_in (get_or contexts i 0) (name_said (get_or names i 0))) ≡ true
+  new_at i l o = (require_ok _ (Again (at_place i)) _ tt (sym (o ∙ once_turn p n names contexts h i l) ∙ once)).0
 
-  come-to : (i : Placeℕ) → i ≤ n → OnceTo p n names contexts h i
-  come-to zero l = once-start p n names contexts h
-  come-to (suc i) l =
-      let o = come-to i (omega arith) in
+  come_to : (i : Placeℕ) → i ≤ n → OnceTo p n names contexts h i
+  come_to zero l = once_start p n names contexts h
+  come_to (suc i) l =
+      let o = come_to i (omega arith) in
       let z : i + 1 ≡ suc i = omega arith in
-      rw z at (once-goes p n names contexts h i (omega arith) (new-at i (omega arith) o) o)
+      rw z at (once_goes p n names contexts h i (omega arith) (new_at i (omega arith) o) o)
 
   not_seen : (i : Placeℕ) → i < n → get_or names i 0 < 65536 → seen names contexts (get_or contexts i 0) (get_or names i 0) i ≡ false
-  not_seen i l s = on (seen names contexts (get_or contexts i 0) (get_or names i 0) i) (rw (said-some (get_or names i 0) s) at (new-at i l (come-to i (omega arith))))
+  not_seen i l s = on (seen names contexts (get_or contexts i 0) (get_or names i 0) i) (rw (said_some (get_or names i 0) s) at (new_at i l (come_to i (omega arith))))
     where
       on : (b : Bool) → not b ≡ true → b ≡ false
       on true e = sym e
       on false e = refl
 
-  apart : (k m i j : ℕ) → i < n → j < i → isHere (get_or names i 0) (get_or contexts i 0) m k ≡ true → isHere (get_or names j 0) (get_or contexts j 0) m k ≡ true → ⊥
+  apart : (k m i j : ℕ) → i < n → j < i → is_here (get_or names i 0) (get_or contexts i 0) m k ≡ true → is_here (get_or names j 0) (get_or contexts j 0) m k ≡ true → ⊥
   apart k m i j l less a b =
-      let two = ltb-true (get_or names i 0) 65536 (and-true (ltb (get_or names i 0) 65536) (sameKey (key_of (get_or contexts i 0) (get_or names i 0)) (key_of k m)) a).0 in
+      let two = ltb-true (get_or names i 0) 65536 (and_true (ltb (get_or names i 0) 65536) (same_key (key_of (get_or contexts i 0) (get_or names i 0)) (key_of k m)) a).0 in
       both_ways (here names contexts (get_or contexts i 0) (get_or names i 0) j)
       (same_here (get_or names j 0) (get_or contexts j 0) (get_or names i 0) (get_or contexts i 0) m k b a)
       (unseen names contexts (get_or contexts i 0) (get_or names i 0) i (not_seen i l two) j less)
 
   pub one_at_most : OneAtMost names contexts n
-  one_at_most = record { same = λ k m i j p q a b. on k m i j p q a b (eq-or-not i j) }
+  one_at_most = record { same = λ k m i j p q a b. on k m i j p q a b (eq_or_not i j) }
     where
-      on : (k m i j : ℕ) → i < n → j < n → isHere (get_or names i 0) (get_or contexts i 0) m k ≡ true → isHere (get_or names j 0) (get_or contexts j 0) m k ≡ true
+      on : (k m i j : ℕ) → i < n → j < n → is_here (get_or names i 0) (get_or contexts i 0) m k ≡ true → is_here (get_or names j 0) (get_or contexts j 0) m k ≡ true
           → (i ≡ j) ⊎ (i ≡ j → ⊥) → i ≡ j
       on k m i j p q a b (inl e) = e
-      on k m i j p q a b (inr d) = ⊎_elim (λ less. absurd (apart k m j i q less b a)) (λ le. absurd (apart k m i j p (omega (arith, d)) a b)) (lt-or-le i j)
+      on k m i j p q a b (inr d) = ⊎_elim (λ less. absurd (apart k m j i q less b a)) (λ le. absurd (apart k m i j p (omega (arith, d)) a b)) (lt_or_le i j)

@@ -6,7 +6,7 @@ ghost use Rattle.rules.specs.Expressions.{tag_of, name_of};
 ghost use Rattle.expression.specs.Linked.{Links};
 ghost use Rattle.listing.specs.Tables.{frame_at, Held};
 ghost use Rattle.env.specs.Linking.{OneAtMost, Means, LinkedTo};
-ghost use Rattle.slots.specs.State.{startsIn};
+ghost use Rattle.slots.specs.State.{starts_in};
 
 use expression::{defines, tag_of};
 use rules::Tag;
@@ -105,12 +105,12 @@ pub fn fill_links(
     contexts: &[u16; 1024],
     links: &mut [u16; 28672],
 )
-    requires { Held frames.now (startsIn state.now) count × (length links.old ≡ 28672) × OneAtMost names.now
+    requires { Held frames.now (starts_in state.now) count × (length links.old ≡ 28672) × OneAtMost names.now
         contexts.now count }
     ensures room { length links.new ≡ 28672 }
     ensures by_index { (c : ℕ) → c < count → Links names.now contexts.now count (get_or contexts.now c 0)
-        (frame_at frames.now (startsIn state.now) c) (frame_at links.new
-        (startsIn state.now) c) }
+        (frame_at frames.now (starts_in state.now) c) (frame_at links.new
+        (starts_in state.now) c) }
 {
     let mut i = 0;
     while i < count {

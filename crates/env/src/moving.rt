@@ -1,12 +1,12 @@
 // C-15: the names that move with the code: labels, and variables that hold a label "directly or through variables", which stand above. A
 // variable is looked into once a run.
 ghost use Rattle.std.specs.Prelude.{◌≡◌, ◌<◌, length, get_or};
-ghost use Rattle.rules.specs.Rewriting.{movingOf};
+ghost use Rattle.rules.specs.Rewriting.{moving_of};
 ghost use Rattle.expression.specs.Environment.{keys_of};
 ghost use Rattle.listing.specs.Tables.{Held};
 ghost use Rattle.slots.specs.Slots.{slot_at, program_of};
 ghost use Rattle.env.specs.Tables.{Any, InContext, MovesAs};
-ghost use Rattle.slots.specs.State.{startsIn, formsIn};
+ghost use Rattle.slots.specs.State.{starts_in, forms_in};
 
 use crate::NO_NAME;
 use expression::holds_label;
@@ -22,8 +22,8 @@ fn moving_at(
     moving: &[u32; 1024],
     at: Place,
 ) -> u32
-    requires { Held frames.now (startsIn state.now) count × (at.0 < count) }
-    ensures { Any frames.now (startsIn state.now) count (formsIn state.now)
+    requires { Held frames.now (starts_in state.now) count × (at.0 < count) }
+    ensures { Any frames.now (starts_in state.now) count (forms_in state.now)
         (λ t. MovesAs (keys_of moving.now contexts.now at.0) (get_or contexts.now at.0 0)
         (slot_at t at.0) result) }
 {
@@ -60,10 +60,10 @@ pub fn fill_moving(
     contexts: &[u16; 1024],
     moving: &mut [u32; 1024],
 )
-    requires { Held frames.now (startsIn state.now) count × (length moving.old ≡ 1024)
-        × Any frames.now (startsIn state.now) count (formsIn state.now) (λ t. InContext t contexts.now) }
-    ensures { Any frames.now (startsIn state.now) count (formsIn state.now)
-        (λ t. keys_of moving.new contexts.now count ≡ movingOf (program_of t)) }
+    requires { Held frames.now (starts_in state.now) count × (length moving.old ≡ 1024)
+        × Any frames.now (starts_in state.now) count (forms_in state.now) (λ t. InContext t contexts.now) }
+    ensures { Any frames.now (starts_in state.now) count (forms_in state.now)
+        (λ t. keys_of moving.new contexts.now count ≡ moving_of (program_of t)) }
 {
     let mut i = 0;
     while i < count {

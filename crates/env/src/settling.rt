@@ -1,10 +1,10 @@
 // Positions and values in one pass. Of a candidate it is asked only whether it assembles: which of 4 to 7 comes first does not matter.
 ghost use Rattle.std.specs.Prelude.{◌≡◌, ◌≤◌, length, get_or};
 ghost use Rattle.listing.specs.Tables.{Held};
-ghost use Rattle.slots.specs.Links.{contextsRead, Beside};
+ghost use Rattle.slots.specs.Links.{contexts_read, Beside};
 ghost use Rattle.env.specs.Tables.{Any, InContext};
 ghost use Rattle.env.specs.Settling.{Settled};
-ghost use Rattle.slots.specs.State.{startsIn, formsIn};
+ghost use Rattle.slots.specs.State.{starts_in, forms_in};
 
 use crate::layout::advance;
 use crate::variables::value_at;
@@ -29,11 +29,11 @@ pub fn settle_all(
     positions: &mut [u32; 1025],
     values: &mut [i64; 1024],
 ) -> bool
-    requires held { Held frames.now (startsIn state.now) count × (length positions.old ≡ 1025) × (length values.old ≡ 1024)
-        × Beside frames.now (startsIn state.now) count links.now }
-    requires any { Any frames.now (startsIn state.now) count (formsIn state.now) (λ t. InContext t
-        (contextsRead frames.now (startsIn state.now) count)) }
-    ensures { Any frames.now (startsIn state.now) count (formsIn state.now)
+    requires held { Held frames.now (starts_in state.now) count × (length positions.old ≡ 1025) × (length values.old ≡ 1024)
+        × Beside frames.now (starts_in state.now) count links.now }
+    requires any { Any frames.now (starts_in state.now) count (forms_in state.now) (λ t. InContext t
+        (contexts_read frames.now (starts_in state.now) count)) }
+    ensures { Any frames.now (starts_in state.now) count (forms_in state.now)
         (λ t. Settled t result positions.new values.new) }
 {
     positions[0] = 0;

@@ -9,35 +9,35 @@ use native.Mathlib.Omega.{arith}
 use lib.Dec.{ltb}
 use lib.ListN.{get_or, set}
 use lib.Seq.{get_or-set_other}
-use Rattle.rules.specs.Names.{key_of, sameKey}
-use Rattle.rules.specs.Judging.{isSeen, keysIn}
-use Rattle.expression.specs.Environment.{isHere, keys_of}
+use Rattle.rules.specs.Names.{key_of, same_key}
+use Rattle.rules.specs.Judging.{is_seen, keys_in}
+use Rattle.expression.specs.Environment.{is_here, keys_of}
 
 module _ (names contexts : List ℕ) where
-  pub keys-more : (i : ℕ)
+  pub keys_more : (i : ℕ)
       → keys_of names contexts (suc i)
-      ≡ keysIn (get_or contexts i 0) (cond (ltb (get_or names i 0) 65536) (some (get_or names i 0)) none) ++ keys_of names contexts i
+      ≡ keys_in (get_or contexts i 0) (cond (ltb (get_or names i 0) 65536) (some (get_or names i 0)) none) ++ keys_of names contexts i
   unfolding keys_of
-  keys-more i = on (ltb (get_or names i 0) 65536)
+  keys_more i = on (ltb (get_or names i 0) 65536)
     where
       on : (b : Bool) → cond b (key_of (get_or contexts i 0) (get_or names i 0) ∷ keys_of names contexts i) (keys_of names contexts i)
-          ≡ keysIn (get_or contexts i 0) (cond b (some (get_or names i 0)) none) ++ keys_of names contexts i
+          ≡ keys_in (get_or contexts i 0) (cond b (some (get_or names i 0)) none) ++ keys_of names contexts i
       on true = refl
       on false = refl
 
   module _ (k m : ℕ) where
     abbrev pub seen : (limit : ℕ) → Bool
-    seen limit = isSeen (keys_of names contexts limit) (key_of k m)
+    seen limit = is_seen (keys_of names contexts limit) (key_of k m)
 
     abbrev pub here : (i : ℕ) → Bool
-    here i = isHere (get_or names i 0) (get_or contexts i 0) m k
+    here i = is_here (get_or names i 0) (get_or contexts i 0) m k
 
     at_place : (i : ℕ) → seen (suc i) ≡ here i || seen i
-    unfolding keys_of isSeen
+    unfolding keys_of is_seen
     at_place i = on (ltb (get_or names i 0) 65536)
       where
-        on : (b : Bool) → isSeen (cond b (key_of (get_or contexts i 0) (get_or names i 0) ∷ keys_of names contexts i) (keys_of names contexts i)) (key_of k m)
-            ≡ (b && sameKey (key_of (get_or contexts i 0) (get_or names i 0)) (key_of k m)) || seen i
+        on : (b : Bool) → is_seen (cond b (key_of (get_or contexts i 0) (get_or names i 0) ∷ keys_of names contexts i) (keys_of names contexts i)) (key_of k m)
+            ≡ (b && same_key (key_of (get_or contexts i 0) (get_or names i 0)) (key_of k m)) || seen i
         on true = refl
         on false = refl
 
@@ -51,11 +51,11 @@ module _ (names contexts : List ℕ) where
     seen_below i h e = from i h ∙ rw e
 
     pub seen_end : (i : ℕ) → i ≤ 0 → seen i ≡ false
-    unfolding keys_of isSeen
+    unfolding keys_of is_seen
     seen_end i h = let q : i ≡ 0 = omega arith in ap seen q
 
 -- a store at j is not seen below j
-pub keys-set : (names contexts : List ℕ) (j n i : ℕ) → i ≤ j → keys_of (set names j n) contexts i ≡ keys_of names contexts i
+pub keys_set : (names contexts : List ℕ) (j n i : ℕ) → i ≤ j → keys_of (set names j n) contexts i ≡ keys_of names contexts i
 unfolding keys_of
-keys-set names contexts j n zero l = refl
-keys-set names contexts j n (suc i) l = rw (keys-set names contexts j n i (omega arith), get_or-set_other names j i n 0 (λ e. omega arith))
+keys_set names contexts j n zero l = refl
+keys_set names contexts j n (suc i) l = rw (keys_set names contexts j n i (omega arith), get_or-set_other names j i n 0 (λ e. omega arith))

@@ -1,12 +1,12 @@
 // Names looked for among those of the places below a limit: `names` has a name at each place, 65,536 for none, and `contexts` its context.
 // Where `names` has only those that move with the code, an expression that holds one holds a label, "directly or through variables".
 ghost use Rattle.std.specs.Prelude.{◌≡◌, ℕ, ◌≤◌};
-ghost use Rattle.rules.specs.Expressions.{Expr, readExpr, got, mentions};
+ghost use Rattle.rules.specs.Expressions.{Expr, read_expr, got, mentions};
 ghost use Rattle.rules.specs.Names.{key_of};
-ghost use Rattle.rules.specs.Judging.{isSeen};
-ghost use Rattle.rules.specs.Rewriting.{holdsLabel};
-ghost use Rattle.expression.specs.Environment.{isHere, keys_of};
-ghost use Rattle.expression.specs.Naming.{seenTally};
+ghost use Rattle.rules.specs.Judging.{is_seen};
+ghost use Rattle.rules.specs.Rewriting.{holds_label};
+ghost use Rattle.expression.specs.Environment.{is_here, keys_of};
+ghost use Rattle.expression.specs.Naming.{seen_tally};
 ghost use Rattle.expression.specs.Along.{Along};
 
 use crate::Tally;
@@ -17,7 +17,7 @@ use rules::Tag;
 
 // A statement of context k that defines n defines what `name` means in `context`: a local name within its context only.
 pub fn defines(n: u32, k: u16, name: u16, context: u16) -> bool
-    ensures { result ≡ isHere n k name context }
+    ensures { result ≡ is_here n k name context }
 {
     if n != name as u32 {
         return false;
@@ -37,7 +37,7 @@ pub fn is_seen(
     name: u16,
 ) -> bool
     requires { limit ≤ 1024 }
-    ensures { result ≡ isSeen (keys_of names.now contexts.now limit) (key_of context name) }
+    ensures { result ≡ is_seen (keys_of names.now contexts.now limit) (key_of context name) }
 {
     let mut i = limit;
     while 0 < i {
@@ -51,7 +51,7 @@ pub fn is_seen(
 
 fn named(s: &[u8], names: &[u32; 1024], contexts: &[u16; 1024], limit: usize, context: u16) -> Tally
     requires { limit ≤ 1024 }
-    ensures { result ≡ seenTally (keys_of names.now contexts.now limit) context s.now }
+    ensures { result ≡ seen_tally (keys_of names.now contexts.now limit) context s.now }
 {
     if s.len() < 3 {
         return Tally { found: 0, taken: 0 };
@@ -73,7 +73,7 @@ fn count_seen(
 ) -> Tally
     requires { limit ≤ 1024 }
     ensures few { result.found ≤ result.taken }
-    ensures along { Along (mentions (λ m. isSeen (keys_of names.now contexts.now limit) (key_of context m)))
+    ensures along { Along (mentions (λ m. is_seen (keys_of names.now contexts.now limit) (key_of context m)))
         s.now result.found result.taken }
 {
     if s.len() < 1 {
@@ -109,8 +109,8 @@ pub fn holds_label(
     context: u16,
 ) -> bool
     requires { limit ≤ 1024 }
-    ensures { (e : Expr) (n : ℕ) → readExpr s.now ≡ got e n
-        → result ≡ holdsLabel (keys_of moving.now contexts.now limit) context e }
+    ensures { (e : Expr) (n : ℕ) → read_expr s.now ≡ got e n
+        → result ≡ holds_label (keys_of moving.now contexts.now limit) context e }
 {
     let t = count_seen(s, moving, contexts, limit, context);
     0 < t.found

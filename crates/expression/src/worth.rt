@@ -2,9 +2,9 @@
 // that defines it. `values` has by place what its name stands for, and a number outside 32 bits where the statement is gone.
 ghost use Rattle.std.specs.Prelude.{◌≡◌, ℕ, ◌≤◌, length};
 ghost use Rattle.rules.specs.declared.Outcome.{Outcome as Outcomes};
-ghost use Rattle.rules.specs.Expressions.{Expr, readExpr, got, evalTree};
-ghost use Rattle.expression.specs.Evaluating.{noValue, number_at};
-ghost use Rattle.expression.specs.Linked.{standsAt, link_at, Linked, Evaluated};
+ghost use Rattle.rules.specs.Expressions.{Expr, read_expr, got, eval_tree};
+ghost use Rattle.expression.specs.Evaluating.{no_value, number_at};
+ghost use Rattle.expression.specs.Linked.{stands_at, link_at, Linked, Evaluated};
 
 use crate::Valued;
 use crate::fields::four;
@@ -14,7 +14,7 @@ use rules::{Outcome, Tag};
 
 // Where bytes are lacking, or are no expression.
 fn none() -> Valued
-    ensures { result ≡ noValue }
+    ensures { result ≡ no_value }
 {
     Valued {
         value: Outcome::Nothing,
@@ -37,7 +37,7 @@ fn number(s: &[u8]) -> Valued
 // What the name that a place defines stands for: nothing from the limit on, and nothing where the statement is gone.
 fn stands_for(values: &[i64; 1024], limit: usize, place: u16) -> Outcome
     requires { limit ≤ 1024 }
-    ensures { result ≡ standsAt values.now limit place }
+    ensures { result ≡ stands_at values.now limit place }
 {
     let i = place as usize;
     if limit <= i {
@@ -99,7 +99,7 @@ fn eval_linked(s: &[u8], links: &[u16], values: &[i64; 1024], limit: usize) -> V
 pub fn linked_worth(s: &[u8], links: &[u16], values: &[i64; 1024], limit: usize) -> Outcome
     requires { (limit ≤ 1024) × (length s.now ≤ length links.now) }
     ensures { (env : ℕ → Outcomes) → Linked env s.now links.now values.now limit
-        → (e : Expr) (n : ℕ) → readExpr s.now ≡ got e n → result ≡ evalTree env e }
+        → (e : Expr) (n : ℕ) → read_expr s.now ≡ got e n → result ≡ eval_tree env e }
 {
     let a = eval_linked(s, links, values, limit);
     a.value

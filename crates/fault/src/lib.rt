@@ -1,6 +1,6 @@
 // Each refusal by its number, its place, and for 8 to 11 the argument's place and the number at fault.
 ghost use Rattle.std.specs.Prelude.{◌≡◌};
-ghost use Rattle.rules.specs.Refusals.{ofStatement, ofArgument, faultOf};
+ghost use Rattle.rules.specs.Refusals.{of_statement, of_argument, fault_of};
 ghost use Rattle.fault.specs.Faults.{IsFault};
 
 use rules::{Place, Refusal};
@@ -15,7 +15,7 @@ pub struct Fault {
 }
 
 fn about(number: u8, place: Place) -> Fault
-    ensures { IsFault result (ofStatement number place) }
+    ensures { IsFault result (of_statement number place) }
 {
     Fault {
         number,
@@ -26,7 +26,7 @@ fn about(number: u8, place: Place) -> Fault
 }
 
 fn about_argument(number: u8, place: Place, argument: usize, amount: i32) -> Fault
-    ensures { IsFault result (ofArgument number place argument amount) }
+    ensures { IsFault result (of_argument number place argument amount) }
 {
     Fault {
         number,
@@ -37,7 +37,7 @@ fn about_argument(number: u8, place: Place, argument: usize, amount: i32) -> Fau
 }
 
 pub fn fault_of(r: Refusal) -> Fault
-    ensures { IsFault result (faultOf r) }
+    ensures { IsFault result (fault_of r) }
 {
     match r {
         Refusal::Broken(i) => about(1, i),

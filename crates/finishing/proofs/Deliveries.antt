@@ -7,70 +7,70 @@ use native.Mathlib.Omega.{arith}
 use lib.Dec.{leb}
 use lib.ListN.{length}
 use borrow.Author.Tests.{le-leb, lt-leb}
-use Rattle.laws.proofs.Tests.{and_both, first-false, second-false}
+use Rattle.laws.proofs.Tests.{and_both, first_false, second_false}
 use Rattle.rules.specs.declared.Answer.{Answer}
 use Rattle.rules.specs.declared.Answer.TheVariants.{Done, Refused}
 use Rattle.rules.specs.declared.Refusal.{Refusal}
 use Rattle.rules.specs.declared.Refusal.TheVariants.{Room}
 use Rattle.rules.specs.Answers.{Judged, ok, no, require}
-use Rattle.rules.specs.Run.{Output, fits, answer_of, front, listingAfter, imageAfter}
+use Rattle.rules.specs.Run.{Output, fits, answer_of, front, listing_after, image_after}
 use Rattle.output.specs.Stems.{list_of}
-use Rattle.output.proofs.Left.{length-list}
-use Rattle.finishing.specs.Ending.{fitsAll, roomed, Delivers, Fitted}
+use Rattle.output.proofs.Left.{length_list}
+use Rattle.finishing.specs.Ending.{fits_all, roomed, Delivers, Fitted}
 
 -- a refusal changes nothing
-pub delivers-no : (x : Judged Output) (q : Refusal) (out image : List ℕ) → x ≡ no q → Delivers x (Refused q) out image out image
-delivers-no x q out image e =
+pub delivers_no : (x : Judged Output) (q : Refusal) (out image : List ℕ) → x ≡ no q → Delivers x (Refused q) out image out image
+delivers_no x q out image e =
     record {
       answers = sym (ap answer_of e);
-      listing-is = sym (ap (λ y. listingAfter y out) e);
-      image-is = sym (ap (λ y. imageAfter y image) e);
+      listing_is = sym (ap (λ y. listing_after y out) e);
+      image_is = sym (ap (λ y. image_after y image) e);
     }
 
 module _ (count room : ℕ) (o : Output) (out image : List ℕ) where
-  short : fitsAll (length out) (length image) room o ≡ false → Fitted count room o (Refused (Room count)) out image out image
+  short : fits_all (length out) (length image) room o ≡ false → Fitted count room o (Refused (Room count)) out image out image
   unfolding roomed require
-  short e = delivers-no (roomed count (length out) (length image) room o) (Room count) out image (rw e)
+  short e = delivers_no (roomed count (length out) (length image) room o) (Room count) out image (rw e)
 
-  short-both : fits (length out) (length image) o ≡ false → Fitted count room o (Refused (Room count)) out image out image
-  unfolding fitsAll
-  short-both e = short (first-false (fits (length out) (length image) o) (leb (length (list_of o.stems)) room) e)
+  short_both : fits (length out) (length image) o ≡ false → Fitted count room o (Refused (Room count)) out image out image
+  unfolding fits_all
+  short_both e = short (first_false (fits (length out) (length image) o) (leb (length (list_of o.stems)) room) e)
 
   -- the listing room is too short
-  pub fitted-listing : length out < length o.listing → Fitted count room o (Refused (Room count)) out image out image
+  pub fitted_listing : length out < length o.listing → Fitted count room o (Refused (Room count)) out image out image
   unfolding fits
-  fitted-listing h =
-      short-both (first-false (leb (length o.listing) (length out)) (leb (length o.image) (length image)) (lt-leb _ _ h))
+  fitted_listing h =
+      short_both (first_false (leb (length o.listing) (length out)) (leb (length o.image) (length image)) (lt-leb _ _ h))
 
   -- the image room is too short
-  pub fitted-image : length image < length o.image → Fitted count room o (Refused (Room count)) out image out image
+  pub fitted_image : length image < length o.image → Fitted count room o (Refused (Room count)) out image out image
   unfolding fits
-  fitted-image h =
-      short-both (second-false (leb (length o.listing) (length out)) (leb (length o.image) (length image)) (lt-leb _ _ h))
+  fitted_image h =
+      short_both (second_false (leb (length o.listing) (length out)) (leb (length o.image) (length image)) (lt-leb _ _ h))
 
   -- the list's room is too short
-  pub fitted-list : room < 2 * length o.stems → Fitted count room o (Refused (Room count)) out image out image
-  unfolding fitsAll
-  fitted-list h =
-      let less : room < length (list_of o.stems) = omega (arith, length-list o.stems) in
-      short (second-false (fits (length out) (length image) o) (leb (length (list_of o.stems)) room) (lt-leb _ _ less))
+  pub fitted_list : room < 2 * length o.stems → Fitted count room o (Refused (Room count)) out image out image
+  unfolding fits_all
+  fitted_list h =
+      let less : room < length (list_of o.stems) = omega (arith, length_list o.stems) in
+      short (second_false (fits (length out) (length image) o) (leb (length (list_of o.stems)) room) (lt-leb _ _ less))
 
   whole : length o.listing ≤ length out → length o.image ≤ length image → 2 * length o.stems ≤ room
       → roomed count (length out) (length image) room o ≡ ok o
-  unfolding roomed require fitsAll fits
+  unfolding roomed require fits_all fits
   whole h k l =
-      let m : length (list_of o.stems) ≤ room = omega (arith, length-list o.stems) in
+      let m : length (list_of o.stems) ≤ room = omega (arith, length_list o.stems) in
       rw (le-leb (length o.listing) (length out) h, le-leb (length o.image) (length image) k, le-leb (length (list_of o.stems)) room m)
 
   -- all hold the result
-  pub fitted-whole : (a n b : ℕ) (out' image' : List ℕ) → length o.listing ≤ length out → length o.image ≤ length image
+  pub fitted_whole : (a n b : ℕ) (out' image' : List ℕ) → length o.listing ≤ length out → length o.image ≤ length image
       → 2 * length o.stems ≤ room → a ≡ length o.listing → n ≡ o.count → b ≡ length o.image
       → out' ≡ front o.listing out → image' ≡ front o.image image
       → Fitted count room o (Done (record { listing = a; rewrites = n; image = b })) out image out' image'
-  fitted-whole a n b out' image' h k l ea en eb el ei =
+  fitted_whole a n b out' image' h k l ea en eb el ei =
       let e = whole h k l in
       record {
         answers = rw (ea, en, eb) (sym (ap answer_of e));
-        listing-is = el ∙ sym (ap (λ y. listingAfter y out) e);
-        image-is = ei ∙ sym (ap (λ y. imageAfter y image) e);
+        listing_is = el ∙ sym (ap (λ y. listing_after y out) e);
+        image_is = ei ∙ sym (ap (λ y. image_after y image) e);
       }

@@ -2,9 +2,9 @@
 ghost use Rattle.std.specs.Prelude.{◌≡◌, true};
 ghost use Rattle.rules.specs.Listing.{Beside as Lines};
 ghost use Rattle.rules.specs.Judging.{assembles};
-ghost use Rattle.output.specs.Lines.{besideIn};
+ghost use Rattle.output.specs.Lines.{beside_in};
 ghost use Rattle.slots.specs.Slots.{Slots, program_of};
-ghost use Rattle.slots.specs.State.{startsIn, table_of};
+ghost use Rattle.slots.specs.State.{starts_in, table_of};
 ghost use Rattle.slots.specs.Links.{Beside};
 ghost use Rattle.attempts.specs.Standing.{Standing};
 ghost use Rattle.finishing.specs.Ending.{result_of, Fitted};
@@ -37,9 +37,9 @@ pub fn judge_end(
     image: &mut [u8],
 ) -> Answer
     requires { let t : Slots = table_of frames.now state.now count in
-        Standing t × (assembles (program_of t) ≡ true) × Beside frames.now (startsIn state.now) count links.now }
+        Standing t × (assembles (program_of t) ≡ true) × Beside frames.now (starts_in state.now) count links.now }
     ensures { let t : Slots = table_of frames.now state.now count in
-        let marks : Lines = besideIn wanted.marked lines.now count in
+        let marks : Lines = beside_in wanted.marked lines.now count in
         Fitted count wanted.list (result_of marks (program_of t) rewrites) result out.old image.old
         out.new image.new }
 {

@@ -13,15 +13,15 @@ fitted count room x = do
   require (leb (length image) room) (Room count) (ok image)
 
 -- no listing is written, and nothing rewritten
-abbrev pub answerAs : Judged (List ℕ) → Answer
-answerAs (ok b) = Done (record { listing = 0; rewrites = 0; image = length b })
-answerAs (no r) = Refused r
+abbrev pub answer_as : Judged (List ℕ) → Answer
+answer_as (ok b) = Done (record { listing = 0; rewrites = 0; image = length b })
+answer_as (no r) = Refused r
 
 -- "No lent byte changes" on refusal; "On acceptance, room beyond the result is unchanged."
-abbrev pub roomAs : Judged (List ℕ) → (room : List ℕ) → List ℕ
-roomAs (ok b) room = front b room
-roomAs (no r) room = room
+abbrev pub room_as : Judged (List ℕ) → (room : List ℕ) → List ℕ
+room_as (ok b) room = front b room
+room_as (no r) room = room
 
 pub record Leaves (x : Judged (List ℕ)) (r : Answer) (before after : List ℕ) : Type 0 where
-  pub answer : r ≡ answerAs x
-  pub room : after ≡ roomAs x before
+  pub answer : r ≡ answer_as x
+  pub room : after ≡ room_as x before

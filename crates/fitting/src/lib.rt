@@ -1,8 +1,8 @@
 // The image of slots that encode, in a lent room: 12 where that is too short, before a byte is written.
 ghost use Rattle.std.specs.Prelude.{◌≡◌, true, length};
-ghost use Rattle.rules.specs.Answers.{isOk};
+ghost use Rattle.rules.specs.Answers.{is_ok};
 ghost use Rattle.image.specs.Tables.{Tables, tables_of, Ready};
-ghost use Rattle.image.specs.Encoding.{encodeSlots};
+ghost use Rattle.image.specs.Encoding.{encode_slots};
 ghost use Rattle.fitting.specs.Fitting.{Leaves, fitted};
 
 use image::{image_length, write_image};
@@ -21,10 +21,10 @@ pub fn finish(
 ) -> Answer
     requires { let d : Tables = tables_of frames.now state.now count
         links.now values.now positions.now in
-        Ready d × (isOk (encodeSlots d) ≡ true) }
+        Ready d × (is_ok (encode_slots d) ≡ true) }
     ensures { let d : Tables = tables_of frames.now state.now count links.now values.now
         positions.now in
-        Leaves (fitted count (length image.old) (encodeSlots d)) result image.old image.new }
+        Leaves (fitted count (length image.old) (encode_slots d)) result image.old image.new }
 {
     let n = image_length(frames, state, count, positions);
     if image.len() < n {

@@ -7,16 +7,16 @@ use Prim.Native.Nat.{ℕ}
 use lib.Dec.{eqb}
 use borrow.Author.Tests.{eqb-true}
 use Rattle.rules.specs.declared.Op1.TheVariants.{Negate}
-use Rattle.grammar.specs.Reading.{isDecimal, look, minus, global, touches}
+use Rattle.grammar.specs.Reading.{is_decimal, look, minus, global, touches}
 use Rattle.text.specs.Text.{sign1}
 use Rattle.grammar.specs.Going as going
-use Rattle.grammar.specs.Going.{Class, class_of, Start, leaf, paren, sign, nothing, ledBy, led}
+use Rattle.grammar.specs.Going.{Class, class_of, Start, leaf, paren, sign, nothing, led_by, led}
 use Rattle.grammar.proofs.Takes.{Took, idle}
 
 -- ---- the class of a byte
 
 abbrev pub Is : ℕ → Class → Type 0
-Is c going.digit = isDecimal c ≡ true
+Is c going.digit = is_decimal c ≡ true
 Is c going.minus = c ≡ 45
 Is c going.global = c ≡ 103
 Is c going.dot = c ≡ 46
@@ -30,9 +30,9 @@ branch : (c : ℕ) (b : Bool) (x y : Class) → (b ≡ true → Is c x) → Is c
 branch c true x y f g = f refl
 branch c false x y f g = g
 
-pub class-is : (c : ℕ) → Is c (class_of c)
+pub class_is : (c : ℕ) → Is c (class_of c)
 unfolding class_of
-class-is c =
+class_is c =
     let k8 : Class = cond (eqb c 32) going.space going.other in
     let k7 : Class = cond (eqb c 60) going.lower k8 in
     let k6 : Class = cond (eqb c 62) going.upper k7 in
@@ -40,7 +40,7 @@ class-is c =
     let k4 : Class = cond (eqb c 46) going.dot k5 in
     let k3 : Class = cond (eqb c 103) going.global k4 in
     let k2 : Class = cond (eqb c 45) going.minus k3 in
-    branch c (isDecimal c) going.digit k2 (λ e. e)
+    branch c (is_decimal c) going.digit k2 (λ e. e)
     (branch c (eqb c 45) going.minus k3 (eqb-true c 45)
     (branch c (eqb c 103) going.global k4 (eqb-true c 103)
     (branch c (eqb c 46) going.dot k5 (eqb-true c 46)
@@ -48,9 +48,9 @@ class-is c =
     (branch c (eqb c 62) going.upper k7 (eqb-true c 62) (branch c (eqb c 60) going.lower k8 (eqb-true c 60)
     (branch c (eqb c 32) going.space going.other (eqb-true c 32) tt)))))))
 
-pub class-digit : (c : ℕ) → isDecimal c ≡ true → class_of c ≡ going.digit
+pub class_digit : (c : ℕ) → is_decimal c ≡ true → class_of c ≡ going.digit
 unfolding class_of
-class-digit c e = rw e
+class_digit c e = rw e
 
 -- ---- behind spaces
 
@@ -61,33 +61,33 @@ FineLed t paren = ⊥
 FineLed t (sign s r) = (t ≡ sign1 s ∷ r) × (touches s r ≡ false)
 FineLed t (nothing r) = Took t r (λ w. (w ≡ []) ⊎ (w ≡ 45 ∷ [])) (λ x u. led x ≡ nothing u)
 
-pub fine-led : (t : List ℕ) → FineLed t (led t)
+pub fine_led : (t : List ℕ) → FineLed t (led t)
 unfolding led class_of
-fine-led [] = idle [] (inl refl) (λ u k. at u k)
+fine_led [] = idle [] (inl refl) (λ u k. at u k)
   where
     at : (u : List ℕ) → 0 ≡ look u → led u ≡ nothing u
     at [] e = refl
-    at (d ∷ x) e = ap (λ y. ledBy (class_of y) d x) (sym e)
-fine-led (c ∷ t) = by (class_of c) refl (class-is c)
+    at (d ∷ x) e = ap (λ y. led_by (class_of y) d x) (sym e)
+fine_led (c ∷ t) = by (class_of c) refl (class_is c)
   where
-    idles : (k : Class) → class_of c ≡ k → ((d : ℕ) (x : List ℕ) → ledBy k d x ≡ nothing (d ∷ x)) → FineLed (c ∷ t) (nothing (c ∷ t))
+    idles : (k : Class) → class_of c ≡ k → ((d : ℕ) (x : List ℕ) → led_by k d x ≡ nothing (d ∷ x)) → FineLed (c ∷ t) (nothing (c ∷ t))
     idles k p f = idle (c ∷ t) (inl refl) (λ u e. at u e)
       where
         at : (u : List ℕ) → c ≡ look u → led u ≡ nothing u
         at [] e = refl
-        at (d ∷ x) e = ap (λ y. ledBy y d x) (ap class_of (sym e) ∙ p) ∙ f d x
+        at (d ∷ x) e = ap (λ y. led_by y d x) (ap class_of (sym e) ∙ p) ∙ f d x
 
-    by : (k : Class) → class_of c ≡ k → Is c k → FineLed (c ∷ t) (ledBy k c t)
+    by : (k : Class) → class_of c ≡ k → Is c k → FineLed (c ∷ t) (led_by k c t)
     by going.digit p i = idles going.digit p (λ d x. refl)
-    by going.minus p i = on (isDecimal (look t)) refl
+    by going.minus p i = on (is_decimal (look t)) refl
       where
-        on : (b : Bool) → isDecimal (look t) ≡ b → FineLed (c ∷ t) (cond b (nothing t) (sign Negate t))
+        on : (b : Bool) → is_decimal (look t) ≡ b → FineLed (c ∷ t) (cond b (nothing t) (sign Negate t))
         on true q =
             record {
               w = c ∷ [];
               split = refl;
               means = inr (ap (λ y. y ∷ []) i);
-              alike = λ u k. ap (λ y. ledBy y c u) p ∙ ap (λ b. cond b (nothing u) (sign Negate u)) (ap isDecimal (sym k) ∙ q);
+              alike = λ u k. ap (λ y. led_by y c u) p ∙ ap (λ b. cond b (nothing u) (sign Negate u)) (ap is_decimal (sym k) ∙ q);
             }
         on false q = (ap (λ y. y ∷ t) i, q)
     by going.global p i = idles going.global p (λ d x. refl)

@@ -9,14 +9,14 @@ use Rattle.laws.proofs.Tests.{clash}
 use Rattle.rules.specs.declared.Op2.{Op2}
 use Rattle.rules.specs.Expressions.{Expr, two, one}
 use Rattle.grammar.specs.Reading.{look}
-use Rattle.grammar.specs.Going.{Read, got, stuck, onGot, Start, leaf, paren, sign, nothing, start, skip, opAt, gap, close, Mode, alone, whole, rest, Goes, leafs, opens, signs, nones, ends, fails, firsts, sinks, stops, agains, breaks}
+use Rattle.grammar.specs.Going.{Read, got, stuck, on_got, Start, leaf, paren, sign, nothing, start, skip, op_at, gap, close, Mode, alone, whole, rest, Goes, leafs, opens, signs, nones, ends, fails, firsts, sinks, stops, agains, breaks}
 
 -- ---- what led to an answer
 
 abbrev ByStart : Start → List ℕ → Read Expr → Type 0
 ByStart (leaf x) t o = o ≡ x
 ByStart paren t o = (x : Read Expr) × (Goes (whole 5) (drop 1 t) x × (o ≡ close x))
-ByStart (sign s r) t o = (x : Read Expr) × (Goes alone (skip r) x × (o ≡ onGot (one s) x))
+ByStart (sign s r) t o = (x : Read Expr) × (Goes alone (skip r) x × (o ≡ on_got (one s) x))
 ByStart (nothing r) t o = o ≡ stuck r
 
 -- o is what `on` makes of an expression and the text behind it, where the mode m reads them; else o is stuck where m is
@@ -32,13 +32,13 @@ abbrev Inv : Mode → List ℕ → Read Expr → Type 0
 Inv alone t o = ByStart (start t) t o
 Inv (whole zero) t o = Then alone t (λ e r. o ≡ gap e r) o
 Inv (whole (suc l)) t o = Then (whole l) t (λ e r. Goes (rest l e) r o) o
-Inv (rest l e) r o = ByOp (opAt (suc l) (look r)) l e r o
+Inv (rest l e) r o = ByOp (op_at (suc l) (look r)) l e r o
 
 inv : {m : Mode} {t : List ℕ} {o : Read Expr} → Goes m t o → Inv m t o
 unfolding Then
 inv (leafs {t = t} {o = o} q) = subst (λ x. ByStart x t o) (sym q) refl
 inv (opens {t = t} {o = o} q g) = subst (λ x. ByStart x t (close o)) (sym q) (o, (g, refl))
-inv (signs {t = t} {o = o} s q g) = subst (λ x. ByStart x t (onGot (one s) o)) (sym q) (o, (g, refl))
+inv (signs {t = t} {o = o} s q g) = subst (λ x. ByStart x t (on_got (one s) o)) (sym q) (o, (g, refl))
 inv (nones {t = t} {r = r} q) = subst (λ x. ByStart x t (stuck r)) (sym q) refl
 inv (ends {r = r} {e = e} g) = inl (e, (r, (g, refl)))
 inv (fails {r = r} g) = inr (r, (g, refl))
@@ -50,9 +50,9 @@ inv (breaks {r = r} {q = q} {e = e} {l = l} p z g) = subst (λ x. ByOp x l e r (
 
 -- ---- one answer
 
-abbrev onRead : (Expr → List ℕ → Read Expr) → Read Expr → Read Expr
-onRead f (got e r) = f e r
-onRead f (stuck r) = stuck r
+abbrev on_read : (Expr → List ℕ → Read Expr) → Read Expr → Read Expr
+on_read f (got e r) = f e r
+on_read f (stuck r) = stuck r
 
 abbrev Going : ℕ → (Expr → Expr) → Read Expr → Read Expr → Type 0
 Going l f o (got e r) = Goes (rest l (f e)) r o
@@ -66,12 +66,12 @@ determined (opens {t = t} {o = o} q g) x h =
     ap close (determined g i.0 i.1.0) ∙ sym i.1.1
 determined (signs {t = t} {o = o} s q g) x h =
     let i = subst (λ y. ByStart y t x) q (inv h) in
-    ap (onGot (one s)) (determined g i.0 i.1.0) ∙ sym i.1.1
+    ap (on_got (one s)) (determined g i.0 i.1.0) ∙ sym i.1.1
 determined (nones {t = t} q) x g = sym (subst (λ y. ByStart y t x) q (inv g))
 determined (ends {t = t} {r = r} {e = e} g) x h = on (inv h) (λ y k. determined g y k)
   where
     on : Inv (whole zero) t x → ((y : Read Expr) → Goes alone t y → got e r ≡ y) → gap e r ≡ x
-    on (inl (d, (q, (k, z)))) same = ap (onRead gap) (same (got d q) k) ∙ sym z
+    on (inl (d, (q, (k, z)))) same = ap (on_read gap) (same (got d q) k) ∙ sym z
     on (inr (q, (k, z))) same = let b = same (stuck q) k in clash (cc)
 determined (fails {t = t} {r = r} g) x h = on (inv h) (λ y k. determined g y k)
   where

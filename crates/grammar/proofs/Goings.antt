@@ -12,7 +12,7 @@ use lib.IntN.{pos}
 use lib.ListN.{length, drop, replicate}
 use borrow.Author.Tests.{eqb-true, not-false}
 use Rattle.laws.specs.Lists.{every}
-use Rattle.laws.proofs.Tests.{clash, false-true, true-false, and-true}
+use Rattle.laws.proofs.Tests.{clash, false_true, true_false, and_true}
 use Rattle.rules.specs.declared.Op1.{Op1}
 use Rattle.rules.specs.declared.Op1.TheVariants.{Negate, Upper, Lower}
 use Rattle.rules.specs.declared.Op2.{Op2}
@@ -20,16 +20,16 @@ use Rattle.rules.specs.declared.Op2.TheVariants.{Or}
 use Rattle.rules.specs.Expressions.{Expr, num, two, one}
 use Rattle.text.specs.Text.{sign1, sign2}
 use Rattle.grammar.specs.Reading as reading
-use Rattle.grammar.specs.Reading.{look, spaces, touches, levelOf, Exp, number, signed, parens, tighter, joined, worth}
-use Rattle.grammar.specs.Going.{Read, got, stuck, onGot, leaf, paren, sign, nothing, start, skip, infixOf, opAt, is_some, gap, close, Mode, alone, whole, rest, Goes, leafs, opens, signs, nones, ends, fails, firsts, sinks, stops, agains, breaks}
+use Rattle.grammar.specs.Reading.{look, spaces, touches, level_of, Exp, number, signed, parens, tighter, joined, worth}
+use Rattle.grammar.specs.Going.{Read, got, stuck, on_got, leaf, paren, sign, nothing, start, skip, infix_of, op_at, is_some, gap, close, Mode, alone, whole, rest, Goes, leafs, opens, signs, nones, ends, fails, firsts, sinks, stops, agains, breaks}
 use Rattle.grammar.proofs.Takes.{Took, front, idle, push, pull, turn, after}
-use Rattle.grammar.proofs.Starts.{Can, FineLeaf, fine-leaf, Signed, sign-starts, start-sign, paren-starts, start-paren, Blank, start-nothing}
-use Rattle.grammar.proofs.Spaces.{skip-look, spaced, leading, trailed, Operator, operator, op-at, head-look}
+use Rattle.grammar.proofs.Starts.{Can, FineLeaf, fine_leaf, Signed, sign_starts, start_sign, paren_starts, start_paren, Blank, start_nothing}
+use Rattle.grammar.proofs.Spaces.{skip_look, spaced, leading, trailed, Operator, operator, op_at_lem, head_look}
 
 -- ---- what is meant
 
 abbrev pub HasOp : List ℕ → Type 0
-HasOp r = is_some (infixOf (look r)) ≡ true
+HasOp r = is_some (infix_of (look r)) ≡ true
 
 -- an expression and spaces behind it, which an operator follows if there are any
 pub record Trails (l : ℕ) (e : Expr) (r w : List ℕ) : Type 0 where
@@ -67,9 +67,9 @@ pub bracketed : Exp 0 (num (pos 0)) (40 ∷ (48 ∷ (41 ∷ [])))
 bracketed = parens (lift5 nought)
 
 -- what was read so far can be gone on with to an expression of the lowest level
-pub can-5 : (w : List ℕ) → Ahead 5 w → Can 5 w
-can-5 w (inside c) = c
-can-5 w (behind e text n p x) =
+pub can_5 : (w : List ℕ) → Ahead 5 w → Can 5 w
+can_5 w (inside c) = c
+can_5 w (behind e text n p x) =
     record {
       more = 124 ∷ (48 ∷ []);
       tree = two Or e (num (pos 0));
@@ -78,39 +78,39 @@ can-5 w (behind e text n p x) =
           (joined Or n 0 refl x (tighter (tighter (tighter (tighter nought)))));
     }
 
-pub trails-ahead : (l : ℕ) (e : Expr) (r w : List ℕ) → Trails l e r w → Ahead l w
-trails-ahead l e r w a = behind e a.text a.n a.is a.good
+pub trails_ahead : (l : ℕ) (e : Expr) (r w : List ℕ) → Trails l e r w → Ahead l w
+trails_ahead l e r w a = behind e a.text a.n a.is a.good
 
-in-brackets : (w : List ℕ) → Can 5 w → Can 0 (40 ∷ w)
-in-brackets w c =
+in_brackets : (w : List ℕ) → Can 5 w → Can 0 (40 ∷ w)
+in_brackets w c =
     record {
       more = c.more ++ (41 ∷ []);
       tree = c.tree;
       good = subst (λ y. Exp 0 c.tree (40 ∷ y)) (append_assoc w c.more (41 ∷ [])) (parens c.good);
     }
 
-lift-ahead : (l : ℕ) (w : List ℕ) → Ahead l w → Ahead (suc l) w
-lift-ahead l w (inside c) = inside (record { more = c.more; tree = c.tree; good = tighter c.good })
-lift-ahead l w (behind e text n p x) = behind e text n p (tighter x)
+lift_ahead : (l : ℕ) (w : List ℕ) → Ahead l w → Ahead (suc l) w
+lift_ahead l w (inside c) = inside (record { more = c.more; tree = c.tree; good = tighter c.good })
+lift_ahead l w (behind e text n p x) = behind e text n p (tighter x)
 
 -- ---- an operand alone
 
-leaf-fine : (t : List ℕ) (o : Read Expr) → FineLeaf t o → Fine alone t o
-leaf-fine t (got e r) a = turn t r a (λ w s p. p) (λ w u s k g. leafs g)
-leaf-fine t (stuck r) a = turn t r a (λ w s p. p) (λ w u s k g. leafs g)
+leaf_fine : (t : List ℕ) (o : Read Expr) → FineLeaf t o → Fine alone t o
+leaf_fine t (got e r) a = turn t r a (λ w s p. p) (λ w u s k g. leafs g)
+leaf_fine t (stuck r) a = turn t r a (λ w s p. p) (λ w u s k g. leafs g)
 
 -- parentheses
 
-no-close : (r : List ℕ) → eqb (look r) 41 ≡ true → HasOp r → ◌≡◌ {A = ℕ} 0 1
-unfolding infixOf
-no-close r q h = let e : false ≡ true = subst (λ c. is_some (infixOf c) ≡ true) (eqb-true (look r) 41 q) h in cc
+no_close : (r : List ℕ) → eqb (look r) 41 ≡ true → HasOp r → ◌≡◌ {A = ℕ} 0 1
+unfolding infix_of
+no_close r q h = let e : false ≡ true = subst (λ c. is_some (infix_of c) ≡ true) (eqb-true (look r) 41 q) h in cc
 
 closes : (x : List ℕ) (e : Expr) (r : List ℕ) (b : Bool) → eqb (look r) 41 ≡ b → Fine (whole 5) x (got e r)
     → Fine alone (40 ∷ x) (cond b (got e (drop 1 r)) (stuck r))
 closes x e [] true q a = clash (cc)
 closes x e (c ∷ z) true q a =
     pull c (40 ∷ x) z (push {Q = λ w. (v : List ℕ) × ((w ≡ 40 ∷ v) × Exp 5 e v)} {H = λ y u. Goes alone y (close (got e u))} 40 x (c ∷ z) a
-    (λ w s m. (w, (refl, bare w m))) (λ y u k k' g. opens (paren-starts y) g))
+    (λ w s m. (w, (refl, bare w m))) (λ y u k k' g. opens (paren_starts y) g))
     (λ w m. closed w m.0 m.1.0 m.1.1) (λ y u g. subst (λ b. Goes alone y (cond b (got e u) (stuck (c ∷ u)))) q g)
   where
     f : c ≡ 41
@@ -121,51 +121,51 @@ closes x e (c ∷ z) true q a =
       where
         on : (m.n ≡ 0) ⊎ HasOp (c ∷ z) → Exp 5 e w
         on (inl h) = subst (λ y. Exp 5 e y) (sym (m.is ∙ ap (λ k. m.text ++ spaces k) h ∙ append-nil m.text)) m.good
-        on (inr h) = clash (no-close (c ∷ z) q h)
+        on (inr h) = clash (no_close (c ∷ z) q h)
 
     closed : (w v : List ℕ) → w ≡ 40 ∷ v → Exp 5 e v → Exp 0 e (w ++ (c ∷ []))
     closed w v p g = subst (λ y. Exp 0 e (y ++ (c ∷ []))) (sym p) (subst (λ y. Exp 0 e (40 ∷ (v ++ (y ∷ [])))) (sym f) (parens g))
 closes x e r false q a =
-    push 40 x r a (λ w s m. in-brackets w (can-5 w (trails-ahead 5 e r w m)))
-    (λ y u k k' g. subst (λ b. Goes alone (40 ∷ y) (cond b (got e (drop 1 u)) (stuck u))) (ap (λ c. eqb c 41) (sym k') ∙ q) (opens (paren-starts y) g))
+    push 40 x r a (λ w s m. in_brackets w (can_5 w (trails_ahead 5 e r w m)))
+    (λ y u k k' g. subst (λ b. Goes alone (40 ∷ y) (cond b (got e (drop 1 u)) (stuck u))) (ap (λ c. eqb c 41) (sym k') ∙ q) (opens (paren_starts y) g))
 
-open-fine : (x : List ℕ) (o : Read Expr) → Fine (whole 5) x o → Fine alone (40 ∷ x) (close o)
-open-fine x (got e r) a = closes x e r (eqb (look r) 41) refl a
-open-fine x (stuck r) a = push 40 x r a (λ w s m. in-brackets w (can-5 w m)) (λ y u k k' g. opens (paren-starts y) g)
+open_fine : (x : List ℕ) (o : Read Expr) → Fine (whole 5) x o → Fine alone (40 ∷ x) (close o)
+open_fine x (got e r) a = closes x e r (eqb (look r) 41) refl a
+open_fine x (stuck r) a = push 40 x r a (λ w s m. in_brackets w (can_5 w m)) (λ y u k k' g. opens (paren_starts y) g)
 
 -- signs
 
-pub touch-look : (s : Op1) (x y : List ℕ) → look x ≡ look y → touches s x ≡ false → touches s y ≡ false
-touch-look Negate x y k e = ap reading.isDecimal (sym k) ∙ e
-touch-look Upper x y k e = refl
-touch-look Lower x y k e = refl
+pub touch_look : (s : Op1) (x y : List ℕ) → look x ≡ look y → touches s x ≡ false → touches s y ≡ false
+touch_look Negate x y k e = ap reading.is_decimal (sym k) ∙ e
+touch_look Upper x y k e = refl
+touch_look Lower x y k e = refl
 
-sign-goes : (s : Op1) (x y : List ℕ) (o : Read Expr) → touches s x ≡ false → look x ≡ look y → Goes alone (skip y) o → (m : ℕ)
-    → Goes alone (spaces m ++ (sign1 s ∷ y)) (onGot (one s) o)
-sign-goes s x y o e k g m = signs s (sign-starts s m y (touch-look s x y k e)) g
+sign_goes : (s : Op1) (x y : List ℕ) (o : Read Expr) → touches s x ≡ false → look x ≡ look y → Goes alone (skip y) o → (m : ℕ)
+    → Goes alone (spaces m ++ (sign1 s ∷ y)) (on_got (one s) o)
+sign_goes s x y o e k g m = signs s (sign_starts s m y (touch_look s x y k e)) g
 
-sign-fine : (s : Op1) (m : ℕ) (x : List ℕ) → touches s x ≡ false → (o : Read Expr) → Fine alone (skip x) o
-    → Fine alone (spaces m ++ (sign1 s ∷ x)) (onGot (one s) o)
-sign-fine s m x e (got d r) a =
+sign_fine : (s : Op1) (m : ℕ) (x : List ℕ) → touches s x ≡ false → (o : Read Expr) → Fine alone (skip x) o
+    → Fine alone (spaces m ++ (sign1 s ∷ x)) (on_got (one s) o)
+sign_fine s m x e (got d r) a =
     leading {P = λ w. Exp 0 (one s d) w} {G = λ y u. Goes alone y (got (one s d) u)} m (sign1 s ∷ x) r
     (push {G = λ y u. Goes alone (skip y) (got d u)} (sign1 s) x r
     (spaced {Q = λ w. (n : ℕ) × ((v : List ℕ) × ((w ≡ spaces n ++ v) × Exp 0 d v))} {H = λ y u. Goes alone (skip y) (got d u)} x r a (λ n w q p. (n, (w, (refl, p)))) (λ y u k k' g. g))
-    (λ w q p. means w p.0 p.1.0 q p.1.1.0 p.1.1.1) (λ y u k k' g. sign-goes s x y (got d u) e k g m))
+    (λ w q p. means w p.0 p.1.0 q p.1.1.0 p.1.1.1) (λ y u k k' g. sign_goes s x y (got d u) e k g m))
   where
     means : (w : List ℕ) (n : ℕ) (v : List ℕ) → x ≡ w ++ r → w ≡ spaces n ++ v → Exp 0 d v → Exp 0 (one s d) (spaces m ++ (sign1 s ∷ w))
     means w n v q p g =
         subst (λ y. Exp 0 (one s d) (spaces m ++ (sign1 s ∷ y))) (sym p)
-        (signed s m n (touch-look s x (spaces n ++ v) (ap look (q ∙ ap (λ y. y ++ r) p) ∙ same n) e) g)
+        (signed s m n (touch_look s x (spaces n ++ v) (ap look (q ∙ ap (λ y. y ++ r) p) ∙ same n) e) g)
       where
         same : (n : ℕ) → look ((spaces n ++ v) ++ r) ≡ look (spaces n ++ v)
-        same zero = head-look g r
+        same zero = head_look g r
         same (suc m) = refl
-sign-fine s m x e (stuck r) a =
+sign_fine s m x e (stuck r) a =
     leading {P = λ w. Can 0 w} {G = λ y u. Goes alone y (stuck u)} m (sign1 s ∷ x) r
     (push {G = λ y u. Goes alone (skip y) (stuck u)} (sign1 s) x r
     (spaced {Q = λ w. (n : ℕ) × ((v : List ℕ) × ((w ≡ spaces n ++ v) × Can 0 v))} {H = λ y u. Goes alone (skip y) (stuck u)} x r a (λ n w q p. (n, (w, (refl, p)))) (λ y u k k' g. g))
     (λ w q p. subst (λ y. Can 0 (spaces m ++ (sign1 s ∷ y))) (sym p.1.1.0) (means p.0 p.1.0 (q ∙ ap (λ y. y ++ r) p.1.1.0) p.1.1.1))
-    (λ y u k k' g. sign-goes s x y (stuck u) e k g m))
+    (λ y u k k' g. sign_goes s x y (stuck u) e k g m))
   where
     spared : (s : Op1) → touches s (40 ∷ (48 ∷ (41 ∷ []))) ≡ false
     spared Negate = refl
@@ -186,13 +186,13 @@ sign-fine s m x e (stuck r) a =
 
     means : (n : ℕ) (v : List ℕ) → x ≡ (spaces n ++ v) ++ r → Can 0 v → Can 0 (spaces m ++ (sign1 s ∷ (spaces n ++ v)))
     means zero [] q c = further 0 [] (40 ∷ (48 ∷ (41 ∷ []))) (num (pos 0)) bracketed (spared s)
-    means zero (b ∷ v) q c = further 0 (b ∷ v) c.more c.tree c.good (touch-look s x (b ∷ (v ++ c.more)) (ap look q) e)
-    means (suc n) v q c = further (suc n) v c.more c.tree c.good (touch-look s x (spaces (suc n) ++ (v ++ c.more)) (ap look q) e)
+    means zero (b ∷ v) q c = further 0 (b ∷ v) c.more c.tree c.good (touch_look s x (b ∷ (v ++ c.more)) (ap look q) e)
+    means (suc n) v q c = further (suc n) v c.more c.tree c.good (touch_look s x (spaces (suc n) ++ (v ++ c.more)) (ap look q) e)
 
 -- nothing that an operand begins with: behind spaces a sign could stand, and behind them and a minus a space
-blank-can : (w : List ℕ) (n : ℕ) → (w ≡ spaces n) ⊎ (w ≡ spaces n ++ (45 ∷ [])) → Can 0 w
-blank-can w n (inl p) = subst (λ y. Can 0 y) (sym p) (record { more = 62 ∷ (48 ∷ []); tree = one Upper (num (pos 0)); good = signed Upper n 0 refl nought })
-blank-can w n (inr p) =
+blank_can : (w : List ℕ) (n : ℕ) → (w ≡ spaces n) ⊎ (w ≡ spaces n ++ (45 ∷ [])) → Can 0 w
+blank_can w n (inl p) = subst (λ y. Can 0 y) (sym p) (record { more = 62 ∷ (48 ∷ []); tree = one Upper (num (pos 0)); good = signed Upper n 0 refl nought })
+blank_can w n (inr p) =
     subst (λ y. Can 0 y) (sym p)
     (record {
       more = 32 ∷ (48 ∷ []);
@@ -200,21 +200,21 @@ blank-can w n (inr p) =
       good = subst (λ y. Exp 0 (one Negate (num (pos 0))) y) (sym (append_assoc (spaces n) (45 ∷ []) (32 ∷ (48 ∷ [])))) (signed Negate n 1 refl nought);
     })
 
-none-fine : (t r : List ℕ) → start t ≡ nothing r → Fine alone t (stuck r)
-none-fine t r e = turn t r (start-nothing t r e) (λ w s p. blank-can w p.0 p.1) (λ w u s k g. nones g)
+none_fine : (t r : List ℕ) → start t ≡ nothing r → Fine alone t (stuck r)
+none_fine t r e = turn t r (start_nothing t r e) (λ w s p. blank_can w p.0 p.1) (λ w u s k g. nones g)
 
 -- ---- the spaces behind an operand
 
 abbrev tested : List ℕ → List ℕ → Bool
-tested r q = eqb (look r) 32 && not (is_some (infixOf (look q)))
+tested r q = eqb (look r) 32 && not (is_some (infix_of (look q)))
 
-gap-fine : (t : List ℕ) (e : Expr) (r : List ℕ) → Fine alone t (got e r) → (b : Bool) → tested r (skip r) ≡ b → Fine (whole 0) t (cond b (stuck (skip r)) (got e (skip r)))
-gap-fine t e r a b q = on b q
+gap_fine : (t : List ℕ) (e : Expr) (r : List ℕ) → Fine alone t (got e r) → (b : Bool) → tested r (skip r) ≡ b → Fine (whole 0) t (cond b (stuck (skip r)) (got e (skip r)))
+gap_fine t e r a b q = on b q
   where
     goes : (b : Bool) → tested r (skip r) ≡ b → (x y u : List ℕ) → look r ≡ look y → look (skip r) ≡ look u → skip y ≡ u → Goes alone x (got e y)
         → Goes (whole 0) x (cond b (stuck u) (got e u))
     goes b q x y u k m s g =
-        subst (λ b. Goes (whole 0) x (cond b (stuck u) (got e u))) (ap (λ c. eqb c 32 && not (is_some (infixOf (look u)))) (sym k) ∙ ap (λ c. eqb (look r) 32 && not (is_some (infixOf c))) (sym m) ∙ q)
+        subst (λ b. Goes (whole 0) x (cond b (stuck u) (got e u))) (ap (λ c. eqb c 32 && not (is_some (infix_of (look u)))) (sym k) ∙ ap (λ c. eqb (look r) 32 && not (is_some (infix_of c))) (sym m) ∙ q)
         (subst (λ v. Goes (whole 0) x (cond (tested y v) (stuck v) (got e v))) s (ends g))
 
     on : (b : Bool) → tested r (skip r) ≡ b → Fine (whole 0) t (cond b (stuck (skip r)) (got e (skip r)))
@@ -223,35 +223,35 @@ gap-fine t e r a b q = on b q
       where
         follows : (n : ℕ) → r ≡ spaces n ++ skip r → (n ≡ 0) ⊎ HasOp (skip r)
         follows zero s = inl refl
-        follows (suc n) s = inr (not-false (is_some (infixOf (look (skip r)))) (subst (λ c. eqb c 32 && not (is_some (infixOf (look (skip r)))) ≡ false) (ap look s) q))
+        follows (suc n) s = inr (not-false (is_some (infix_of (look (skip r)))) (subst (λ c. eqb c 32 && not (is_some (infix_of (look (skip r)))) ≡ false) (ap look s) q))
 
 -- ---- chains
 
 -- an expression of level l, and what follows it in a chain of level l + 1
-chain-fine : (l : ℕ) (t : List ℕ) (e : Expr) (r : List ℕ) (o : Read Expr) → Fine (whole l) t (got e r) → Fine (rest l e) r o → Fine (whole (suc l)) t o
-chain-fine l t e r (got d q) a b =
+chain_fine : (l : ℕ) (t : List ℕ) (e : Expr) (r : List ℕ) (o : Read Expr) → Fine (whole l) t (got e r) → Fine (rest l e) r o → Fine (whole (suc l)) t o
+chain_fine l t e r (got d q) a b =
     after t r q a b
     (λ w v s m f.
     subst (λ y. Trails (suc l) d q y) (sym (ap (λ y. y ++ v) m.is ∙ append_assoc m.text (spaces m.n) v)) (f m.text m.n (tighter m.good) m.follows))
     (λ x y u k k' g h. firsts g h)
-chain-fine l t e r (stuck q) a b =
+chain_fine l t e r (stuck q) a b =
     after t r q a b
     (λ w v s m f.
     subst (λ y. Ahead (suc l) y) (sym (ap (λ y. y ++ v) m.is ∙ append_assoc m.text (spaces m.n) v)) (f m.text m.n (tighter m.good)))
     (λ x y u k k' g h. firsts g h)
 
-stop-fine : (l : ℕ) (e : Expr) (r : List ℕ) → opAt (suc l) (look r) ≡ none → Fine (rest l e) r (got e r)
-stop-fine l e r q =
+stop_fine : (l : ℕ) (e : Expr) (r : List ℕ) → op_at (suc l) (look r) ≡ none → Fine (rest l e) r (got e r)
+stop_fine l e r q =
     idle r (λ s n x f. record { text = s; n = n; is = ap (λ y. s ++ y) (append-nil (spaces n)); good = x; follows = f })
-    (λ u k. stops (ap (λ c. opAt (suc l) c) (sym k) ∙ q))
+    (λ u k. stops (ap (λ c. op_at (suc l) c) (sym k) ∙ q))
 
 -- an operator and its right operand, then the rest: the text of all of it, put together in two ways
 regroup : (s a b c d v : List ℕ) (o : ℕ) → (s ++ (a ++ (o ∷ (b ++ c)))) ++ (d ++ v) ≡ s ++ (a ++ (o ∷ (b ++ ((c ++ d) ++ v))))
 regroup s a b c d v o = simp append_assoc
 
-again-fine : (l : ℕ) (p : Op2) (e : Expr) (x : List ℕ) (d : Expr) (q : List ℕ) (o : Read Expr) → levelOf p ≡ suc l → Fine (whole l) (skip x) (got d q)
+again_fine : (l : ℕ) (p : Op2) (e : Expr) (x : List ℕ) (d : Expr) (q : List ℕ) (o : Read Expr) → level_of p ≡ suc l → Fine (whole l) (skip x) (got d q)
     → Fine (rest l (two p e d)) q o → Fine (rest l e) (sign2 p ∷ x) o
-again-fine l p e x d q (got e' r) h a b =
+again_fine l p e x d q (got e' r) h a b =
     push (sign2 p) x r
     (spaced {Q = λ w. (m : ℕ) × ((v : List ℕ) × ((w ≡ spaces m ++ v) × ((s : List ℕ) (n k : ℕ) → Exp (suc l) e s → Trails (suc l) e' r (s ++ (spaces n ++ (sign2 p ∷ (spaces k ++ v)))))))}
     {H = λ y u. (z : List ℕ) × (Goes (whole l) (skip y) (got d z) × Goes (rest l (two p e d)) z (got e' u))} x r
@@ -264,8 +264,8 @@ again-fine l p e x d q (got e' r) h a b =
     (λ y z u k k' g g'. (z, (g, g'))))
     (λ m w z f. (m, (w, (refl, f)))) (λ y u k k' g. g))
     (λ w z m. λ s n g f. subst (λ y. Trails (suc l) e' r (s ++ (spaces n ++ (sign2 p ∷ y)))) (sym m.1.1.0) (m.1.1.1 s n m.0 g))
-    (λ y u k k' g. agains p (op-at (suc l) p h) g.1.0 g.1.1)
-again-fine l p e x d q (stuck r) h a b =
+    (λ y u k k' g. agains p (op_at_lem (suc l) p h) g.1.0 g.1.1)
+again_fine l p e x d q (stuck r) h a b =
     push (sign2 p) x r
     (spaced {Q = λ w. (m : ℕ) × ((v : List ℕ) × ((w ≡ spaces m ++ v) × ((s : List ℕ) (n k : ℕ) → Exp (suc l) e s → Ahead (suc l) (s ++ (spaces n ++ (sign2 p ∷ (spaces k ++ v)))))))}
     {H = λ y u. (z : List ℕ) × (Goes (whole l) (skip y) (got d z) × Goes (rest l (two p e d)) z (stuck u))} x r
@@ -278,14 +278,14 @@ again-fine l p e x d q (stuck r) h a b =
     (λ y z u k k' g g'. (z, (g, g'))))
     (λ m w z f. (m, (w, (refl, f)))) (λ y u k k' g. g))
     (λ w z m. λ s n g. subst (λ y. Ahead (suc l) (s ++ (spaces n ++ (sign2 p ∷ y)))) (sym m.1.1.0) (m.1.1.1 s n m.0 g))
-    (λ y u k k' g. agains p (op-at (suc l) p h) g.1.0 g.1.1)
+    (λ y u k k' g. agains p (op_at_lem (suc l) p h) g.1.0 g.1.1)
 
-break-fine : (l : ℕ) (p : Op2) (e : Expr) (x q : List ℕ) → levelOf p ≡ suc l → Fine (whole l) (skip x) (stuck q) → Fine (rest l e) (sign2 p ∷ x) (stuck q)
-break-fine l p e x q h a =
+break_fine : (l : ℕ) (p : Op2) (e : Expr) (x q : List ℕ) → level_of p ≡ suc l → Fine (whole l) (skip x) (stuck q) → Fine (rest l e) (sign2 p ∷ x) (stuck q)
+break_fine l p e x q h a =
     push (sign2 p) x q
     (spaced {Q = λ w. (m : ℕ) × ((v : List ℕ) × ((w ≡ spaces m ++ v) × Ahead l v))} {H = λ y u. Goes (whole l) (skip y) (stuck u)} x q a (λ m w z f. (m, (w, (refl, f)))) (λ y u k k' g. g))
     (λ w z m. λ s n g. subst (λ y. Ahead (suc l) (s ++ (spaces n ++ (sign2 p ∷ y)))) (sym m.1.1.0) (ahead s n m.0 m.1.0 g m.1.1.1))
-    (λ y u k k' g. breaks p (op-at (suc l) p h) g)
+    (λ y u k k' g. breaks p (op_at_lem (suc l) p h) g)
   where
     three : (s a b c v : List ℕ) (o : ℕ) → (s ++ (a ++ (o ∷ (b ++ c)))) ++ v ≡ s ++ (a ++ (o ∷ (b ++ (c ++ v))))
     three s a b c v o = simp append_assoc
@@ -305,24 +305,24 @@ break-fine l p e x q h a =
 -- ---- the whole
 
 pub fine : {m : Mode} {t : List ℕ} {o : Read Expr} → Goes m t o → Fine m t o
-fine (leafs {t = t} {o = o} e) = leaf-fine t o (fine-leaf t o e)
+fine (leafs {t = t} {o = o} e) = leaf_fine t o (fine_leaf t o e)
 fine (opens {t = t} {o = o} e g) =
-    let p = start-paren t e in
-    subst (λ y. Fine alone y (close o)) (sym p.1) (open-fine p.0 o (subst (λ y. Fine (whole 5) (drop 1 y) o) p.1 (fine g)))
+    let p = start_paren t e in
+    subst (λ y. Fine alone y (close o)) (sym p.1) (open_fine p.0 o (subst (λ y. Fine (whole 5) (drop 1 y) o) p.1 (fine g)))
 fine (signs {t = t} {r = r} {o = o} s e g) =
-    let p = start-sign s r t e in
-    subst (λ y. Fine alone y (onGot (one s) o)) (sym p.is) (sign-fine s p.n r p.apart o (fine g))
-fine (nones {t = t} {r = r} e) = none-fine t r e
-fine (ends {t = t} {r = r} {e = e} g) = gap-fine t e r (fine g) (tested r (skip r)) refl
+    let p = start_sign s r t e in
+    subst (λ y. Fine alone y (on_got (one s) o)) (sym p.is) (sign_fine s p.n r p.apart o (fine g))
+fine (nones {t = t} {r = r} e) = none_fine t r e
+fine (ends {t = t} {r = r} {e = e} g) = gap_fine t e r (fine g) (tested r (skip r)) refl
 fine (fails {t = t} {r = r} g) = turn t r (fine g) (λ w s c. inside c) (λ w u s k g. fails g)
-fine (firsts {t = t} {r = r} {e = e} {o = o} {l = l} g h) = chain-fine l t e r o (fine g) (fine h)
-fine (sinks {t = t} {r = r} {l = l} g) = turn t r (fine g) (λ w s c. lift-ahead l w c) (λ w u s k g. sinks g)
-fine (stops {r = r} {e = e} {l = l} q) = stop-fine l e r q
+fine (firsts {t = t} {r = r} {e = e} {o = o} {l = l} g h) = chain_fine l t e r o (fine g) (fine h)
+fine (sinks {t = t} {r = r} {l = l} g) = turn t r (fine g) (λ w s c. lift_ahead l w c) (λ w u s k g. sinks g)
+fine (stops {r = r} {e = e} {l = l} q) = stop_fine l e r q
 fine (agains {r = r} {q = q} {e = e} {d = d} {l = l} {o = o} p z g h) =
     let x = operator (suc l) p r z in
     subst (λ y. Fine (rest l e) y o) (sym x.is)
-    (again-fine l p e x.tail d q o x.level (subst (λ y. Fine (whole l) (skip (drop 1 y)) (got d q)) x.is (fine g)) (fine h))
+    (again_fine l p e x.tail d q o x.level (subst (λ y. Fine (whole l) (skip (drop 1 y)) (got d q)) x.is (fine g)) (fine h))
 fine (breaks {r = r} {q = q} {e = e} {l = l} p z g) =
     let x = operator (suc l) p r z in
     subst (λ y. Fine (rest l e) y (stuck q)) (sym x.is)
-    (break-fine l p e x.tail q x.level (subst (λ y. Fine (whole l) (skip (drop 1 y)) (stuck q)) x.is (fine g)))
+    (break_fine l p e x.tail q x.level (subst (λ y. Fine (whole l) (skip (drop 1 y)) (stuck q)) x.is (fine g)))

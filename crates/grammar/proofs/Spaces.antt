@@ -10,7 +10,7 @@ use lib.Dec.{leb, eqb, lit≤}
 use lib.ListN.{length, replicate}
 use borrow.Author.Tests.{leb-true, le-leb, eqb-true, eq-eqb, ne_eqb}
 use Rattle.laws.specs.Lists.{every}
-use Rattle.laws.proofs.Tests.{clash, false-true, true-false, and-true, and_both}
+use Rattle.laws.proofs.Tests.{clash, false_true, true_false, and_true, and_both}
 use Rattle.rules.specs.declared.Op1.{Op1}
 use Rattle.rules.specs.declared.Op1.TheVariants.{Negate, Upper, Lower}
 use Rattle.rules.specs.declared.Op2.{Op2}
@@ -18,37 +18,37 @@ use Rattle.rules.specs.declared.Op2.TheVariants.{Plus, Minus, Times, Divide, Xor
 use Rattle.rules.specs.Expressions.{Expr, num, name, two, one}
 use Rattle.text.specs.Text.{sign1, sign2}
 use Rattle.grammar.specs.Reading as reading
-use Rattle.grammar.specs.Reading.{isDecimal, look, spaces, levelOf, Decimal, Number, Name, Exp, number, named, signed, parens, tighter, joined}
-use Rattle.grammar.specs.Going.{skip, infixOf, atLevel, opAt, is_some}
+use Rattle.grammar.specs.Reading.{is_decimal, look, spaces, level_of, Decimal, Number, Name, Exp, number, named, signed, parens, tighter, joined}
+use Rattle.grammar.specs.Going.{skip, infix_of, at_level, op_at, is_some}
 use Rattle.grammar.proofs.Takes.{Took, front}
-use Rattle.grammar.proofs.Digits.{AllDigits, first-digit}
+use Rattle.grammar.proofs.Digits.{AllDigits, first_digit}
 
 -- ---- spaces
 
-pub skip-clear : (u : List ℕ) → eqb (look u) 32 ≡ false → skip u ≡ u
+pub skip_clear : (u : List ℕ) → eqb (look u) 32 ≡ false → skip u ≡ u
 unfolding skip
-skip-clear [] e = refl
-skip-clear (c ∷ u) e = rw e
+skip_clear [] e = refl
+skip_clear (c ∷ u) e = rw e
 
-pub skip-spaces : (n : ℕ) (u : List ℕ) → eqb (look u) 32 ≡ false → skip (spaces n ++ u) ≡ u
+pub skip_spaces : (n : ℕ) (u : List ℕ) → eqb (look u) 32 ≡ false → skip (spaces n ++ u) ≡ u
 unfolding skip
-skip-spaces zero u e = skip-clear u e
-skip-spaces (suc n) u e = skip-spaces n u e
+skip_spaces zero u e = skip_clear u e
+skip_spaces (suc n) u e = skip_spaces n u e
 
-pub skip-look : (t : List ℕ) → eqb (look (skip t)) 32 ≡ false
+pub skip_look : (t : List ℕ) → eqb (look (skip t)) 32 ≡ false
 unfolding skip
-skip-look [] = refl
-skip-look (c ∷ t) = on (eqb c 32) refl (skip-look t)
+skip_look [] = refl
+skip_look (c ∷ t) = on (eqb c 32) refl (skip_look t)
   where
     on : (b : Bool) → eqb c 32 ≡ b → eqb (look (skip t)) 32 ≡ false → eqb (look (cond b (skip t) (c ∷ t))) 32 ≡ false
     on true p h = h
     on false p h = p
 
 -- however many stand before
-pub skip-over : (n : ℕ) (u : List ℕ) → skip (spaces n ++ u) ≡ skip u
+pub skip_over : (n : ℕ) (u : List ℕ) → skip (spaces n ++ u) ≡ skip u
 unfolding skip
-skip-over zero u = refl
-skip-over (suc n) u = skip-over n u
+skip_over zero u = refl
+skip_over (suc n) u = skip_over n u
 
 pub blanks : (t : List ℕ) → (n : ℕ) × (t ≡ spaces n ++ skip t)
 unfolding skip
@@ -76,7 +76,7 @@ spaced {G = G} {H = H} t r a f g =
           let y : List ℕ = spaces n ++ (a.w ++ u) in
           let m : look (skip t) ≡ look (a.w ++ u) = ap look a.split ∙ front a.w r u k in
           let same : look t ≡ look y = ap look s.1 ∙ front (spaces n) (skip t) (a.w ++ u) m in
-          let skips : skip y ≡ a.w ++ u = skip-spaces n (a.w ++ u) (ap (λ c. eqb c 32) (sym m) ∙ skip-look t) in
+          let skips : skip y ≡ a.w ++ u = skip_spaces n (a.w ++ u) (ap (λ c. eqb c 32) (sym m) ∙ skip_look t) in
           subst (λ x. H x u) (sym (append_assoc (spaces n) a.w u)) (g y u same k (subst (λ x. G x u) (sym skips) (a.alike u k)));
     }
 
@@ -106,7 +106,7 @@ trailed {H = H} t r a f g =
           let y : List ℕ = spaces n ++ u in
           let same : look r ≡ look y = ap look s.1 ∙ front (spaces n) (skip r) u k in
           subst (λ x. H x u) (sym (append_assoc a.w (spaces n) u))
-          (g (a.w ++ y) y u same k (skip-spaces n u (ap (λ c. eqb c 32) (sym k) ∙ skip-look r)) (a.alike y same));
+          (g (a.w ++ y) y u same k (skip_spaces n u (ap (λ c. eqb c 32) (sym k) ∙ skip_look r)) (a.alike y same));
     }
 
 -- ---- operators
@@ -119,9 +119,9 @@ branch : (c : ℕ) (b : Bool) (x y : Option Op2) → (b ≡ true → IsOp c x) �
 branch c true x y f g = f refl
 branch c false x y f g = g
 
-op-is : (c : ℕ) → IsOp c (infixOf c)
-unfolding infixOf
-op-is c =
+op_is : (c : ℕ) → IsOp c (infix_of c)
+unfolding infix_of
+op_is c =
     let k7 : Option Op2 = cond (eqb c 124) (some Or) none in
     let k6 : Option Op2 = cond (eqb c 94) (some Xor) k7 in
     let k5 : Option Op2 = cond (eqb c 38) (some And) k6 in
@@ -135,35 +135,35 @@ op-is c =
     (branch c (eqb c 38) (some And) k6 (eqb-true c 38)
     (branch c (eqb c 94) (some Xor) k7 (eqb-true c 94) (branch c (eqb c 124) (some Or) none (eqb-true c 124) tt))))))
 
-pub infix-sign : (o : Op2) → infixOf (sign2 o) ≡ some o
-unfolding infixOf
-infix-sign Plus = refl
-infix-sign Minus = refl
-infix-sign Times = refl
-infix-sign Divide = refl
-infix-sign Xor = refl
-infix-sign And = refl
-infix-sign Or = refl
+pub infix_sign : (o : Op2) → infix_of (sign2 o) ≡ some o
+unfolding infix_of
+infix_sign Plus = refl
+infix_sign Minus = refl
+infix_sign Times = refl
+infix_sign Divide = refl
+infix_sign Xor = refl
+infix_sign And = refl
+infix_sign Or = refl
 
-pub op-at : (l : ℕ) (o : Op2) → levelOf o ≡ l → opAt l (sign2 o) ≡ some o
-op-at l o e = rw (infix-sign o) (rw (eq-eqb (levelOf o) l e))
+pub op_at_lem : (l : ℕ) (o : Op2) → level_of o ≡ l → op_at l (sign2 o) ≡ some o
+op_at_lem l o e = rw (infix_sign o) (rw (eq-eqb (level_of o) l e))
 
-pub op-other : (l : ℕ) (o : Op2) → (levelOf o ≡ l → ⊥) → opAt l (sign2 o) ≡ none
-op-other l o e = rw (infix-sign o) (rw (ne_eqb (levelOf o) l e))
+pub op_other : (l : ℕ) (o : Op2) → (level_of o ≡ l → ⊥) → op_at l (sign2 o) ≡ none
+op_other l o e = rw (infix_sign o) (rw (ne_eqb (level_of o) l e))
 
 pub record Operator (l : ℕ) (o : Op2) (r : List ℕ) : Type 0 where
   pub tail : List ℕ
   pub is : r ≡ sign2 o ∷ tail
-  pub level : levelOf o ≡ l
+  pub level : level_of o ≡ l
 
-pub operator : (l : ℕ) (o : Op2) (r : List ℕ) → opAt l (look r) ≡ some o → Operator l o r
-operator l o r e = on (infixOf (look r)) refl (op-is (look r)) e
+pub operator : (l : ℕ) (o : Op2) (r : List ℕ) → op_at l (look r) ≡ some o → Operator l o r
+operator l o r e = on (infix_of (look r)) refl (op_is (look r)) e
   where
-    seen : (p : Op2) (b : Bool) → eqb (levelOf p) l ≡ b → cond b (some p) none ≡ some o → (p ≡ o) × (levelOf p ≡ l)
-    seen p true q e = (cc, eqb-true (levelOf p) l q)
+    seen : (p : Op2) (b : Bool) → eqb (level_of p) l ≡ b → cond b (some p) none ≡ some o → (p ≡ o) × (level_of p ≡ l)
+    seen p true q e = (cc, eqb-true (level_of p) l q)
     seen p false q e = clash (cc)
 
-    at : (r : List ℕ) → look r ≡ sign2 o → levelOf o ≡ l → Operator l o r
+    at : (r : List ℕ) → look r ≡ sign2 o → level_of o ≡ l → Operator l o r
     at [] f g = clash (nosign o f)
       where
         nosign : (p : Op2) → 0 ≡ sign2 p → ◌≡◌ {A = ℕ} 0 1
@@ -176,11 +176,11 @@ operator l o r e = on (infixOf (look r)) refl (op-is (look r)) e
         nosign Or e = omega arith
     at (c ∷ t) f g = record { tail = t; is = ap (λ x. x ∷ t) f; level = g }
 
-    on : (x : Option Op2) → infixOf (look r) ≡ x → IsOp (look r) x → atLevel l x ≡ some o → Operator l o r
+    on : (x : Option Op2) → infix_of (look r) ≡ x → IsOp (look r) x → at_level l x ≡ some o → Operator l o r
     on none p i e = clash (cc)
     on (some p) q i e =
-        let s = seen p (eqb (levelOf p) l) refl e in
-        at r (i ∙ ap sign2 s.0) (ap levelOf (sym s.0) ∙ s.1)
+        let s = seen p (eqb (level_of p) l) refl e in
+        at r (i ∙ ap sign2 s.0) (ap level_of (sym s.0) ∙ s.1)
 
 pub sign_clear : (o : Op1) → eqb (sign1 o) 32 ≡ false
 sign_clear Negate = refl
@@ -194,12 +194,12 @@ record Head (w : List ℕ) : Type 0 where
   tail : List ℕ
   is : w ≡ first ∷ tail
 
-number-head : (most v : ℕ) (t : List ℕ) → Decimal most v t → Head t
-number-head most v [] d = absurd (omega (arith, d.some))
-number-head most v (c ∷ t) d = record { first = c; tail = t; is = refl }
+number_head : (most v : ℕ) (t : List ℕ) → Decimal most v t → Head t
+number_head most v [] d = absurd (omega (arith, d.some))
+number_head most v (c ∷ t) d = record { first = c; tail = t; is = refl }
 
 head : {l : ℕ} {e : Expr} {w : List ℕ} → Exp l e w → Head w
-head (number (reading.plain {v = v} {t = t} d)) = number-head 2147483647 v t d
+head (number (reading.plain {v = v} {t = t} d)) = number_head 2147483647 v t d
 head (number (reading.minus {t = t} d)) = record { first = 45; tail = t; is = refl }
 head (named (reading.global {t = t} l d)) = record { first = 103; tail = t; is = refl }
 head (named (reading.local {t = t} l d)) = record { first = 46; tail = 108 ∷ t; is = refl }
@@ -216,5 +216,5 @@ head (joined {s = s} {t = t} o m n q x y) =
     record { first = h.first; tail = h.tail ++ z; is = ap (λ y. y ++ z) h.is }
 
 -- what follows an expression does not change its first byte
-pub head-look : {l : ℕ} {e : Expr} {w : List ℕ} (x : Exp l e w) (u : List ℕ) → look (w ++ u) ≡ look w
-head-look {w = w} x u = let h = head x in ap (λ y. look (y ++ u)) h.is ∙ sym (ap look h.is)
+pub head_look : {l : ℕ} {e : Expr} {w : List ℕ} (x : Exp l e w) (u : List ℕ) → look (w ++ u) ≡ look w
+head_look {w = w} x u = let h = head x in ap (λ y. look (y ++ u)) h.is ∙ sym (ap look h.is)

@@ -10,16 +10,16 @@ use Rattle.rules.specs.declared.Op1.TheVariants.{Negate, Upper, Lower}
 use Rattle.rules.specs.declared.Op2.{Op2}
 use Rattle.rules.specs.declared.Op2.TheVariants.{Plus, Minus, Times, Divide, Xor, And, Or}
 use Rattle.rules.specs.Expressions.{Expr, num, name, two, one, bytes_of}
-use Rattle.rules.specs.Forms.{operandsAt}
+use Rattle.rules.specs.Forms.{operands_at}
 use Rattle.rules.specs.Patterns.{codes}
 use Rattle.rules.specs.Output.{frame_of}
-use Rattle.rules.specs.Programs.{Operand, register, value, Stmt, instr, label, variable, comment, org, bytes, words, pad, overExprs}
-use Rattle.text.specs.Text.{sign1, sign2, mnemonic, commentText}
+use Rattle.rules.specs.Programs.{Operand, register, value, Stmt, instr, label, variable, comment, org, bytes, words, pad, over_exprs}
+use Rattle.text.specs.Text.{sign1, sign2, mnemonic, comment_text}
 
 -- ---- numbers and names
 
-abbrev pub isDecimal : ℕ → Bool
-isDecimal c = leb 48 c && leb c 57
+abbrev pub is_decimal : ℕ → Bool
+is_decimal c = leb 48 c && leb c 57
 
 -- the number whose digits are v's and then those of t
 unfoldable pub worth : (v : ℕ) → List ℕ → ℕ
@@ -29,7 +29,7 @@ worth v (d ∷ t) = worth (10 * v + (d - 48)) t
 -- t is v in decimal, "which may have leading zeros", "in range"
 pub record Decimal (most v : ℕ) (t : List ℕ) : Type 0 where
   pub some : 1 ≤ length t
-  pub digits : every (λ c. isDecimal c) t ≡ true
+  pub digits : every (λ c. is_decimal c) t ≡ true
   pub is : worth 0 t ≡ v
   pub within : v ≤ most
 
@@ -45,14 +45,14 @@ pub data Name : ℕ → List ℕ → Type 0 where
 -- ---- expressions
 
 -- "`*` and `/` bind before `+` and `-`, these before `&`, that before `^`, that before `|`": an operand has level 0, a product 1, a sum 2
-abbrev pub levelOf : Op2 → ℕ
-levelOf Times = 1
-levelOf Divide = 1
-levelOf Plus = 2
-levelOf Minus = 2
-levelOf And = 3
-levelOf Xor = 4
-levelOf Or = 5
+abbrev pub level_of : Op2 → ℕ
+level_of Times = 1
+level_of Divide = 1
+level_of Plus = 2
+level_of Minus = 2
+level_of And = 3
+level_of Xor = 4
+level_of Or = 5
 
 -- the first byte; 0, which no line holds, at the end
 abbrev pub look : List ℕ → ℕ
@@ -60,7 +60,7 @@ look t = get_or t 0 0
 
 -- "Where an operand is expected, a minus touching a digit is part of the number": so it is no prefix sign before the text t
 abbrev pub touches : Op1 → List ℕ → Bool
-touches Negate t = isDecimal (look t)
+touches Negate t = is_decimal (look t)
 touches Upper t = false
 touches Lower t = false
 
@@ -76,7 +76,7 @@ pub data Exp : ℕ → Expr → List ℕ → Type 0 where
       → Exp 0 (one o e) (spaces m ++ (sign1 o ∷ (spaces n ++ t)))
   parens : {e : Expr} {t : List ℕ} → Exp 5 e t → Exp 0 e (40 ∷ (t ++ (41 ∷ [])))
   tighter : {l : ℕ} {e : Expr} {t : List ℕ} → Exp l e t → Exp (suc l) e t
-  joined : {l : ℕ} {e d : Expr} {s t : List ℕ} (o : Op2) (m n : ℕ) → levelOf o ≡ suc l → Exp (suc l) e s → Exp l d t
+  joined : {l : ℕ} {e d : Expr} {s t : List ℕ} (o : Op2) (m n : ℕ) → level_of o ≡ suc l → Exp (suc l) e s → Exp l d t
       → Exp (suc l) (two o e d) (s ++ (spaces m ++ (sign2 o ∷ (spaces n ++ t))))
 
 -- ---- lines
@@ -109,13 +109,13 @@ pub data Items : ℕ → List Expr → List ℕ → Type 0 where
 
 -- a good line: "a line of this form, numbers and names in range". A statement read alone has place 0.
 pub data Line : Stmt → List ℕ → Type 0 where
-  instruction : {f : ℕ} {xs : List Operand} {t : List ℕ} → f < 70 → Arguments 32 (operandsAt f) xs t → Line (instr f xs 0) (mnemonic f ++ t)
+  instruction : {f : ℕ} {xs : List Operand} {t : List ℕ} → f < 70 → Arguments 32 (operands_at f) xs t → Line (instr f xs 0) (mnemonic f ++ t)
   labelled : {n : ℕ} {t : List ℕ} → Name n t → Line (label n) (t ++ (58 ∷ []))
   defined : {n : ℕ} {e : Expr} {s t : List ℕ} → Name n s → n < 0x8000 → Exp 5 e t → Line (variable n e) (s ++ (61 ∷ t))
-  commented : {s : List ℕ} → every (λ b. leb b 255) s ≡ true → Line (comment s) (codes ".comment" ++ commentText s)
+  commented : {s : List ℕ} → every (λ b. leb b 255) s ≡ true → Line (comment s) (codes ".comment" ++ comment_text s)
   located : {l : ℕ} {t : List ℕ} → Decimal 65535 l t → Line (org l) (codes ".org " ++ t)
-  byteItems : {es : List Expr} {t : List ℕ} → 1 ≤ length es → length es ≤ 16 → Items 32 es t → Line (bytes es) (codes ".byte" ++ t)
-  wordItems : {es : List Expr} {t : List ℕ} → 1 ≤ length es → length es ≤ 16 → Items 32 es t → Line (words es) (codes ".word" ++ t)
+  byte_items : {es : List Expr} {t : List ℕ} → 1 ≤ length es → length es ≤ 16 → Items 32 es t → Line (bytes es) (codes ".byte" ++ t)
+  word_items : {es : List Expr} {t : List ℕ} → 1 ≤ length es → length es ≤ 16 → Items 32 es t → Line (words es) (codes ".word" ++ t)
   aligned : {a m : ℕ} {s t : List ℕ} → Decimal 255 a s → Decimal 256 m t → 1 ≤ m → Line (pad a m) (codes ".align " ++ (s ++ (44 ∷ t)))
 
 -- ---- "the column from 0 of the first byte that no good line could have there, or of the line's end"
@@ -136,4 +136,4 @@ pub record WrongAt (t : List ℕ) (c : ℕ) : Type 0 where
 -- ---- "then a good line whose expression passes 32 bytes or whose frame passes 120 is 2"
 
 abbrev pub Fitting : Stmt → Type 0
-Fitting s = (overExprs (λ e. cond (leb (length (bytes_of e)) 32) 0 1) s ≡ 0) × (length (frame_of s) ≤ 120)
+Fitting s = (over_exprs (λ e. cond (leb (length (bytes_of e)) 32) 0 1) s ≡ 0) × (length (frame_of s) ≤ 120)

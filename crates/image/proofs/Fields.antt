@@ -8,62 +8,62 @@ use lib.ListN.{length, get_or, set, take, drop, drop_of_length-le, length-take}
 use lib.Seq.{drop-cons, take-suc-set, append_snoc, get_or-take}
 use lib.IntN.{ℤ}
 use Rattle.laws.specs.Bits.{byte_of}
-use Rattle.laws.proofs.Tests.{clash, lt-or-le}
-use Rattle.laws.proofs.Stores.{get-out}
+use Rattle.laws.proofs.Tests.{clash, lt_or_le}
+use Rattle.laws.proofs.Stores.{get_out}
 use Rattle.rules.specs.declared.Kind.{Kind}
 use Rattle.rules.specs.declared.Kind.TheVariants.{Reg}
 use Rattle.rules.specs.declared.Outcome.TheVariants.{Is, Unknown, Nothing}
 use Rattle.rules.specs.declared.Refusal.{Refusal}
 use Rattle.rules.specs.declared.Refusal.TheVariants.{NoName, NoValue}
 use Rattle.rules.specs.Answers.{at_place, Judged, ok, no, ◌>>=◌}
-use Rattle.rules.specs.Forms.{operandsAt, size_at}
+use Rattle.rules.specs.Forms.{operands_at, size_at}
 use Rattle.rules.specs.Patterns.{rows_of, bytes_at}
 use Rattle.rules.specs.Instructions.{code_of}
 use Rattle.rules.specs.Programs.{Operand, register, Stmt, instr, args_of, Program}
 use Rattle.rules.specs.Names.{Entry}
 use Rattle.rules.specs.Encoding.{field}
-use Rattle.rules.specs.Judging.{value_at, worthOf, fields, encode}
+use Rattle.rules.specs.Judging.{value_at, worth_of, fields, encode}
 use Rattle.encoding.specs.declared.operands.Field.{Field}
 use Rattle.encoding.specs.declared.operands.Field.TheVariants.{Is as Field-as-Is, Refused as Field-as-Refused}
-use Rattle.encoding.specs.Operands.{fieldAs}
+use Rattle.encoding.specs.Operands.{field_as}
 use Rattle.encoding.specs.Encode.{code_at}
-use Rattle.image.specs.Encoding.{field_of, codeFrom}
-use Rattle.image.proofs.Answers.{bind_ok, bind-no, bind-ext}
+use Rattle.image.specs.Encoding.{field_of, code_from}
+use Rattle.image.proofs.Answers.{bind_ok, bind_no, bind_ext}
 
 -- what a field of the code tells
-pub field-ok : (x : Judged ℕ) {o : Field} {v : ℕ} → o ≡ fieldAs x → o ≡ Field-as-Is v → x ≡ ok v
-field-ok (ok n) e q = cc
-field-ok (no r) e q = clash (cc)
+pub field_ok : (x : Judged ℕ) {o : Field} {v : ℕ} → o ≡ field_as x → o ≡ Field-as-Is v → x ≡ ok v
+field_ok (ok n) e q = cc
+field_ok (no r) e q = clash (cc)
 
-pub field-no : (x : Judged ℕ) {o : Field} {r : Refusal} → o ≡ fieldAs x → o ≡ Field-as-Refused r → x ≡ no r
-field-no (ok n) e q = clash (cc)
-field-no (no r) e q = cc
+pub field_no : (x : Judged ℕ) {o : Field} {r : Refusal} → o ≡ field_as x → o ≡ Field-as-Refused r → x ≡ no r
+field_no (ok n) e q = clash (cc)
+field_no (no r) e q = cc
 
 module _ (names : List Entry) (p : Program) (i k n : ℕ) where
   -- ---- one field: its value, or 4 or 7
 
   module _ (j : ℕ) (d : Kind) (x : Operand) where
-    pub field-value : (v : ℤ) → worthOf names p k x ≡ Is v → field_of names p i k n j d x ≡ field i j n d v
+    pub field_value : (v : ℤ) → worth_of names p k x ≡ Is v → field_of names p i k n j d x ≡ field i j n d v
     unfolding field_of ◌>>=◌
-    field-value v e = rw e
+    field_value v e = rw e
 
-    pub field-unknown : worthOf names p k x ≡ Unknown → field_of names p i k n j d x ≡ no (NoName (at_place i))
+    pub field_unknown : worth_of names p k x ≡ Unknown → field_of names p i k n j d x ≡ no (NoName (at_place i))
     unfolding field_of ◌>>=◌
-    field-unknown e = rw e
+    field_unknown e = rw e
 
-    pub field-nothing : worthOf names p k x ≡ Nothing → field_of names p i k n j d x ≡ no (NoValue (at_place i))
+    pub field_nothing : worth_of names p k x ≡ Nothing → field_of names p i k n j d x ≡ no (NoValue (at_place i))
     unfolding field_of ◌>>=◌
-    field-nothing e = rw e
+    field_nothing e = rw e
 
   -- ---- a field and the rest
 
   abbrev rest : ℕ → List Kind → List Operand → Judged (List ℕ)
   rest j ds xs = fields names p i k n j ds xs
 
-  fields-cons : (j : ℕ) (d : Kind) (ds : List Kind) (x : Operand) (xs : List Operand) (g : List ℕ → Judged (List ℕ))
+  fields_cons : (j : ℕ) (d : Kind) (ds : List Kind) (x : Operand) (xs : List Operand) (g : List ℕ → Judged (List ℕ))
       → rest j (d ∷ ds) (x ∷ xs) >>= g ≡ field_of names p i k n j d x >>= (λ b. rest (suc j) ds xs >>= (λ bs. g (b ∷ bs)))
   unfolding fields field_of ◌>>=◌
-  fields-cons j d ds x xs g = on (value_at i (worthOf names p k x))
+  fields_cons j d ds x xs g = on (value_at i (worth_of names p k x))
     where
       behind : (b : ℕ) (r : Judged (List ℕ)) → (r >>= (λ bs. ok (b ∷ bs))) >>= g ≡ r >>= (λ bs. g (b ∷ bs))
       behind b (ok bs) = refl
@@ -81,36 +81,36 @@ module _ (names : List Entry) (p : Program) (i k n : ℕ) where
   -- ---- the encoding from argument j on
 
   unfoldable pub left_of : (f : ℕ) (xs : List Operand) (j : ℕ) (got : List ℕ) → Judged (List ℕ)
-  left_of f xs j got = rest j (drop j (operandsAt f)) (drop j xs) >>= (λ vs. ok (bytes_at f (take j got ++ vs)))
+  left_of f xs j got = rest j (drop j (operands_at f)) (drop j xs) >>= (λ vs. ok (bytes_at f (take j got ++ vs)))
 
-  pub left-start : (f c q : ℕ) (xs : List Operand) (s : Stmt) (got : List ℕ) → s ≡ instr f xs c → n ≡ q + size_at f → encode names p i k q s ≡ left_of f (args_of s) 0 got
+  pub left_start : (f c q : ℕ) (xs : List Operand) (s : Stmt) (got : List ℕ) → s ≡ instr f xs c → n ≡ q + size_at f → encode names p i k q s ≡ left_of f (args_of s) 0 got
   unfolding left_of encode
-  left-start f c q xs s got e a = rw (e, a)
+  left_start f c q xs s got e a = rw (e, a)
 
-  module _ (f : ℕ) (xs : List Operand) (same : length xs ≡ length (operandsAt f)) where
+  module _ (f : ℕ) (xs : List Operand) (same : length xs ≡ length (operands_at f)) where
     abbrev kinds : List Kind
-    kinds = operandsAt f
+    kinds = operands_at f
 
-    pub left-more : (j : ℕ) (got : List ℕ) → j < length kinds
+    pub left_more : (j : ℕ) (got : List ℕ) → j < length kinds
         → left_of f xs j got ≡ field_of names p i k n j (get_or kinds j Reg) (get_or xs j (register 0)) >>= (λ b. rest (suc j) (drop (suc j) kinds) (drop (suc j) xs) >>= (λ bs. ok (bytes_at f (take j got ++ (b ∷ bs)))))
     unfolding left_of
-    left-more j got l =
+    left_more j got l =
         ap (λ ds. rest j ds (drop j xs) >>= (λ vs. ok (bytes_at f (take j got ++ vs)))) (drop-cons kinds j Reg l)
         ∙ ap (λ ys. rest j (get_or kinds j Reg ∷ drop (suc j) kinds) ys >>= (λ vs. ok (bytes_at f (take j got ++ vs)))) (drop-cons xs j (register 0) (omega arith))
-        ∙ fields-cons j (get_or kinds j Reg) (drop (suc j) kinds) (get_or xs j (register 0)) (drop (suc j) xs) (λ vs. ok (bytes_at f (take j got ++ vs)))
+        ∙ fields_cons j (get_or kinds j Reg) (drop (suc j) kinds) (get_or xs j (register 0)) (drop (suc j) xs) (λ vs. ok (bytes_at f (take j got ++ vs)))
 
-    pub left-ok : (j : ℕ) (got : List ℕ) (v : ℕ) → j < length kinds → j < length got
+    pub left_ok : (j : ℕ) (got : List ℕ) (v : ℕ) → j < length kinds → j < length got
         → field_of names p i k n j (get_or kinds j Reg) (get_or xs j (register 0)) ≡ ok v → left_of f xs j got ≡ left_of f xs (suc j) (set got j v)
     unfolding left_of
-    left-ok j got v l m e =
-        left-more j got l
+    left_ok j got v l m e =
+        left_more j got l
         ∙ bind_ok (field_of names p i k n j (get_or kinds j Reg) (get_or xs j (register 0))) _ v e
-        ∙ bind-ext (rest (suc j) (drop (suc j) kinds) (drop (suc j) xs)) _ _
+        ∙ bind_ext (rest (suc j) (drop (suc j) kinds) (drop (suc j) xs)) _ _
         (λ bs. ap (λ ws. ok (bytes_at f ws)) (sym (append_snoc (take j got) v bs) ∙ ap (λ ws. ws ++ bs) (sym (take-suc-set got j v m))))
 
-    pub left-no : (j : ℕ) (got : List ℕ) (r : Refusal) → j < length kinds
+    pub left_no : (j : ℕ) (got : List ℕ) (r : Refusal) → j < length kinds
         → field_of names p i k n j (get_or kinds j Reg) (get_or xs j (register 0)) ≡ no r → left_of f xs j got ≡ no r
-    left-no j got r l e = left-more j got l ∙ bind-no (field_of names p i k n j (get_or kinds j Reg) (get_or xs j (register 0))) _ r e
+    left_no j got r l e = left_more j got l ∙ bind_no (field_of names p i k n j (get_or kinds j Reg) (get_or xs j (register 0))) _ r e
 
     -- all are in hand, zeros behind them
     bytes_same : (vs ws : List ℕ) → ((m : ℕ) → get_or vs m 0 ≡ get_or ws m 0) → bytes_at f vs ≡ bytes_at f ws
@@ -122,16 +122,16 @@ module _ (names : List Entry) (p : Program) (i k n : ℕ) where
     left_end j got l b zeros =
         ap (λ ds. rest j ds (drop j xs) >>= (λ vs. ok (bytes_at f (take j got ++ vs)))) (drop_of_length-le kinds l)
         ∙ ap (λ ws. ok (bytes_at f ws)) (append-nil (take j got))
-        ∙ ap ok (bytes_same (take j got) got (λ m. ⊎_elim (λ lt. get_or-take j got m 0 lt) (λ le. get-out (take j got) m 0 (omega (arith, length-take j got)) ∙ sym (zeros m le)) (lt-or-le m j)))
+        ∙ ap ok (bytes_same (take j got) got (λ m. ⊎_elim (λ lt. get_or-take j got m 0 lt) (λ le. get_out (take j got) m 0 (omega (arith, length-take j got)) ∙ sym (zeros m le)) (lt_or_le m j)))
 
 -- ---- the bytes of three fields, as the code holds them
 
-code-from : (rows : List (List ℕ)) → codeFrom (map (λ row. byte_of row) rows) ≡ code_of rows
-code-from [] = refl
-code-from (x ∷ []) = refl
-code-from (x ∷ y ∷ []) = refl
-code-from (x ∷ y ∷ z ∷ rows) = refl
+code_from_lem : (rows : List (List ℕ)) → code_from (map (λ row. byte_of row) rows) ≡ code_of rows
+code_from_lem [] = refl
+code_from_lem (x ∷ []) = refl
+code_from_lem (x ∷ y ∷ []) = refl
+code_from_lem (x ∷ y ∷ z ∷ rows) = refl
 
-pub code_is : (f : ℕ) (got : List ℕ) → codeFrom (bytes_at f got) ≡ code_at f (get_or got 0 0) (get_or got 1 0) (get_or got 2 0)
+pub code_is : (f : ℕ) (got : List ℕ) → code_from (bytes_at f got) ≡ code_at f (get_or got 0 0) (get_or got 1 0) (get_or got 2 0)
 unfolding bytes_at code_at
-code_is f got = code-from (rows_of f (get_or got 0 0) (get_or got 1 0) (get_or got 2 0))
+code_is f got = code_from_lem (rows_of f (get_or got 0 0) (get_or got 1 0) (get_or got 2 0))

@@ -11,18 +11,18 @@ use Rattle.rules.specs.declared.Outcome.TheVariants.{Is, Unknown, Nothing}
 use Rattle.rules.specs.declared.Refusal.TheVariants.{NoName, NoValue, Range}
 use Rattle.rules.specs.Answers.{at_place, Judged, ok, no, ◌>>=◌, require}
 use Rattle.rules.specs.Expressions.{Expr, num}
-use Rattle.rules.specs.Listing.{readFrame}
+use Rattle.rules.specs.Listing.{read_frame}
 use Rattle.rules.specs.Values.{below, nat}
 use Rattle.rules.specs.Names.{Entry}
 use Rattle.rules.specs.Judging.{value_at, worth, items}
-use Rattle.rules.proofs.Laws.{require-ok}
+use Rattle.rules.proofs.Laws.{require_ok}
 use Rattle.encoding.specs.declared.operands.Field.{Field}
-use Rattle.encoding.specs.Operands.{fieldAs, ranged}
-use Rattle.encoding.proofs.Ranges.{below-lt}
+use Rattle.encoding.specs.Operands.{field_as, ranged}
+use Rattle.encoding.proofs.Ranges.{below_lt}
 use Rattle.slots.specs.Slots.{DataIn}
-use Rattle.slots.proofs.Frames.{Left, Frame, ofInstr, ofLabel, ofVariable, ofComment, ofOrg, of_bytes, ofWords, ofPad, was_read, frame-read}
-use Rattle.slots.proofs.Operands.{readIn}
-use Rattle.slots.proofs.Items.{ItemsRead, items-read}
+use Rattle.slots.proofs.Frames.{Left, Frame, of_instr, of_label, of_variable, of_comment, of_org, of_bytes, of_words, of_pad, was_read, frame_read}
+use Rattle.slots.proofs.Operands.{read_in}
+use Rattle.slots.proofs.Items.{ItemsRead, items_read}
 use Rattle.image.specs.Encoding.{items_of, items_in, item_of, SmallField}
 
 -- ---- of a frame
@@ -32,56 +32,56 @@ pub record DataRead (i : ℕ) (s : List ℕ) : Type 0 where
   pub some : 1 ≤ get_or s 1 0
   pub items : ItemsRead s (get_or s 1 0) 2 (items_in i s)
 
-pub data-in : (i : ℕ) (s : List ℕ) → DataIn i s → DataRead i s
-data-in i s h = on (frame-read i s (readIn i s) (was_read (readFrame i s) h.reads))
+pub data_in : (i : ℕ) (s : List ℕ) → DataIn i s → DataRead i s
+data_in i s h = on (frame_read i s (read_in i s) (was_read (read_frame i s) h.reads))
   where
-    on : Frame i s (readIn i s) → DataRead i s
-    on (ofInstr f) = absurd (omega (arith, f.kind, h.kind))
-    on (ofLabel f) = absurd (omega (arith, f.kind, h.kind))
-    on (ofVariable f) = absurd (omega (arith, f.kind, h.kind))
-    on (ofComment f) = absurd (omega (arith, f.kind, h.kind))
-    on (ofOrg f) = absurd (omega (arith, f.kind, h.kind))
+    on : Frame i s (read_in i s) → DataRead i s
+    on (of_instr f) = absurd (omega (arith, f.kind, h.kind))
+    on (of_label f) = absurd (omega (arith, f.kind, h.kind))
+    on (of_variable f) = absurd (omega (arith, f.kind, h.kind))
+    on (of_comment f) = absurd (omega (arith, f.kind, h.kind))
+    on (of_org f) = absurd (omega (arith, f.kind, h.kind))
     on (of_bytes f) =
-        record { long = f.long; some = f.some; items = rw (ap items_of f.is) (items-read i s (get_or s 1 0) 2 (Left f.es []) f.items) }
-    on (ofWords f) =
-        record { long = f.long; some = f.some; items = rw (ap items_of f.is) (items-read i s (get_or s 1 0) 2 (Left f.es []) f.items) }
-    on (ofPad f) = absurd (omega (arith, f.kind, h.no-pad))
+        record { long = f.long; some = f.some; items = rw (ap items_of f.is) (items_read i s (get_or s 1 0) 2 (Left f.es []) f.items) }
+    on (of_words f) =
+        record { long = f.long; some = f.some; items = rw (ap items_of f.is) (items_read i s (get_or s 1 0) 2 (Left f.es []) f.items) }
+    on (of_pad f) = absurd (omega (arith, f.kind, h.no_pad))
 
 -- a number in its range
-pub ranged-small : (i j bound : ℕ) (v : ℤ) (r : Field) → r ≡ fieldAs (ranged i j bound v) → SmallField bound r
+pub ranged_small : (i j bound : ℕ) (v : ℤ) (r : Field) → r ≡ field_as (ranged i j bound v) → SmallField bound r
 unfolding ranged
-ranged-small i j bound v r e = rw e (on (ranged i j bound v) refl)
+ranged_small i j bound v r e = rw e (on (ranged i j bound v) refl)
   where
-    on : (x : Judged ℕ) → ranged i j bound v ≡ x → SmallField bound (fieldAs x)
+    on : (x : Judged ℕ) → ranged i j bound v ≡ x → SmallField bound (field_as x)
     on (ok n) q =
-        let w = require-ok (below bound v) (Range (at_place i) j v) (ok (nat v)) n q in
+        let w = require_ok (below bound v) (Range (at_place i) j v) (ok (nat v)) n q in
         let z : nat v ≡ n = (let u : ok (nat v) ≡ ok n = w.1 in cc) in
-        rw (← z) (below-lt bound v w.0)
+        rw (← z) (below_lt bound v w.0)
     on (no q) w = tt
 
 module _ (names : List Entry) (bound i k : ℕ) where
   -- ---- one item: its value, or 4 or 7
 
   module _ (j : ℕ) (e : Expr) where
-    pub item-value : (v : ℤ) → worth names k e ≡ Is v → item_of names bound i k j e ≡ ranged i j bound v
+    pub item_value : (v : ℤ) → worth names k e ≡ Is v → item_of names bound i k j e ≡ ranged i j bound v
     unfolding item_of ◌>>=◌
-    item-value v h = rw h
+    item_value v h = rw h
 
-    pub item-unknown : worth names k e ≡ Unknown → item_of names bound i k j e ≡ no (NoName (at_place i))
+    pub item_unknown : worth names k e ≡ Unknown → item_of names bound i k j e ≡ no (NoName (at_place i))
     unfolding item_of ◌>>=◌
-    item-unknown h = rw h
+    item_unknown h = rw h
 
-    pub item-nothing : worth names k e ≡ Nothing → item_of names bound i k j e ≡ no (NoValue (at_place i))
+    pub item_nothing : worth names k e ≡ Nothing → item_of names bound i k j e ≡ no (NoValue (at_place i))
     unfolding item_of ◌>>=◌
-    item-nothing h = rw h
+    item_nothing h = rw h
 
   -- ---- an item and the rest
 
   module _ (write : ℕ → List ℕ) where
-    pub items-cons : (j : ℕ) (e : Expr) (es : List Expr)
+    pub items_cons : (j : ℕ) (e : Expr) (es : List Expr)
         → items names bound write i k j (e ∷ es) ≡ item_of names bound i k j e >>= (λ v. items names bound write i k (suc j) es >>= (λ bs. ok (write v ++ bs)))
     unfolding items item_of ranged ◌>>=◌ require
-    items-cons j e es = on (value_at i (worth names k e))
+    items_cons j e es = on (value_at i (worth names k e))
       where
         rest : Judged (List ℕ)
         rest = items names bound write i k (suc j) es
@@ -98,8 +98,8 @@ module _ (names : List Entry) (bound i k : ℕ) where
 
     pub items_more : (es : List Expr) (j : ℕ) → j < length es
         → items names bound write i k j (drop j es) ≡ item_of names bound i k j (get_or es j (num (pos 0))) >>= (λ v. items names bound write i k (suc j) (drop (suc j) es) >>= (λ bs. ok (write v ++ bs)))
-    items_more es j l = ap (items names bound write i k j) (drop-cons es j (num (pos 0)) l) ∙ items-cons j (get_or es j (num (pos 0))) (drop (suc j) es)
+    items_more es j l = ap (items names bound write i k j) (drop-cons es j (num (pos 0)) l) ∙ items_cons j (get_or es j (num (pos 0))) (drop (suc j) es)
 
-    pub items-end : (es : List Expr) (j : ℕ) → length es ≤ j → items names bound write i k j (drop j es) ≡ ok []
+    pub items_end : (es : List Expr) (j : ℕ) → length es ≤ j → items names bound write i k j (drop j es) ≡ ok []
     unfolding items
-    items-end es j l = ap (items names bound write i k j) (drop_of_length-le es {i = j} l)
+    items_end es j l = ap (items names bound write i k j) (drop_of_length-le es {i = j} l)

@@ -6,41 +6,41 @@ use native.Mathlib.Omega.{arith}
 use lib.ListN.{length, drop, drop_of_length-le}
 use lib.Seq.{drop-cons}
 use Rattle.rules.specs.Programs.{Program, at}
-use Rattle.rules.specs.Layout.{after, position, positionFrom}
-use Rattle.rules.specs.Names.{Placed, placed, contextAt}
-use Rattle.rules.proofs.Laws.{length-placed, placed-at}
+use Rattle.rules.specs.Layout.{after, position, position_from}
+use Rattle.rules.specs.Names.{Placed, placed, context_at}
+use Rattle.rules.proofs.Laws.{length_placed, placed_at_lem}
 
-position_first : (q : ℕ) (p : Program) → positionFrom q p zero ≡ q
-unfolding positionFrom
+position_first : (q : ℕ) (p : Program) → position_from q p zero ≡ q
+unfolding position_from
 position_first q [] = refl
 position_first q (s ∷ p) = refl
 
-position_from : (q : ℕ) (p : Program) (i : ℕ) → i < length p → positionFrom q p (suc i) ≡ after (positionFrom q p i) (at p i)
-unfolding positionFrom
-position_from q [] i l = absurd (omega arith)
-position_from q (s ∷ p) zero l = position_first (after q s) p
-position_from q (s ∷ p) (suc i) l = position_from (after q s) p i (omega arith)
+position_from_lem : (q : ℕ) (p : Program) (i : ℕ) → i < length p → position_from q p (suc i) ≡ after (position_from q p i) (at p i)
+unfolding position_from
+position_from_lem q [] i l = absurd (omega arith)
+position_from_lem q (s ∷ p) zero l = position_first (after q s) p
+position_from_lem q (s ∷ p) (suc i) l = position_from_lem (after q s) p i (omega arith)
 
-pub position-start : (p : Program) → position p zero ≡ 0
+pub position_start : (p : Program) → position p zero ≡ 0
 unfolding position
-position-start p = position_first 0 p
+position_start p = position_first 0 p
 
-pub position-after : (p : Program) (i : ℕ) → i < length p → position p (suc i) ≡ after (position p i) (at p i)
+pub position_after : (p : Program) (i : ℕ) → i < length p → position p (suc i) ≡ after (position p i) (at p i)
 unfolding position
-position-after p i l = position_from 0 p i l
+position_after p i l = position_from_lem 0 p i l
 
 -- the statement at place i, with where it stands
 abbrev pub placed_at : Program → (i : ℕ) → Placed
-placed_at p i = record { place = i; context = contextAt p i; position = position p i; stmt = at p i }
+placed_at p i = record { place = i; context = context_at p i; position = position p i; stmt = at p i }
 
-count-placed : (p : Program) → length (placed p) ≡ length p
+count_placed : (p : Program) → length (placed p) ≡ length p
 unfolding placed
-count-placed p = length-placed 0 0 0 p
+count_placed p = length_placed 0 0 0 p
 
-pub placed-drop : (p : Program) (i : ℕ) → i < length p → drop i (placed p) ≡ placed_at p i ∷ drop (suc i) (placed p)
-placed-drop p i l =
-    drop-cons (placed p) i (placed_at p i) (omega (arith, count-placed p))
-    ∙ ap (λ x. x ∷ drop (suc i) (placed p)) (placed-at p i (placed_at p i) l)
+pub placed_drop : (p : Program) (i : ℕ) → i < length p → drop i (placed p) ≡ placed_at p i ∷ drop (suc i) (placed p)
+placed_drop p i l =
+    drop-cons (placed p) i (placed_at p i) (omega (arith, count_placed p))
+    ∙ ap (λ x. x ∷ drop (suc i) (placed p)) (placed_at_lem p i (placed_at p i) l)
 
 pub placed_end : (p : Program) (i : ℕ) → length p ≤ i → drop i (placed p) ≡ []
-placed_end p i l = drop_of_length-le (placed p) {i = i} (omega (arith, count-placed p))
+placed_end p i l = drop_of_length-le (placed p) {i = i} (omega (arith, count_placed p))

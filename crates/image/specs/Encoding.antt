@@ -2,14 +2,14 @@
 use Rattle.std.specs.Prelude.{List, [], ◌∷◌, ℕ, ◌<◌}
 use Rattle.rules.specs.declared.Code.{Code}
 use Rattle.rules.specs.declared.Kind.{Kind}
-use Rattle.rules.specs.Answers.{Judged, ok, no, ◌>>=◌, orD}
+use Rattle.rules.specs.Answers.{Judged, ok, no, ◌>>=◌, judged_or}
 use Rattle.rules.specs.Expressions.{Expr}
-use Rattle.rules.specs.Listing.{readFrame}
+use Rattle.rules.specs.Listing.{read_frame}
 use Rattle.rules.specs.Programs.{Placeℕ, Addressℕ, Operand, Stmt, gone, instr, label, variable, comment, org, bytes, words, pad, Program}
 use Rattle.rules.specs.Layout.{position}
-use Rattle.rules.specs.Names.{Entry, contextAt, placed}
+use Rattle.rules.specs.Names.{Entry, context_at, placed}
 use Rattle.rules.specs.Encoding.{field, byte, word}
-use Rattle.rules.specs.Judging.{value_at, worth, worthOf, encode, encodeAll}
+use Rattle.rules.specs.Judging.{value_at, worth, worth_of, encode, encode_all}
 use Rattle.encoding.specs.declared.operands.Field.{Field}
 use Rattle.encoding.specs.declared.operands.Field.TheVariants.{Is as Field-as-Is, Refused as Field-as-Refused}
 use Rattle.encoding.specs.Operands.{ranged}
@@ -25,24 +25,24 @@ use Rattle.image.specs.Tables.{Tables, program}
 -- an argument's value, and then its range: what the instruction at place i, in context k, that ends at n writes for argument j
 unfoldable pub field_of : (names : List Entry) → Program → (i : Placeℕ) (k : ℕ) (n : Addressℕ) (j : ℕ) → Kind → Operand → Judged ℕ
 field_of names p i k n j d x = do
-  v ← value_at i (worthOf names p k x)
+  v ← value_at i (worth_of names p k x)
   field i j n d v
 
 -- the bytes of the statement in slot i
-unfoldable pub encodeAt : Tables → (i : Placeℕ) → Judged (List ℕ)
-encodeAt d i = encode d.entries (program d) i (contextAt (program d) i) (position (program d) i) (slot_at d.slots i)
+unfoldable pub encode_at : Tables → (i : Placeℕ) → Judged (List ℕ)
+encode_at d i = encode d.entries (program d) i (context_at (program d) i) (position (program d) i) (slot_at d.slots i)
 
 -- up to three bytes, as the code holds them
-abbrev pub codeFrom : List ℕ → Code
-codeFrom [] = record { len = 0; b0 = 0; b1 = 0; b2 = 0 }
-codeFrom (x ∷ []) = record { len = 1; b0 = x; b1 = 0; b2 = 0 }
-codeFrom (x ∷ y ∷ []) = record { len = 2; b0 = x; b1 = y; b2 = 0 }
-codeFrom (x ∷ y ∷ z ∷ zs) = record { len = 3; b0 = x; b1 = y; b2 = z }
+abbrev pub code_from : List ℕ → Code
+code_from [] = record { len = 0; b0 = 0; b1 = 0; b2 = 0 }
+code_from (x ∷ []) = record { len = 1; b0 = x; b1 = 0; b2 = 0 }
+code_from (x ∷ y ∷ []) = record { len = 2; b0 = x; b1 = y; b2 = 0 }
+code_from (x ∷ y ∷ z ∷ zs) = record { len = 3; b0 = x; b1 = y; b2 = z }
 
 -- an instruction's bytes, or the refusal
-abbrev pub encodedAs : Judged (List ℕ) → Encoded
-encodedAs (ok bs) = Is (codeFrom bs)
-encodedAs (no r) = Refused r
+abbrev pub encoded_as : Judged (List ℕ) → Encoded
+encoded_as (ok bs) = Is (code_from bs)
+encoded_as (no r) = Refused r
 
 -- ---- data
 
@@ -59,16 +59,16 @@ items_of (words es) = es
 items_of (pad add m) = []
 
 abbrev pub items_in : (i : Placeℕ) (s : List ℕ) → List Expr
-items_in i s = items_of (orD (readFrame i s) gone)
+items_in i s = items_of (judged_or (read_frame i s) gone)
 
 -- the range of an item, and how it is written
-abbrev pub boundOf : Data → ℕ
-boundOf Bytes = 256
-boundOf Words = 65536
+abbrev pub bound_of : Data → ℕ
+bound_of Bytes = 256
+bound_of Words = 65536
 
-abbrev pub writeOf : Data → ℕ → List ℕ
-writeOf Bytes = byte
-writeOf Words = word
+abbrev pub write_of : Data → ℕ → List ℕ
+write_of Bytes = byte
+write_of Words = word
 
 -- an item's value, and then its range
 unfoldable pub item_of : (names : List Entry) (bound : ℕ) (i : Placeℕ) (k j : ℕ) → Expr → Judged ℕ
@@ -83,14 +83,14 @@ SmallField bound (Field-as-Refused r) = Unit
 
 -- ---- what only passes or is refused
 
-abbrev pub checkedAs : {A : Type 0} → Judged A → Checked
-checkedAs (ok a) = Passes
-checkedAs (no r) = Checked-as-Refused r
+abbrev pub checked_as : {A : Type 0} → Judged A → Checked
+checked_as (ok a) = Passes
+checked_as (no r) = Checked-as-Refused r
 
-abbrev pub checkOf : Encoded → Checked
-checkOf (Is code) = Passes
-checkOf (Refused r) = Checked-as-Refused r
+abbrev pub check_of : Encoded → Checked
+check_of (Is code) = Passes
+check_of (Refused r) = Checked-as-Refused r
 
 -- the encoding of all slots, in order
-unfoldable pub encodeSlots : Tables → Judged (List ℕ)
-encodeSlots d = encodeAll d.entries (program d) (placed (program d))
+unfoldable pub encode_slots : Tables → Judged (List ℕ)
+encode_slots d = encode_all d.entries (program d) (placed (program d))

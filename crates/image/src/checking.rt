@@ -1,8 +1,8 @@
 // The encoding pass: whether each statement encodes, in order, and the first that does not.
 ghost use Rattle.std.specs.Prelude.{◌≡◌, ◌<◌};
-ghost use Rattle.rules.specs.Answers.{isOk};
+ghost use Rattle.rules.specs.Answers.{is_ok};
 ghost use Rattle.image.specs.Tables.{Tables, tables_of, Ready};
-ghost use Rattle.image.specs.Encoding.{encodeAt, encodeSlots, checkedAs, checkOf};
+ghost use Rattle.image.specs.Encoding.{encode_at, encode_slots, checked_as, check_of};
 
 use crate::Encoded;
 use crate::codes::encode_at;
@@ -12,7 +12,7 @@ use slots::{Checked, Slot, State, frame_at, links_at, slot_at};
 
 // An instruction's answer without its bytes.
 fn check_code(e: Encoded) -> Checked
-    ensures { result ≡ checkOf e }
+    ensures { result ≡ check_of e }
 {
     match e {
         Encoded::Is(_) => Checked::Passes,
@@ -35,7 +35,7 @@ fn check_at(
         Ready d × (at.0 < count) }
     ensures { let d : Tables = tables_of frames.now state.now count links.now values.now
         positions.now in
-        result ≡ checkedAs (encodeAt d at.0) }
+        result ≡ checked_as (encode_at d at.0) }
 {
     match slot_at(frames, state, count, at) {
         Slot::Gone => Checked::Passes,
@@ -76,7 +76,7 @@ pub fn encodes_at(
         Ready d × (at.0 < count) }
     ensures { let d : Tables = tables_of frames.now state.now count links.now values.now
         positions.now in
-        result ≡ isOk (encodeAt d at.0) }
+        result ≡ is_ok (encode_at d at.0) }
 {
     match check_at(frames, state, count, links, values, positions, at) {
         Checked::Passes => true,
@@ -98,7 +98,7 @@ pub fn encode_all(
         Ready d }
     ensures { let d : Tables = tables_of frames.now state.now count links.now values.now
         positions.now in
-        result ≡ checkedAs (encodeSlots d) }
+        result ≡ checked_as (encode_slots d) }
 {
     let mut i = 0;
     while i < count {

@@ -1,14 +1,14 @@
 // The bytes of a slot's instruction: its operands one after the other, each its value and then its range before the next.
 ghost use Rattle.std.specs.Prelude.{◌≡◌, ◌+◌, ◌<◌, ◌≤◌, length, get_or};
 ghost use Rattle.rules.specs.declared.Kind.TheVariants.{Reg};
-ghost use Rattle.rules.specs.Forms.{operandsAt};
-ghost use Rattle.rules.specs.Names.{contextAt};
-ghost use Rattle.encoding.specs.Operands.{fieldAs};
+ghost use Rattle.rules.specs.Forms.{operands_at};
+ghost use Rattle.rules.specs.Names.{context_at};
+ghost use Rattle.encoding.specs.Operands.{field_as};
 ghost use Rattle.rules.specs.Programs.{kind_of};
 ghost use Rattle.slots.specs.Slots.{slot_at};
 ghost use Rattle.image.specs.Tables.{Tables, tables_of, program, operand_at, Ready};
-ghost use Rattle.image.specs.Encoding.{field_of, encodeAt, encodedAs};
-ghost use Rattle.slots.specs.State.{formsIn};
+ghost use Rattle.image.specs.Encoding.{field_of, encode_at, encoded_as};
+ghost use Rattle.slots.specs.State.{forms_in};
 
 use crate::Encoded;
 use crate::worth::argument_worth;
@@ -41,11 +41,11 @@ fn field_at(
     requires fact { let d : Tables = tables_of frames.now state.now count
         links.now values.now positions.now in
         Ready d × (at.0 < count) × (kind_of (slot_at d.slots at.0) ≡ 1) }
-    requires j_in_bounds { (j < length (operandsAt (get_or (formsIn state.now) at.0 0))) × (n.0 ≤ 65536) }
+    requires j_in_bounds { (j < length (operands_at (get_or (forms_in state.now) at.0 0))) × (n.0 ≤ 65536) }
     ensures { let d : Tables = tables_of frames.now state.now count links.now values.now
         positions.now in
-        result ≡ fieldAs (field_of d.entries (program d) at.0 (contextAt (program d) at.0) n.0 j
-        (get_or (operandsAt (get_or (formsIn state.now) at.0 0)) j Reg) (operand_at d.slots at.0 j)) }
+        result ≡ field_as (field_of d.entries (program d) at.0 (context_at (program d) at.0) n.0 j
+        (get_or (operands_at (get_or (forms_in state.now) at.0 0)) j Reg) (operand_at d.slots at.0 j)) }
 {
     match operand_kind(form_in(state, at), j) {
         Operand::Is(kind) => match argument_worth(
@@ -74,7 +74,7 @@ pub fn encode_at(
         Ready d × (at.0 < count) × (kind_of (slot_at d.slots at.0) ≡ 1) }
     ensures { let d : Tables = tables_of frames.now state.now count links.now values.now
         positions.now in
-        result ≡ encodedAs (encodeAt d at.0) }
+        result ≡ encoded_as (encode_at d at.0) }
 {
     let i = at.0;
     let form = form_in(state, at);

@@ -4,9 +4,9 @@ ghost use Rattle.rules.specs.Expressions.{num};
 ghost use Rattle.rules.specs.Judging.{items};
 ghost use Rattle.rules.specs.Names.{Entry, key_of, lookup};
 ghost use Rattle.expression.specs.Linked.{Linked};
-ghost use Rattle.encoding.specs.Operands.{fieldAs, ranged};
+ghost use Rattle.encoding.specs.Operands.{field_as, ranged};
 ghost use Rattle.slots.specs.Slots.{DataIn};
-ghost use Rattle.image.specs.Encoding.{items_in, boundOf, item_of, SmallField, checkedAs};
+ghost use Rattle.image.specs.Encoding.{items_in, bound_of, item_of, SmallField, checked_as};
 
 use encoding::operands::{Field, byte_item, word_item};
 use expression::linked_worth;
@@ -22,7 +22,7 @@ pub enum Data {
 
 // The range of an item of data.
 fn item_range(what: Data, at: Place, j: usize, v: i32) -> Field
-    ensures { result ≡ fieldAs (ranged at.0 j (boundOf what) v) }
+    ensures { result ≡ field_as (ranged at.0 j (bound_of what) v) }
 {
     match what {
         Data::Bytes => byte_item(at, j, v),
@@ -41,10 +41,10 @@ pub fn item_field(
     count: usize,
 ) -> Field
     requires { DataIn at.0 frame.now × (j < get_or frame.now 1 0) × (count ≤ 1024) × (length links.now ≡ length frame.now) }
-    ensures small { SmallField (boundOf what) result }
+    ensures small { SmallField (bound_of what) result }
     ensures value { (names : List Entry) (k : ℕ)
         → Linked (λ m. lookup names (key_of k m)) frame.now links.now values.now count
-        → result ≡ fieldAs (item_of names (boundOf what) at.0 k j
+        → result ≡ field_as (item_of names (bound_of what) at.0 k j
         (get_or (items_in at.0 frame.now) j (num (pos 0)))) }
 {
     let a = item_in(frame, j);
@@ -68,7 +68,7 @@ pub fn check_items(
     requires { DataIn at.0 frame.now × (n ≡ get_or frame.now 1 0) × (count ≤ 1024) × (length links.now ≡ length frame.now) }
     ensures { (names : List Entry) (k : ℕ)
         → Linked (λ m. lookup names (key_of k m)) frame.now links.now values.now count
-        → (write : ℕ → List ℕ) → result ≡ checkedAs (items names (boundOf what) write at.0 k 0
+        → (write : ℕ → List ℕ) → result ≡ checked_as (items names (bound_of what) write at.0 k 0
         (items_in at.0 frame.now)) }
 {
     let mut j = 0;

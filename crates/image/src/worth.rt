@@ -1,13 +1,13 @@
 // What the operands of a slot's instruction are worth: a register, an expression, or an inner label, which is worth its byte's address.
 ghost use Rattle.std.specs.Prelude.{◌≡◌, List, [], ℕ, ◌+◌, ◌<◌, ◌≤◌, pos, length, get_or};
-ghost use Rattle.rules.specs.Forms.{operandsAt};
+ghost use Rattle.rules.specs.Forms.{operands_at};
 ghost use Rattle.rules.specs.Names.{Entry, key_of, lookup};
 ghost use Rattle.expression.specs.Linked.{Linked};
 ghost use Rattle.listing.specs.Tables.{frame_at, Noted};
 ghost use Rattle.rules.specs.Programs.{kind_of};
-ghost use Rattle.slots.specs.Slots.{slots, slot_at, target_of, worthIn, InstrIn};
-ghost use Rattle.image.specs.Tables.{Tables, tables_of, isTarget, operandIn, operand_at, Aims, Ready};
-ghost use Rattle.slots.specs.State.{startsIn, formsIn, ownersIn, offsetsIn};
+ghost use Rattle.slots.specs.Slots.{slots, slot_at, target_of, worth_in, InstrIn};
+ghost use Rattle.image.specs.Tables.{Tables, tables_of, is_target, operand_in, operand_at, Aims, Ready};
+ghost use Rattle.slots.specs.State.{starts_in, forms_in, owners_in, offsets_in};
 
 use expression::linked_worth;
 use instruction::tables::{Target, control_flow_target, operand_count};
@@ -41,11 +41,11 @@ pub fn own_worth(
     values: &[i64; 1024],
     count: usize,
 ) -> Outcome
-    requires { InstrIn at.0 frame.now × (j < length (operandsAt (get_or frame.now 1 0))) × (count ≤ 1024)
-        × (length links.now ≡ length frame.now) × (at.0 < count) × Noted (startsIn state.now) at.0 frame.now }
+    requires { InstrIn at.0 frame.now × (j < length (operands_at (get_or frame.now 1 0))) × (count ≤ 1024)
+        × (length links.now ≡ length frame.now) × (at.0 < count) × Noted (starts_in state.now) at.0 frame.now }
     ensures { (names : List Entry) (k : ℕ)
         → Linked (λ m. lookup names (key_of k m)) frame.now links.now values.now count
-        → (positions : List ℕ) → result ≡ worthIn names positions k (operandIn at.0 frame.now j) }
+        → (positions : List ℕ) → result ≡ worth_in names positions k (operand_in at.0 frame.now j) }
 {
     let a = argument_at(state, at, j);
     if is_register(frame[1], j) {
@@ -64,15 +64,15 @@ pub fn target_worth(
     positions: &[u32; 1025],
     c: Place,
 ) -> Outcome
-    requires { Aims (slots frames.now (startsIn state.now) count [] [] (ownersIn state.now) (offsetsIn state.now))
+    requires { Aims (slots frames.now (starts_in state.now) count [] [] (owners_in state.now) (offsets_in state.now))
         positions.now c.0
         × (length links.now ≡ 28672) }
     ensures { (names : List Entry) (k : ℕ)
-        → Linked (λ m. lookup names (key_of k m)) (frame_at frames.now (startsIn state.now) c.0)
-        (frame_at links.now (startsIn state.now) c.0) values.now count
-        → (forms carry : List ℕ) → result ≡ worthIn names positions.now k
-        (target_of (slots frames.now (startsIn state.now) count forms carry (ownersIn state.now)
-        (offsetsIn state.now))
+        → Linked (λ m. lookup names (key_of k m)) (frame_at frames.now (starts_in state.now) c.0)
+        (frame_at links.now (starts_in state.now) c.0) values.now count
+        → (forms carry : List ℕ) → result ≡ worth_in names positions.now k
+        (target_of (slots frames.now (starts_in state.now) count forms carry (owners_in state.now)
+        (offsets_in state.now))
         c.0) }
 {
     let i = c.0;
@@ -88,7 +88,7 @@ pub fn target_worth(
 
 // Argument j of a form is its target.
 fn is_target(form: u8, j: usize) -> bool
-    ensures { result ≡ isTarget form j }
+    ensures { result ≡ is_target form j }
 {
     match control_flow_target(form) {
         Target::Arg(k) => k == j,
@@ -110,10 +110,10 @@ pub fn argument_worth(
     requires { let d : Tables = tables_of frames.now state.now count
         links.now values.now positions.now in
         Ready d × (at.0 < count) × (kind_of (slot_at d.slots at.0) ≡ 1) × (j < length
-        (operandsAt (get_or (formsIn state.now) at.0 0))) }
+        (operands_at (get_or (forms_in state.now) at.0 0))) }
     ensures { let d : Tables = tables_of frames.now state.now count links.now values.now
         positions.now in
-        result ≡ worthIn d.entries d.positions (get_or d.contexts at.0 0) (operand_at d.slots at.0 j) }
+        result ≡ worth_in d.entries d.positions (get_or d.contexts at.0 0) (operand_at d.slots at.0 j) }
 {
     let form = form_in(state, at);
     if is_target(form, j) {

@@ -1,6 +1,6 @@
 // The image: how long it is, and its bytes in a lent room. Gaps are zero, and room beyond it is left as it was.
 ghost use Rattle.std.specs.Prelude.{◌≡◌, true, List, ◌++◌, ℕ, ◌+◌, ◌*◌, ◌<◌, ◌≤◌, ◌%◌, ◌/◌, ℤ, length, get_or, drop, replicate};
-ghost use Rattle.rules.specs.Answers.{ok, isOk};
+ghost use Rattle.rules.specs.Answers.{ok, is_ok};
 ghost use Rattle.rules.specs.Judging.{items};
 ghost use Rattle.rules.specs.Names.{Entry, key_of, lookup};
 ghost use Rattle.expression.specs.Linked.{Linked};
@@ -8,9 +8,9 @@ ghost use Rattle.encoding.specs.Encode.{bytes_of_code};
 ghost use Rattle.listing.specs.Tables.{Held};
 ghost use Rattle.slots.specs.Slots.{DataIn};
 ghost use Rattle.image.specs.Tables.{Tables, tables, tables_of, Ready};
-ghost use Rattle.image.specs.Encoding.{encodeAt, encodeSlots, items_in, boundOf, writeOf};
+ghost use Rattle.image.specs.Encoding.{encode_at, encode_slots, items_in, bound_of, write_of};
 ghost use Rattle.image.specs.Image.{image_of, put, width_of, size_of};
-ghost use Rattle.slots.specs.State.{startsIn, formsIn};
+ghost use Rattle.slots.specs.State.{starts_in, forms_in};
 
 use crate::Encoded;
 use crate::codes::encode_at;
@@ -28,11 +28,11 @@ fn address(position: u32) -> Address
 
 // The end of the last statement that has bytes; 0 where none has.
 pub fn image_length(frames: &[u8], state: &State, count: usize, positions: &[u32; 1025]) -> usize
-    requires { Held frames.now (startsIn state.now) count }
+    requires { Held frames.now (starts_in state.now) count }
     ensures { (carry owners offsets links : List ℕ) (values : List ℤ) →
-        (let d = tables frames.now (startsIn state.now) count (formsIn
+        (let d = tables frames.now (starts_in state.now) count (forms_in
         state.now) carry owners offsets links values
-        positions.now in Ready d → isOk (encodeSlots d) ≡ true → result ≡ length (image_of d)) }
+        positions.now in Ready d → is_ok (encode_slots d) ≡ true → result ≡ length (image_of d)) }
 {
     let mut i = count;
     while 0 < i {
@@ -97,8 +97,8 @@ fn item_width(what: Data) -> usize
 
 // An item of data at q. Words have the low byte first.
 fn write_item(image: &mut [u8], q: Address, what: Data, v: u16)
-    requires { (q.0 + width_of what ≤ length image.old) × (v < boundOf what) }
-    ensures { image.new ≡ put image.old q.0 (writeOf what v) }
+    requires { (q.0 + width_of what ≤ length image.old) × (v < bound_of what) }
+    ensures { image.new ≡ put image.old q.0 (write_of what v) }
 {
     let from = q.0;
     match what {
@@ -130,7 +130,7 @@ fn write_items(
         × (q.0 + width_of what * n ≤ length image.old) }
     ensures { (names : List Entry) (k : ℕ)
         → Linked (λ m. lookup names (key_of k m)) frame.now links.now values.now count
-        → (b : List ℕ) → items names (boundOf what) (writeOf what) at.0 k 0 (items_in at.0 frame.now) ≡ ok b
+        → (b : List ℕ) → items names (bound_of what) (write_of what) at.0 k 0 (items_in at.0 frame.now) ≡ ok b
         → image.new ≡ put image.old q.0 b }
 {
     let width = item_width(what);
@@ -160,7 +160,7 @@ fn write_at(
         Ready d × (at.0 < count) × (0 < size_of d at.0 → get_or positions.now at.0 0 + size_of d at.0 ≤ length image.old) }
     ensures { let d : Tables = tables_of frames.now state.now count links.now values.now
         positions.now in
-        ((b : List ℕ) → encodeAt d at.0 ≡ ok b
+        ((b : List ℕ) → encode_at d at.0 ≡ ok b
         → image.new ≡ put image.old (get_or positions.now at.0 0) b) }
 {
     let i = at.0;
@@ -209,7 +209,7 @@ pub fn write_image(
 )
     requires { let d : Tables = tables_of frames.now state.now count
         links.now values.now positions.now in
-        Ready d × (isOk (encodeSlots d) ≡ true) × (length (image_of d) ≤ length image.old) }
+        Ready d × (is_ok (encode_slots d) ≡ true) × (length (image_of d) ≤ length image.old) }
     ensures { let d : Tables = tables_of frames.now state.now count links.now values.now
         positions.now in
         (let bytes = image_of d in image.new ≡ bytes ++ drop (length bytes) image.old) }

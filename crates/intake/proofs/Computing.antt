@@ -7,7 +7,7 @@ use Prim.Native.Nat.{ℕ}
 use Rattle.laws.proofs.Tests.{clash}
 use Rattle.rules.specs.Expressions.{Expr}
 use Rattle.rules.specs.Programs.{Stmt}
-use Rattle.grammar.specs.Reading.{isDecimal, look}
+use Rattle.grammar.specs.Reading.{is_decimal, look}
 use Rattle.grammar.specs.Going as going
 use Rattle.grammar.specs.Going.{Read, got, stuck, whole, Goes}
 use Rattle.grammar.proofs.Computing.{goes, computed}
@@ -23,9 +23,9 @@ then none f = none
 then (some (got e r)) f = f e r
 then (some (stuck r)) f = some (stuck r)
 
-abbrev thenNumber : Read ℕ → (ℕ → List ℕ → Answer) → Answer
-thenNumber (got n r) f = f n r
-thenNumber (stuck r) f = some (stuck r)
+abbrev then_number : Read ℕ → (ℕ → List ℕ → Answer) → Answer
+then_number (got n r) f = f n r
+then_number (stuck r) f = some (stuck r)
 
 unfoldable pub walks : Plan → List ℕ → Option (Read Stmt)
 walks (done s) [] = some (got s [])
@@ -35,8 +35,8 @@ walks (fork none ok f) [] = some (stuck [])
 walks (fork (some s) ok f) (c ∷ t) = cond (ok c) (walks (f c) t) (some (stuck (c ∷ t)))
 walks (fork none ok f) (c ∷ t) = cond (ok c) (walks (f c) t) (some (stuck (c ∷ t)))
 walks (expression f) t = then (goes 200 (whole 5) t) (λ e r. walks (f e) r)
-walks (decimal most f) t = cond (isDecimal (look t)) (thenNumber (going.digits most 0 t) (λ n r. walks (f n) r)) (some (stuck t))
-walks (five f) t = thenNumber (going.fixed 32767 5 0 t) (λ n r. walks (f n) r)
+walks (decimal most f) t = cond (is_decimal (look t)) (then_number (going.digits most 0 t) (λ n r. walks (f n) r)) (some (stuck t))
+walks (five f) t = then_number (going.fixed 32767 5 0 t) (λ n r. walks (f n) r)
 walks (either ok next f) [] = cond (ok 0) none (then (goes 200 (whole 5) []) (λ e r. walks (f e) r))
 walks (either ok next f) (c ∷ t) = cond (ok c) (walks (next c) t) (then (goes 200 (whole 5) (c ∷ t)) (λ e r. walks (f e) r))
 walks (finish read) t = some (read t)
@@ -68,17 +68,17 @@ walked (expression f) t o e = on (goes 200 (whole 5) t) refl e (λ d r. walked (
     on none z e below = nothing e
     on (some (got d r)) z e below = plans.tree (computed 200 (whole 5) t (got d r) z) (below d r e)
     on (some (stuck r)) z e below = subst (λ x. Walks (expression f) t x) (is e) (plans.treeless (computed 200 (whole 5) t (stuck r) z))
-walked (decimal most f) t o e = on (isDecimal (look t)) refl (going.digits most 0 t) refl e (λ n r. walked (f n) r o)
+walked (decimal most f) t o e = on (is_decimal (look t)) refl (going.digits most 0 t) refl e (λ n r. walked (f n) r o)
   where
-    on : (b : Bool) → isDecimal (look t) ≡ b → (a : Read ℕ) → going.digits most 0 t ≡ a
-        → cond b (thenNumber a (λ n r. walks (f n) r)) (some (stuck t)) ≡ some o
+    on : (b : Bool) → is_decimal (look t) ≡ b → (a : Read ℕ) → going.digits most 0 t ≡ a
+        → cond b (then_number a (λ n r. walks (f n) r)) (some (stuck t)) ≡ some o
         → ((n : ℕ) (r : List ℕ) → walks (f n) r ≡ some o → Walks (f n) r o) → Walks (decimal most f) t o
     on true q (got n r) z e below = plans.value q z (below n r e)
     on true q (stuck r) z e below = subst (λ x. Walks (decimal most f) t x) (is e) (plans.large q z)
     on false q a z e below = subst (λ x. Walks (decimal most f) t x) (is e) (plans.valueless q)
 walked (five f) t o e = on (going.fixed 32767 5 0 t) refl e (λ n r. walked (f n) r o)
   where
-    on : (a : Read ℕ) → going.fixed 32767 5 0 t ≡ a → thenNumber a (λ n r. walks (f n) r) ≡ some o
+    on : (a : Read ℕ) → going.fixed 32767 5 0 t ≡ a → then_number a (λ n r. walks (f n) r) ≡ some o
         → ((n : ℕ) (r : List ℕ) → walks (f n) r ≡ some o → Walks (f n) r o) → Walks (five f) t o
     on (got n r) z e below = plans.digits z (below n r e)
     on (stuck r) z e below = subst (λ x. Walks (five f) t x) (is e) (plans.nameless z)

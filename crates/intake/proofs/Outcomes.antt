@@ -14,7 +14,7 @@ use Rattle.rules.specs.Answers.{Judged, ok, no}
 use Rattle.rules.specs.Programs.{Program}
 use Rattle.rules.specs.Listing.{lines_of}
 use Rattle.digits.proofs.Left.{refused, written}
-use Rattle.intake.specs.Intake.{Takes, listingOf, inRoom, Leaves}
+use Rattle.intake.specs.Intake.{Takes, listing_of, in_room, Leaves}
 use Rattle.intake.specs.Turns.{Counted, Roomy, Writes}
 
 -- a line is refused
@@ -23,13 +23,13 @@ unread text room r t = record { judged = no r; takes = t; leaves = refused (no r
 
 module _ (text room : List ℕ) (count chars : ℕ) (m : Counted text count chars) where
   abbrev all : List ℕ
-  all = listingOf m.p
+  all = listing_of m.p
 
   abbrev judged : Judged (List ℕ)
-  judged = inRoom (length room) (ok m.p)
+  judged = in_room (length room) (ok m.p)
 
-  judged-is : (b : Bool) → leb (length all) (length room) ≡ b → judged ≡ cond b (ok all) (no (Room (length m.p)))
-  judged-is b e = ap (λ (c : Bool). cond c (ok all) (no (Room (length m.p)))) e
+  judged_is : (b : Bool) → leb (length all) (length room) ≡ b → judged ≡ cond b (ok all) (no (Room (length m.p)))
+  judged_is b e = ap (λ (c : Bool). cond c (ok all) (no (Room (length m.p)))) e
 
   -- 12
   pub short : length room < chars → Leaves text (Refused (Room count)) room room
@@ -38,7 +38,7 @@ module _ (text room : List ℕ) (count chars : ℕ) (m : Counted text count char
       record {
         judged = ok m.p;
         takes = m.takes;
-        leaves = refused judged (Room count) room (judged-is false e ∙ ap (λ (n : ℕ). no (Room n)) (sym m.statements));
+        leaves = refused judged (Room count) room (judged_is false e ∙ ap (λ (n : ℕ). no (Room n)) (sym m.statements));
       }
 
   -- the whole listing
@@ -52,5 +52,5 @@ module _ (text room : List ℕ) (count chars : ℕ) (m : Counted text count char
       record {
         judged = ok m.p;
         takes = m.takes;
-        leaves = written judged all chars room after (judged-is true e) m.characters (w m.p m.takes);
+        leaves = written judged all chars room after (judged_is true e) m.characters (w m.p m.takes);
       }

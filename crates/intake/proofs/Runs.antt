@@ -8,24 +8,24 @@ use lib.Dec.{T, eqb}
 use lib.ListN.{length}
 use Rattle.laws.specs.Lists.{each, same}
 use Rattle.rules.specs.Expressions.{bytes_of}
-use Rattle.rules.specs.Forms.{formAt}
+use Rattle.rules.specs.Forms.{form_at}
 use Rattle.rules.specs.Patterns.{codes}
 use Rattle.rules.specs.Programs.{Stmt}
 use Rattle.rules.specs.Listing.{unhex}
 use Rattle.rules.specs.Output.{frame_of}
 use Rattle.text.specs.Text.{mnemonic}
-use Rattle.grammar.specs.Going.{Read, got, stuck, digits, fixed, local, class_of, led, start, skip, infixOf}
+use Rattle.grammar.specs.Going.{Read, got, stuck, digits, fixed, local, class_of, led, start, skip, infix_of}
 use Rattle.grammar.proofs.Computing.{goes}
 use Rattle.plans.specs.Words.{advance, end_of, trie}
-use Rattle.plans.specs.Families.{narrow, argsPlan, family, heads, mnemonics}
+use Rattle.plans.specs.Families.{narrow, args_plan, family, heads, mnemonics}
 use Rattle.plans.specs.Finals.{hexes, comments, multiples}
-use Rattle.plans.specs.Lines.{globalPlan, localPlan, orgPlan, alignPlan, itemsPlan, wordList, linePlan}
+use Rattle.plans.specs.Lines.{global_plan, local_plan, org_plan, align_plan, items_plan, word_list, line_plan}
 use Rattle.plans.proofs.Runs.{all}
 use Rattle.intake.proofs.Computing.{walks}
 
 -- the line is good, and this is its frame
 unfoldable pub reads : String → String → Bool
-reads t f = on (walks linePlan (codes t))
+reads t f = on (walks line_plan (codes t))
   where
     on : Option (Read Stmt) → Bool
     on none = false
@@ -34,14 +34,14 @@ reads t f = on (walks linePlan (codes t))
 
 -- it is none, and this is 15's column
 unfoldable pub stops : String → ℕ → Bool
-stops t c = on (walks linePlan (codes t))
+stops t c = on (walks line_plan (codes t))
   where
     on : Option (Read Stmt) → Bool
     on none = false
     on (some (got s r)) = false
     on (some (stuck r)) = eqb (length (codes t) - length r) c
 
-pub names-and-numbers : T (all (
+pub names_and_numbers : T (all (
     reads "g32767:" "027FFF" ∷ stops "g32768:" 5 ∷
     reads ".l32767:" "02FFFF" ∷ stops ".l40000:" 2 ∷
     stops "g0000:" 5 ∷ stops "g000000:" 6 ∷ stops ".l00001=5" 7 ∷
@@ -55,8 +55,8 @@ pub names-and-numbers : T (all (
     reads ".align 255,256" "08FF0100" ∷ stops ".align 256,1" 9 ∷ stops ".align 0,257" 11 ∷
     reads ".align 0,001" "08000001" ∷ stops ".align 0,0" 10 ∷
     []))
-unfolding all reads stops walks goes start led class_of digits fixed local skip infixOf same unhex frame_of each bytes_of linePlan wordList trie advance end_of globalPlan localPlan orgPlan alignPlan itemsPlan multiples hexes comments mnemonics family heads narrow argsPlan mnemonic formAt
-names-and-numbers = tt
+unfolding all reads stops walks goes start led class_of digits fixed local skip infix_of same unhex frame_of each bytes_of line_plan word_list trie advance end_of global_plan local_plan org_plan align_plan items_plan multiples hexes comments mnemonics family heads narrow args_plan mnemonic form_at
+names_and_numbers = tt
 
 -- "spaces beside operators only"; "( 1)" and a space behind a comma or `#` stand beside what no operator is, which the next byte tells: a prefix
 -- sign could have followed. A minus touching a digit is none
@@ -68,7 +68,7 @@ pub spaces : T (all (
     stops "add # 5" 6 ∷ stops "mov #1, 2" 8 ∷ stops "add  #5" 5 ∷ stops " nop" 0 ∷ stops "nop " 3 ∷
     stops ".byte 1, -5" 10 ∷ stops "add (  " 7 ∷ stops "be @R1, #2,3" 7 ∷
     []))
-unfolding all reads stops walks goes start led class_of digits fixed local skip infixOf same unhex frame_of each bytes_of linePlan wordList trie advance end_of globalPlan localPlan orgPlan alignPlan itemsPlan multiples hexes comments mnemonics family heads narrow argsPlan mnemonic formAt
+unfolding all reads stops walks goes start led class_of digits fixed local skip infix_of same unhex frame_of each bytes_of line_plan word_list trie advance end_of global_plan local_plan org_plan align_plan items_plan multiples hexes comments mnemonics family heads narrow args_plan mnemonic form_at
 spaces = tt
 
 -- "all grouped to the left; prefix signs bind tightest", with fewer parentheses than are written and with more
@@ -82,11 +82,11 @@ pub grouping : T (all (
     reads "g00000=-g00002*2" "03000012200100020000000002" ∷
     reads "g00000=((5))" "0300000000000005" ∷ stops "g00000=((5)" 11 ∷ stops "g00000=(5))" 10 ∷
     []))
-unfolding all reads stops walks goes start led class_of digits fixed local skip infixOf same unhex frame_of each bytes_of linePlan wordList trie advance end_of globalPlan localPlan orgPlan alignPlan itemsPlan multiples hexes comments mnemonics family heads narrow argsPlan mnemonic formAt
+unfolding all reads stops walks goes start led class_of digits fixed local skip infix_of same unhex frame_of each bytes_of line_plan word_list trie advance end_of global_plan local_plan org_plan align_plan items_plan multiples hexes comments mnemonics family heads narrow args_plan mnemonic form_at
 grouping = tt
 
 -- words, arguments, comments and items
-pub words-and-arguments : T (all (
+pub words_and_arguments : T (all (
     reads "nop" "0143" ∷ stops "" 0 ∷ stops "no" 2 ∷ stops "nop1" 3 ∷ stops "Nop" 0 ∷
     reads "rolc" "011C" ∷ reads "rol" "011B" ∷ stops "rolcc" 4 ∷
     stops "add" 3 ∷ stops "add " 4 ∷ stops "add #" 5 ∷
@@ -96,8 +96,8 @@ pub words-and-arguments : T (all (
     reads ".comment" "04" ∷ reads ".comment 0AFF" "040AFF" ∷ stops ".comment " 9 ∷ stops ".comment 0" 10 ∷ stops ".comment 0a" 10 ∷
     reads ".byte 1" "06010000000001" ∷ stops ".byte" 5 ∷ stops ".byte " 6 ∷ stops ".byte 1," 8 ∷ stops ".word #1" 6 ∷
     []))
-unfolding all reads stops walks goes start led class_of digits fixed local skip infixOf same unhex frame_of each bytes_of linePlan wordList trie advance end_of globalPlan localPlan orgPlan alignPlan itemsPlan multiples hexes comments mnemonics family heads narrow argsPlan mnemonic formAt
-words-and-arguments = tt
+unfolding all reads stops walks goes start led class_of digits fixed local skip infix_of same unhex frame_of each bytes_of line_plan word_list trie advance end_of global_plan local_plan org_plan align_plan items_plan multiples hexes comments mnemonics family heads narrow args_plan mnemonic form_at
+words_and_arguments = tt
 
 -- a line of so many items: 16 are good, and "a seventeenth item is 15 at its comma"
 pub items : T (all (
@@ -105,5 +105,5 @@ pub items : T (all (
     "0610010000010000010000010000010000010000010000010000010000010000010000010000010000010000010000010000" ∷
     stops ".byte g00000,g00000,g00000,g00000,g00000,g00000,g00000,g00000,g00000,g00000,g00000,g00000,g00000,g00000,g00000,g00000,g00000" 117 ∷
     []))
-unfolding all reads stops walks goes start led class_of digits fixed local skip infixOf same unhex frame_of each bytes_of linePlan wordList trie advance end_of globalPlan localPlan orgPlan alignPlan itemsPlan multiples hexes comments mnemonics family heads narrow argsPlan mnemonic formAt
+unfolding all reads stops walks goes start led class_of digits fixed local skip infix_of same unhex frame_of each bytes_of line_plan word_list trie advance end_of global_plan local_plan org_plan align_plan items_plan multiples hexes comments mnemonics family heads narrow args_plan mnemonic form_at
 items = tt

@@ -6,7 +6,7 @@ use Rattle.rules.specs.declared.Refusal.{Refusal}
 use Rattle.rules.specs.declared.Refusal.TheVariants.{Limit, Room, Column}
 use Rattle.rules.specs.Answers.{at_place, Judged, ok, no}
 use Rattle.rules.specs.Programs.{Placeℕ, Stmt, Program}
-use Rattle.rules.specs.Listing.{Line, lines_of, oldForm}
+use Rattle.rules.specs.Listing.{Line, lines_of, old_form}
 use Rattle.rules.specs.Output.{frame_of, text_of}
 use Rattle.digits.specs.Leaves.{Leaves as Left}
 use Rattle.grammar.specs.Reading as reading
@@ -37,16 +37,16 @@ pub data Takes : (i : Placeℕ) (sum : ℕ) → List Line → Judged Program →
       → Takes i sum (l ∷ ls) (ok (s ∷ p))
 
 -- "The frames come out in the old form"
-abbrev pub listingOf : Program → List ℕ
-listingOf p = text_of (record { form = oldForm; lines = [] }) [] p
+abbrev pub listing_of : Program → List ℕ
+listing_of p = text_of (record { form = old_form; lines = [] }) [] p
 
 -- "then 12", with the statement count
-abbrev pub inRoom : (room : ℕ) → Judged Program → Judged (List ℕ)
-inRoom room (ok p) = cond (leb (length (listingOf p)) room) (ok (listingOf p)) (no (Room (length p)))
-inRoom room (no r) = no r
+abbrev pub in_room : (room : ℕ) → Judged Program → Judged (List ℕ)
+in_room room (ok p) = cond (leb (length (listing_of p)) room) (ok (listing_of p)) (no (Room (length p)))
+in_room room (no r) = no r
 
 -- what the entry answers to a text, and leaves in the room
 pub record Leaves (text : List ℕ) (r : Answer) (before after : List ℕ) : Type 0 where
   pub judged : Judged Program
   pub takes : Takes 0 0 (lines_of text) judged
-  pub leaves : Left (inRoom (length before) judged) r before after
+  pub leaves : Left (in_room (length before) judged) r before after

@@ -1,6 +1,6 @@
 // The line that a text begins with: its refusal, in the order in which a line is judged, or its frame.
 ghost use Rattle.std.specs.Prelude.{◌≡◌, ◌≤◌, length};
-ghost use Rattle.listing.specs.Lines.{lineLength};
+ghost use Rattle.listing.specs.Lines.{line_length};
 ghost use Rattle.intake.specs.Turns.{Turned};
 
 use laying::Told;
@@ -16,7 +16,7 @@ pub enum Turn {
 
 // How many bytes stand before the first line feed: all of them where there is none.
 pub fn line_length(text: &[u8]) -> usize
-    ensures { result ≡ lineLength text.now }
+    ensures { result ≡ line_length text.now }
 {
     let mut i = 0;
     while i < text.len() {

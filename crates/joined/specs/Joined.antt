@@ -6,11 +6,11 @@ use Rattle.rules.specs.declared.Answer.TheVariants.{Done, Refused}
 use Rattle.rules.specs.declared.Refusal.TheVariants.{Limit}
 use Rattle.rules.specs.Answers.{at_place, ok}
 use Rattle.rules.specs.Programs.{Placeℕ, Program}
-use Rattle.rules.specs.Listing.{oldForm, formIn, lines_of, readListing}
+use Rattle.rules.specs.Listing.{old_form, form_in, lines_of, read_listing}
 use Rattle.rules.specs.Run.{front}
 use Rattle.digits.specs.Leaves.{Leaves as Left}
 use Rattle.readable.specs.Readable.{readable}
-use Rattle.intake.specs.Intake.{listingOf, Leaves}
+use Rattle.intake.specs.Intake.{listing_of, Leaves}
 
 -- what an entry wrote into a room, by its answer
 abbrev pub written : Answer → (room : List ℕ) → List ℕ
@@ -26,12 +26,12 @@ pub record Ran (listing text text' out out' : List ℕ) (a b : Answer) : Type 0 
 -- the listing of the statements p comes back "in the old form", and the rest of the room is what it was: it reads as p again, and a listing
 -- that was in the old form is there byte for byte
 pub record ReadAgain (listing : List ℕ) (p : Program) (out out' : List ℕ) (b : Answer) : Type 0 where
-  pub answer : b ≡ Done (record { listing = length (listingOf p); rewrites = 0; image = 0 })
-  pub room : out' ≡ front (listingOf p) out
-  pub is : written b out' ≡ listingOf p
-  pub form : formIn (lines_of (written b out')) ≡ oldForm
-  pub same : readListing (written b out') ≡ ok p
-  pub as-given : formIn (lines_of listing) ≡ oldForm → written b out' ≡ listing
+  pub answer : b ≡ Done (record { listing = length (listing_of p); rewrites = 0; image = 0 })
+  pub room : out' ≡ front (listing_of p) out
+  pub is : written b out' ≡ listing_of p
+  pub form : form_in (lines_of (written b out')) ≡ old_form
+  pub same : read_listing (written b out') ≡ ok p
+  pub as_given : form_in (lines_of listing) ≡ old_form → written b out' ≡ listing
 
 -- the total is passed at a line: 2, and no lent byte changes
 pub record Passed (out out' : List ℕ) (b : Answer) : Type 0 where

@@ -17,8 +17,8 @@ use Rattle.leaves.specs.declared.Found.TheVariants.{Ends, Stuck}
 use Rattle.leaves.specs.Answering.{Put, Answered}
 use Rattle.laying.specs.Laying.{long, Stands, Added, Copied, Termed}
 
-pub nothing-stands : (a : List ℕ) → length a ≡ 120 → Stands a 0 [] 0
-nothing-stands a e =
+pub nothing_stands : (a : List ℕ) → length a ≡ 120 → Stands a 0 [] 0
+nothing_stands a e =
     record { size = e; within = omega arith; front = λ h. refl; ends = λ h. refl; short = λ h. refl; over = λ h l. absurd (omega arith) }
 
 -- no room for x
@@ -63,8 +63,8 @@ laid_so b a at x e h t =
           };
     }
 
-pub put-so : (b : List ℕ) (at c : ℕ) → length b ≡ 120 → at ≤ 119 → Added b (set b at c) at (at + 1) (c ∷ []) 0
-put-so b at c e h =
+pub put_so : (b : List ℕ) (at c : ℕ) → length b ≡ 120 → at ≤ 119 → Added b (set b at c) at (at + 1) (c ∷ []) 0
+put_so b at c e h =
     laid_so b (set b at c) at (c ∷ []) (length-set b at c ∙ e) (omega arith) (ap (λ n. take n (set b at c)) (add-one at) ∙ take-suc-set b at c (omega arith))
 
 -- ---- an expression's bytes
@@ -74,8 +74,8 @@ fits e room c n p h =
     let l : n ≡ length (bytes_of e) = omega (arith, p.ends h) in
     (ap (λ y. cond y 0 1) (le-leb (length (bytes_of e)) 32 (omega arith)), (sym l, p.stands h))
 
-pub term-long : (b : List ℕ) (at : ℕ) (room : List ℕ) (n : ℕ) → length b ≡ 120 → at ≤ 121 → 32 < n → Copied b b at 121 room n
-term-long b at room n e h k =
+pub term_long : (b : List ℕ) (at : ℕ) (room : List ℕ) (n : ℕ) → length b ≡ 120 → at ≤ 121 → 32 < n → Copied b b at 121 room n
+term_long b at room n e h k =
     record {
       size = e;
       within = omega arith;
@@ -85,8 +85,8 @@ term-long b at room n e h k =
     no : (x : Expr) → 32 < length (bytes_of x) → long x ≡ 0 → ⊥
     no x l z = let q : long x ≡ 1 = ap (λ y. cond y 0 1) (lt-leb (length (bytes_of x)) 32 l) in omega arith
 
-pub term-over : (b : List ℕ) (at : ℕ) (room : List ℕ) (n : ℕ) → length b ≡ 120 → at ≤ 121 → n ≤ 32 → 120 < at + n → Copied b b at 121 room n
-term-over b at room n e h k o =
+pub term_over : (b : List ℕ) (at : ℕ) (room : List ℕ) (n : ℕ) → length b ≡ 120 → at ≤ 121 → n ≤ 32 → 120 < at + n → Copied b b at 121 room n
+term_over b at room n e h k o =
     record {
       size = e;
       within = omega arith;
@@ -98,8 +98,8 @@ pub record Copying (b a : List ℕ) (at : ℕ) (room : List ℕ) (i : ℕ) : Typ
   pub size : length a ≡ 120
   pub front : take (at + i) a ≡ take at b ++ take i room
 
-pub copy-none : (b : List ℕ) (at : ℕ) (room : List ℕ) → length b ≡ 120 → Copying b b at room 0
-copy-none b at room e = let z : at + 0 ≡ at = omega arith in record { size = e; front = ap (λ n. take n b) z ∙ sym (append-nil (take at b)) }
+pub copy_none : (b : List ℕ) (at : ℕ) (room : List ℕ) → length b ≡ 120 → Copying b b at room 0
+copy_none b at room e = let z : at + 0 ≡ at = omega arith in record { size = e; front = ap (λ n. take n b) z ∙ sym (append-nil (take at b)) }
 
 pub copy_more : (b a : List ℕ) (at : ℕ) (room : List ℕ) (i : ℕ) → Copying b a at room i → at + i < 120 → i < length room
     → Copying b (set a (at + i) (get_or room i 0)) at room (i + 1)
@@ -112,8 +112,8 @@ copy_more b a at room i w h k =
           ∙ ap (λ y. take at b ++ y) (sym (take-suc room i 0 k)) ∙ ap (λ m. take at b ++ take m room) (sym (add-one i));
     }
 
-pub copied-so : (b a : List ℕ) (at : ℕ) (room : List ℕ) (n : ℕ) → Copying b a at room n → n ≤ 32 → at + n ≤ 120 → Copied b a at (at + n) room n
-copied-so b a at room n w h k = record { size = w.size; within = omega arith; adds = adds }
+pub copied_so : (b a : List ℕ) (at : ℕ) (room : List ℕ) (n : ℕ) → Copying b a at room n → n ≤ 32 → at + n ≤ 120 → Copied b a at (at + n) room n
+copied_so b a at room n w h k = record { size = w.size; within = omega arith; adds = adds }
   where
     adds : (e : Expr) (c : List ℕ) → Put c room 0 (bytes_of e) n → Added b a at (at + n) (bytes_of e) (long e)
     adds e c p =
@@ -125,9 +125,9 @@ copied-so b a at room n w h k = record { size = w.size; within = omega arith; ad
 
 -- ---- from the part of a line to the line
 
-pub term-ends : (s : List ℕ) (k : ℕ) (b a : List ℕ) (at : ℕ) (c room : List ℕ) (r : Found) (n end to : ℕ) → k ≤ length s
+pub term_ends : (s : List ℕ) (k : ℕ) (b a : List ℕ) (at : ℕ) (c room : List ℕ) (r : Found) (n end to : ℕ) → k ≤ length s
     → r ≡ Ends n end → Answered (whole 5) (drop k s) c room 0 r → Copied b a at to room end → Termed s k b a at (Ends (k + n) to)
-term-ends s k b a at c room r n end to h q x w =
+term_ends s k b a at c room r n end to h q x w =
     let y = subst (λ z. Answered (whole 5) (drop k s) c room 0 z) q x in
     let e : Expr = y.0 in (
       e,
@@ -137,18 +137,18 @@ term-ends s k b a at c room r n end to h q x w =
       ),
     )
 
-pub term-stuck : (s : List ℕ) (k : ℕ) (b a : List ℕ) (at : ℕ) (c room : List ℕ) (r : Found) (n : ℕ) → k ≤ length s
+pub term_stuck : (s : List ℕ) (k : ℕ) (b a : List ℕ) (at : ℕ) (c room : List ℕ) (r : Found) (n : ℕ) → k ≤ length s
     → r ≡ Stuck n → Answered (whole 5) (drop k s) c room 0 r → Termed s k b a at (Stuck (k + n))
-term-stuck s k b a at c room r n h q x =
+term_stuck s k b a at c room r n h q x =
     let y = subst (λ z. Answered (whole 5) (drop k s) c room 0 z) q x in
     (subst (λ z. Goes (whole 5) (drop k s) (stuck z)) (drop-drop n k s) y.0, omega (arith, y.1, length-drop k s))
 
 -- what is known of the room and of the bytes taken
-pub room-size : (t b a : List ℕ) (r : Found) (n to : ℕ) → r ≡ Ends n to → Answered (whole 5) t b a 0 r → length a ≡ 32
-room-size t b a r n to q x = (subst (λ z. Answered (whole 5) t b a 0 z) q x).1.1.1.size
+pub room_size : (t b a : List ℕ) (r : Found) (n to : ℕ) → r ≡ Ends n to → Answered (whole 5) t b a 0 r → length a ≡ 32
+room_size t b a r n to q x = (subst (λ z. Answered (whole 5) t b a 0 z) q x).1.1.1.size
 
-pub ends-most : (t b a : List ℕ) (r : Found) (n to : ℕ) → r ≡ Ends n to → Answered (whole 5) t b a 0 r → n ≤ length t
-ends-most t b a r n to q x = (subst (λ z. Answered (whole 5) t b a 0 z) q x).1.1.0
+pub ends_most : (t b a : List ℕ) (r : Found) (n to : ℕ) → r ≡ Ends n to → Answered (whole 5) t b a 0 r → n ≤ length t
+ends_most t b a r n to q x = (subst (λ z. Answered (whole 5) t b a 0 z) q x).1.1.0
 
-pub stuck-most : (t b a : List ℕ) (r : Found) (n : ℕ) → r ≡ Stuck n → Answered (whole 5) t b a 0 r → n ≤ length t
-stuck-most t b a r n q x = (subst (λ z. Answered (whole 5) t b a 0 z) q x).1
+pub stuck_most : (t b a : List ℕ) (r : Found) (n : ℕ) → r ≡ Stuck n → Answered (whole 5) t b a 0 r → n ≤ length t
+stuck_most t b a r n q x = (subst (λ z. Answered (whole 5) t b a 0 z) q x).1

@@ -12,8 +12,8 @@ use lib.ListN.{length, get_or, take, drop, set, length-set, length-append, lengt
 use lib.Seq.{take-suc-set, take-set-le, take-set-lt, drop-set-lt, take-take, length-take-le, get_or-take, get_or-set_same, drop-cons, set_split, take_at, drop_at}
 use Rattle.leaves.specs.Answering.{Put, Inserted}
 
-le-or-lt : (a b : ℕ) → (a ≤ b) ⊎ (b < a)
-le-or-lt a b = on (leb a b) refl
+le_or_lt : (a b : ℕ) → (a ≤ b) ⊎ (b < a)
+le_or_lt a b = on (leb a b) refl
   where
     on : (t : Bool) → leb a b ≡ t → (a ≤ b) ⊎ (b < a)
     on true e = inl (leb-true a b e)
@@ -73,8 +73,8 @@ pub record Moved (b a : List ℕ) (end i : ℕ) : Type 0 where
   pub below : take i a ≡ take i b
   pub above : drop (i + 1) (take (end + 1) a) ≡ drop i (take end b)
 
-pub moved-start : (b : List ℕ) (end : ℕ) → Moved b b end end
-moved-start b end =
+pub moved_start : (b : List ℕ) (end : ℕ) → Moved b b end end
+moved_start b end =
     record {
       size = refl;
       below = refl;
@@ -112,8 +112,8 @@ moved_more b a end i h k m =
           ∙ sym (drop-cons (take end b) i 0 (omega arith));
     }
 
-pub moved-put : (b a : List ℕ) (end at code : ℕ) → at ≤ end → end < length b → Moved b a end at → take (end + 1) (set a at code) ≡ take at b ++ (code ∷ drop at (take end b))
-moved-put b a end at code h k m =
+pub moved_put : (b a : List ℕ) (end at code : ℕ) → at ≤ end → end < length b → Moved b a end at → take (end + 1) (set a at code) ≡ take at b ++ (code ∷ drop at (take end b))
+moved_put b a end at code h k m =
     let t : List ℕ = take (end + 1) a in
     let la : length a ≡ length b = m.size in
     let lt : length t ≡ end + 1 = length-take-le (end + 1) a (omega arith) in
@@ -138,7 +138,7 @@ put_two b a₀ a₁ a₂ e d at to end code r lb p q i =
     l = length-append e d
 
     split : (end ≤ 31) ⊎ (31 < end)
-    split = le-or-lt end 31
+    split = le_or_lt end 31
 
     within : r ≤ 33
     within = ⊎_elim (λ h. omega (arith, i.ends h)) (λ h. omega (arith, i.full h)) split
@@ -163,16 +163,16 @@ put_two b a₀ a₁ a₂ e d at to end code r lb p q i =
     over h = ⊎_elim (λ k. absurd (omega (arith, i.ends k))) (λ k. far k) split
       where
         first : (to ≤ 32) ⊎ (32 < to)
-        first = le-or-lt to 32
+        first = le_or_lt to 32
 
         second : (end ≤ 32) ⊎ (32 < end)
-        second = le-or-lt end 32
+        second = le_or_lt end 32
 
         far : 31 < end → 32 < at + suc (length (e ++ d))
         far k =
             ⊎_elim (λ x. ⊎_elim (λ y. omega (arith, l, p.ends x, q.ends y)) (λ y. omega (arith, l, p.ends x, q.over y)) second)
             (λ x. omega (arith, l, p.over x)) first
 
-pub put-none : (b : List ℕ) (at : ℕ) → length b ≡ 32 → at ≤ 33 → Put b b at [] at
-put-none b at l h =
+pub put_none : (b : List ℕ) (at : ℕ) → length b ≡ 32 → at ≤ 33 → Put b b at [] at
+put_none b at l h =
     record { size = l; within = h; ends = λ k. omega arith; stands = λ k. sym (append-nil (take at b)); over = λ k. omega arith }

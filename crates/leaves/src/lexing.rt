@@ -1,8 +1,8 @@
 // Bytes, spaces and digits at the front of a text.
 ghost use Rattle.std.specs.Prelude.{◌≡◌, true, ℕ, ◌+◌, ◌*◌, ◌-◌, ◌≤◌, ◌<◌, length, drop};
-ghost use Rattle.grammar.specs.Reading.{isDecimal, look};
+ghost use Rattle.grammar.specs.Reading.{is_decimal, look};
 ghost use Rattle.text.specs.Text.{tens};
-ghost use Rattle.grammar.specs.Going.{skip, digits, fixed, opAt};
+ghost use Rattle.grammar.specs.Going.{skip, digits, fixed, op_at};
 ghost use Rattle.leaves.specs.Answering.{Valued, code_of};
 
 use crate::Value;
@@ -18,7 +18,7 @@ pub fn look(s: &[u8]) -> u8
 }
 
 pub fn is_decimal(c: u8) -> bool
-    ensures { result ≡ isDecimal c }
+    ensures { result ≡ is_decimal c }
 {
     if c < 48 {
         return false;
@@ -27,7 +27,7 @@ pub fn is_decimal(c: u8) -> bool
 }
 
 fn digit(c: u8) -> usize
-    requires { isDecimal c ≡ true }
+    requires { is_decimal c ≡ true }
     ensures { (result ≡ c - 48) × (result ≤ 9) }
 {
     let d = c - 48;

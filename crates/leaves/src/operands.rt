@@ -2,7 +2,7 @@
 ghost use Rattle.std.specs.Prelude.{◌≡◌, true, ℕ, ◌+◌, ◌≤◌, ◌<◌, length, drop, pos, neg_ℤ};
 ghost use Rattle.std.specs.Int.{w32};
 ghost use Rattle.std.proofs.Common.{of_z};
-ghost use Rattle.grammar.specs.Reading.{isDecimal, look};
+ghost use Rattle.grammar.specs.Reading.{is_decimal, look};
 ghost use Rattle.grammar.specs.Going.{nothing, led, start, alone};
 ghost use Rattle.leaves.specs.Answering.{Answered, sign_code};
 
@@ -51,7 +51,7 @@ fn blank(s: &[u8]) -> usize
 }
 
 fn plain(s: &[u8], out: &mut [u8; 32], at: usize) -> Found
-    requires { (length out.old ≡ 32) × (at ≤ 33) × (isDecimal (look s.now) ≡ true) }
+    requires { (length out.old ≡ 32) × (at ≤ 33) × (is_decimal (look s.now) ≡ true) }
     ensures { Answered alone s.now out.old out.new at result }
 {
     match digits(s, 2147483647) {
@@ -64,7 +64,7 @@ fn plain(s: &[u8], out: &mut [u8; 32], at: usize) -> Found
 }
 
 fn minus(s: &[u8], out: &mut [u8; 32], at: usize) -> Found
-    requires { (length out.old ≡ 32) × (at ≤ 33) × (look s.now ≡ 45) × (isDecimal (look (drop 1 s.now)) ≡ true) }
+    requires { (length out.old ≡ 32) × (at ≤ 33) × (look s.now ≡ 45) × (is_decimal (look (drop 1 s.now)) ≡ true) }
     ensures { Answered alone s.now out.old out.new at result }
 {
     match digits(&s[1..], 2147483648) {

@@ -1,12 +1,12 @@
 // What becomes of a line: where it ends, what comes out for it, and what is told of it.
 ghost use Rattle.std.specs.Prelude.{◌≡◌, [], ◌∷◌, ◌++◌, ◌+◌, ◌*◌, ◌<◌, ◌≤◌, min, length, take};
 ghost use Rattle.rules.specs.Programs.{comment};
-ghost use Rattle.rules.specs.Output.{frameIn, line_of};
+ghost use Rattle.rules.specs.Output.{frame_in, line_of};
 ghost use Rattle.listing.specs.Form.{form_of};
-ghost use Rattle.listing.specs.Lines.{firstLine};
+ghost use Rattle.listing.specs.Lines.{first_line};
 ghost use Rattle.digits.specs.Digits.{laid};
-ghost use Rattle.lines.specs.Alone.{byItself, standing};
-ghost use Rattle.lines.specs.Turns.{lineEnd, Numbered, OneLine, TurnOf};
+ghost use Rattle.lines.specs.Alone.{by_itself, standing};
+ghost use Rattle.lines.specs.Turns.{line_end, Numbered, OneLine, TurnOf};
 
 use crate::judging::judge;
 use crate::texts::put_text;
@@ -23,7 +23,7 @@ pub struct Turn {
 }
 
 fn line_end(text: &[u8]) -> usize
-    ensures { (result ≡ lineEnd text.now) × (result ≤ length text.now) }
+    ensures { (result ≡ line_end text.now) × (result ≤ length text.now) }
 {
     let rest = take_line(text);
     text.len() - rest.len()
@@ -32,7 +32,7 @@ fn line_end(text: &[u8]) -> usize
 // How many characters of a line its comment holds.
 fn kept(line: &[u8]) -> usize
     requires { OneLine line.now }
-    ensures { (result ≡ length (take 119 (firstLine line.now).chars)) × (result ≤ length line.now) }
+    ensures { (result ≡ length (take 119 (first_line line.now).chars)) × (result ≤ length line.now) }
 {
     let n = line.len();
     if 119 < n {
@@ -49,8 +49,8 @@ fn kept(line: &[u8]) -> usize
 
 // How many characters come out for a line, the line feed apart.
 fn stands_length(line: &[u8], marked: bool, number: u8) -> usize
-    requires { OneLine line.now × Numbered (byItself (form_of marked) (firstLine line.now)) number }
-    ensures { (result ≡ length (standing (form_of marked) (firstLine line.now))) × (result ≤ 248) }
+    requires { OneLine line.now × Numbered (by_itself (form_of marked) (first_line line.now)) number }
+    ensures { (result ≡ length (standing (form_of marked) (first_line line.now))) × (result ≤ 248) }
 {
     if number == 0 {
         return line.len() - 1;
@@ -76,10 +76,10 @@ pub fn take_turn(text: &[u8], marked: bool) -> Turn
 // The comment that replaces a line, from `at` on.
 fn put_comment(line: &[u8], marked: bool, out: &mut [u8], at: usize)
     requires { OneLine line.now
-        × (let s = take 119 (firstLine line.now).chars in
-        at + length (line_of (frameIn (form_of marked) 0 (comment s))) ≤ length out.old) }
-    ensures { let s = take 119 (firstLine line.now).chars in
-        out.new ≡ laid out.old at (line_of (frameIn (form_of marked) 0 (comment s))) }
+        × (let s = take 119 (first_line line.now).chars in
+        at + length (line_of (frame_in (form_of marked) 0 (comment s))) ≤ length out.old) }
+    ensures { let s = take 119 (first_line line.now).chars in
+        out.new ≡ laid out.old at (line_of (frame_in (form_of marked) 0 (comment s))) }
 {
     let mut frame = [0u8; 124];
     let k = kept(line);
@@ -92,10 +92,10 @@ fn put_comment(line: &[u8], marked: bool, out: &mut [u8], at: usize)
 
 // What comes out for a line, from `at` on.
 pub fn put_standing(line: &[u8], marked: bool, number: u8, out: &mut [u8], at: usize)
-    requires { OneLine line.now × Numbered (byItself (form_of marked) (firstLine line.now)) number
-        × (at + length (standing (form_of marked) (firstLine line.now)) < length out.old) }
+    requires { OneLine line.now × Numbered (by_itself (form_of marked) (first_line line.now)) number
+        × (at + length (standing (form_of marked) (first_line line.now)) < length out.old) }
     ensures { out.new
-        ≡ laid out.old at (standing (form_of marked) (firstLine line.now) ++ (10 ∷ [])) }
+        ≡ laid out.old at (standing (form_of marked) (first_line line.now) ++ (10 ∷ [])) }
 {
     if number == 0 {
         put_text(out, at, line);

@@ -3,7 +3,7 @@ ghost use Rattle.std.specs.Prelude.{◌≡◌, ◌∷◌, ◌+◌, ◌<◌, ◌�
 ghost use Rattle.rules.specs.Expressions.{pair};
 ghost use Rattle.rules.specs.Output.{line_of};
 ghost use Rattle.digits.specs.Digits.{laid};
-ghost use Rattle.lines.specs.Alone.{leftFrom};
+ghost use Rattle.lines.specs.Alone.{left_from};
 
 use digits::put_line;
 use rules::Place;
@@ -39,7 +39,7 @@ pub fn put_replaced(out: &mut [u8], at: usize, number: u8, place: Place)
 // 7C, the place in two bytes: seven characters.
 pub fn put_left(out: &mut [u8], at: usize, place: Place)
     requires { (at + 7 ≤ length out.old) × (place.0 < 65536) }
-    ensures { out.new ≡ laid out.old at (leftFrom place.0) }
+    ensures { out.new ≡ laid out.old at (left_from place.0) }
 {
     let i = place.0;
     let bytes = [0x7C, low_byte(i / 256), low_byte(i)];

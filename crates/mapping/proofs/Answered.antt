@@ -17,26 +17,26 @@ use Rattle.rules.specs.Rewriting.{optimized}
 use Rattle.rules.specs.Run.{run}
 use Rattle.laws.proofs.Tests.{clash}
 use Rattle.starting.specs.Begun.{accepted}
-use Rattle.starting.proofs.Accepts.{accepted-run}
+use Rattle.starting.proofs.Accepts.{accepted_run}
 use Rattle.digits.specs.Digits.{laid}
-use Rattle.digits.proofs.Rooms.{laid-front}
+use Rattle.digits.proofs.Rooms.{laid_front}
 use Rattle.mapping.specs.declared.Mapped.{Mapped}
 use Rattle.mapping.specs.declared.Mapped.TheVariants.{Done, Refused}
 use Rattle.mapping.specs.Rows.{Row, rows_to, rows}
 use Rattle.mapping.specs.Entry.{row_lines, fitted, mapped, Leaves, Fits}
-use Rattle.mapping.proofs.Listed.{length-lines}
+use Rattle.mapping.proofs.Listed.{length_lines}
 
 -- ---- of so many rows
 module _ (p e : Program) (count k : ℕ) (room : List ℕ) (lp : length p ≡ count) (c : k ≡ length (rows_to p e count)) where
   size : length (row_lines (rows_to p e (length p))) ≡ 37 * k
-  size = omega (arith, length-lines (rows_to p e (length p)), ap (λ (n : ℕ). length (rows_to p e n)) lp)
+  size = omega (arith, length_lines (rows_to p e (length p)), ap (λ (n : ℕ). length (rows_to p e n)) lp)
 
   pub lines_fit : 37 * k ≤ length room → length (row_lines (rows_to p e count)) ≤ length room
-  lines_fit h = omega (arith, length-lines (rows_to p e count))
+  lines_fit h = omega (arith, length_lines (rows_to p e count))
 
-  pub fits-short : length room < 37 * k → Fits p e (Refused (Room count)) room room
+  pub fits_short : length room < 37 * k → Fits p e (Refused (Room count)) room room
   unfolding fitted require
-  fits-short h =
+  fits_short h =
       rw (lt-leb (length (row_lines (rows_to p e (length p)))) (length room) (omega (arith, size)))
       (record { answer = ap (λ (n : ℕ). Refused (Room n)) (sym lp); room = refl })
 
@@ -45,43 +45,43 @@ module _ (p e : Program) (count k : ℕ) (room : List ℕ) (lp : length p ≡ co
   fits_whole out h o =
       let z : rows_to p e count ≡ rows_to p e (length p) = ap (rows_to p e) (sym lp) in
       rw (le-leb (length (row_lines (rows_to p e (length p)))) (length room) (omega (arith, size)))
-      (record { answer = rw (size, c, z); room = o ∙ laid-front room (row_lines (rows_to p e count)) ∙ rw z })
+      (record { answer = rw (size, c, z); room = o ∙ laid_front room (row_lines (rows_to p e count)) ∙ rw z })
 
 -- the same programs under other names
-pub fits-as : (p q e f : Program) (r : Mapped) (a b : List ℕ) → p ≡ q → e ≡ f → Fits p e r a b → Fits q f r a b
-fits-as p q e f r a b x y h = subst (λ (z : Program). Fits q z r a b) y (subst (λ (z : Program). Fits z e r a b) x h)
+pub fits_as : (p q e f : Program) (r : Mapped) (a b : List ℕ) → p ≡ q → e ≡ f → Fits p e r a b → Fits q f r a b
+fits_as p q e f r a b x y h = subst (λ (z : Program). Fits q z r a b) y (subst (λ (z : Program). Fits z e r a b) x h)
 
 pub fits_read : (asked : Settings) (p q : Program) {r : Mapped} {a b : List ℕ} → p ≡ q → Fits p (optimized asked p).program r a b → Fits q (optimized asked q).program r a b
 fits_read asked p q {r} {a} {b} e h = subst (λ (z : Program). Fits z (optimized asked z).program r a b) e h
 
 -- ---- of a listing
 module _ (asked : Settings) (text room : List ℕ) where
-  pub mapped-refused : (q : Refusal) → accepted text ≡ no q → Leaves (mapped asked text (length room)) (Refused q) room room
+  pub mapped_refused : (q : Refusal) → accepted text ≡ no q → Leaves (mapped asked text (length room)) (Refused q) room room
   unfolding mapped ◌>>=◌
-  mapped-refused q e = rw e (record { answer = refl; room = refl })
+  mapped_refused q e = rw e (record { answer = refl; room = refl })
 
-  pub mapped-fits : (p : Program) (r : Mapped) (out : List ℕ) → accepted text ≡ ok p → Fits p (optimized asked p).program r room out
+  pub mapped_fits : (p : Program) (r : Mapped) (out : List ℕ) → accepted text ≡ ok p → Fits p (optimized asked p).program r room out
       → Leaves (mapped asked text (length room)) r room out
   unfolding mapped ◌>>=◌ rows
-  mapped-fits p r out e h = rw e h
+  mapped_fits p r out e h = rw e h
 
 -- mapped-refusal: a refusal is the run's, whatever rooms that is lent, or 12 with the statement count
 module _ (asked : Settings) (text : List ℕ) (room : ℕ) (r : Refusal) (h : mapped asked text room ≡ no r) where
   abbrev AsRun : Type 0
   AsRun = ((a b : ℕ) → run asked text a b ≡ no r) ⊎ ((p : Program) × (accepted text ≡ ok p) × (r ≡ Room (length p)))
 
-  short-of : (p : Program) (b : Bool) (rs : List Row) → require b (Room (length p)) (ok rs) ≡ no r → r ≡ Room (length p)
+  short_of : (p : Program) (b : Bool) (rs : List Row) → require b (Room (length p)) (ok rs) ≡ no r → r ≡ Room (length p)
   unfolding require
-  short-of p true rs e = clash (cc)
-  short-of p false rs e = cc
+  short_of p true rs e = clash (cc)
+  short_of p false rs e = cc
 
-  pub mapped-refusal : AsRun
+  pub mapped_refusal : AsRun
   unfolding mapped ◌>>=◌ fitted
-  mapped-refusal = on (accepted text) refl
+  mapped_refusal = on (accepted text) refl
     where
       on : (x : Judged Program) → accepted text ≡ x → AsRun
-      on (ok p) e = inr (p, e, short-of p (leb (length (row_lines (rows asked p))) room) (rows asked p) (rw e at h))
-      on (no q) e = let z : ◌≡◌ {A = Judged (List Row)} (no q) (no r) = rw e at h in let y : q ≡ r = cc in inl (λ a b. accepted-run text asked r a b (e ∙ ap no y))
+      on (ok p) e = inr (p, e, short_of p (leb (length (row_lines (rows asked p))) room) (rows asked p) (rw e at h))
+      on (no q) e = let z : ◌≡◌ {A = Judged (List Row)} (no q) (no r) = rw e at h in let y : q ≡ r = cc in inl (λ a b. accepted_run text asked r a b (e ∙ ap no y))
 
 -- coincide: two results that the contract allows are the same
 pub coincide : (asked : Settings) (text room : List ℕ) (r q : Mapped) (a b : List ℕ) → Leaves (mapped asked text (length room)) r room a → Leaves (mapped asked text (length room)) q room b

@@ -7,8 +7,8 @@ use lib.Dec.{T}
 use Rattle.laws.specs.Lists.{same}
 use Rattle.laws.specs.Counts.{tab}
 use Rattle.rules.specs.Answers.{Judged, ok, no}
-use Rattle.rules.specs.Refusals.{faultOf}
-use Rattle.rules.specs.Settings.{byDefault}
+use Rattle.rules.specs.Refusals.{fault_of}
+use Rattle.rules.specs.Settings.{by_default}
 use Rattle.rules.proofs.Computed.{lines, all, freely}
 use Rattle.starting.specs.Begun.{accepted}
 use Rattle.mapping.specs.Rows.{Row, rows_to, rows, row_line}
@@ -16,11 +16,11 @@ use Rattle.mapping.specs.Entry.{row_lines, fitted, mapped}
 
 unfoldable answer : (room : ℕ) (text : List ℕ) → Judged (List Row)
 unfolding freely accepted tab rows_to rows row_line row_lines fitted mapped
-answer room text = mapped byDefault text room
+answer room text = mapped by_default text room
 
 abbrev shows : Judged (List Row) → List ℕ → Bool
 shows (ok rs) ls = same (row_lines rs) ls
-shows (no r) ls = same ((faultOf r).number ∷ (faultOf r).place ∷ []) ls
+shows (no r) ls = same ((fault_of r).number ∷ (fault_of r).place ∷ []) ls
 
 unfoldable maps : String → String → Bool
 unfolding answer same
@@ -58,6 +58,6 @@ table =
     refuses 0 "012C0000000082" 10 0 ∷
     []
 
-rows-hold : T (computed table)
+rows_hold : T (computed table)
 unfolding computed table
-rows-hold = tt
+rows_hold = tt

@@ -25,18 +25,18 @@ mapped asked text room = do
   p ← accepted text
   fitted (length p) room (rows asked p)
 
-abbrev pub answerAs : Judged (List Row) → Mapped
-answerAs (ok rs) = Done (record { bytes = length (row_lines rs); rows = length rs })
-answerAs (no r) = Refused r
+abbrev pub answer_as : Judged (List Row) → Mapped
+answer_as (ok rs) = Done (record { bytes = length (row_lines rs); rows = length rs })
+answer_as (no r) = Refused r
 
 -- "No lent byte changes" on refusal; "On acceptance, room beyond the result is unchanged."
-abbrev pub roomAs : Judged (List Row) → (room : List ℕ) → List ℕ
-roomAs (ok rs) room = front (row_lines rs) room
-roomAs (no r) room = room
+abbrev pub room_as : Judged (List Row) → (room : List ℕ) → List ℕ
+room_as (ok rs) room = front (row_lines rs) room
+room_as (no r) room = room
 
 pub record Leaves (x : Judged (List Row)) (r : Mapped) (before after : List ℕ) : Type 0 where
-  pub answer : r ≡ answerAs x
-  pub room : after ≡ roomAs x before
+  pub answer : r ≡ answer_as x
+  pub room : after ≡ room_as x before
 
 -- ---- words of the code's contracts
 

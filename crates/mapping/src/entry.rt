@@ -5,7 +5,7 @@ ghost use Rattle.rules.specs.Judging.{assembles};
 ghost use Rattle.rules.specs.Rewriting.{optimized};
 ghost use Rattle.listing.specs.Tables.{input_of};
 ghost use Rattle.slots.specs.Slots.{Slots, program_of};
-ghost use Rattle.slots.specs.State.{startsIn, table_of};
+ghost use Rattle.slots.specs.State.{starts_in, table_of};
 ghost use Rattle.slots.specs.Links.{Beside};
 ghost use Rattle.attempts.specs.Standing.{Standing};
 ghost use Rattle.starting.specs.Begun.{Holds};
@@ -29,10 +29,10 @@ fn tell_rows(
     out: &mut [u8],
 ) -> Mapped
     requires { let t : Slots = table_of frames.now state.now count in
-        Standing t × (assembles (program_of t) ≡ true) × Beside frames.now (startsIn state.now) count links.now
-        × Addressed (input_of frames.now (startsIn state.now) count) count before.now }
+        Standing t × (assembles (program_of t) ≡ true) × Beside frames.now (starts_in state.now) count links.now
+        × Addressed (input_of frames.now (starts_in state.now) count) count before.now }
     ensures { let t : Slots = table_of frames.now state.now count in
-        let p : Program = input_of frames.now (startsIn state.now) count in
+        let p : Program = input_of frames.now (starts_in state.now) count in
         Fits p (program_of t) result out.old out.new }
 {
     let n = count_rows(frames, state, count);
@@ -57,9 +57,9 @@ fn rewrite_and_tell(
     links: &[u16; 28672],
     out: &mut [u8],
 ) -> Mapped
-    requires { let p : Program = input_of frames.now (startsIn state.old) count in
+    requires { let p : Program = input_of frames.now (starts_in state.old) count in
         Holds p (table_of frames.now state.old count) links.now }
-    ensures { let p : Program = input_of frames.now (startsIn state.old) count in
+    ensures { let p : Program = input_of frames.now (starts_in state.old) count in
         Fits p (optimized asked p).program result out.old out.new }
 {
     let mut before = [0u32; 1025];

@@ -1,12 +1,12 @@
 // A row: whether the statement is kept, whether it is data, and where its bytes begin and end in the long image and in the short one.
 ghost use Rattle.std.specs.Prelude.{◌≡◌, ◌∷◌, ◌++◌, [], not, ◌%◌, ◌<◌};
-ghost use Rattle.laws.specs.Lists.{isOneOf};
+ghost use Rattle.laws.specs.Lists.{is_one_of};
 ghost use Rattle.rules.specs.Expressions.{four};
 ghost use Rattle.rules.specs.Programs.{Program, kind_of};
 ghost use Rattle.listing.specs.Tables.{Held, input_at, input_of};
 ghost use Rattle.slots.specs.Slots.{Slots, program_of};
-ghost use Rattle.slots.specs.State.{startsIn, table_of};
-ghost use Rattle.mapping.specs.Rows.{rowAt, headByte, dataByte, rowBytes};
+ghost use Rattle.slots.specs.State.{starts_in, table_of};
+ghost use Rattle.mapping.specs.Rows.{row_at, head_byte, data_byte, row_bytes};
 ghost use Rattle.mapping.specs.Entry.{Addressed};
 
 use rules::Place;
@@ -20,8 +20,8 @@ fn low_byte(x: u32) -> u8
 
 // The kind of the statement at a place, as it was read: its frame's first byte.
 fn kind_read(frames: &[u8], state: &State, count: usize, i: Place) -> u8
-    requires { Held frames.now (startsIn state.now) count × (i.0 < count) }
-    ensures { result ≡ kind_of (input_at frames.now (startsIn state.now) i.0) }
+    requires { Held frames.now (starts_in state.now) count × (i.0 < count) }
+    ensures { result ≡ kind_of (input_at frames.now (starts_in state.now) i.0) }
 {
     let frame = frame_at(frames, state, count, i);
     frame[0]
@@ -29,7 +29,7 @@ fn kind_read(frames: &[u8], state: &State, count: usize, i: Place) -> u8
 
 // An instruction or data: what has a row.
 fn is_row_kind(kind: u8) -> bool
-    ensures { result ≡ isOneOf (1 ∷ 6 ∷ 7 ∷ []) kind }
+    ensures { result ≡ is_one_of (1 ∷ 6 ∷ 7 ∷ []) kind }
 {
     match kind {
         1 => true,
@@ -40,22 +40,22 @@ fn is_row_kind(kind: u8) -> bool
 }
 
 pub fn has_row(frames: &[u8], state: &State, count: usize, i: Place) -> bool
-    requires { Held frames.now (startsIn state.now) count × (i.0 < count) }
-    ensures { result ≡ isOneOf (1 ∷ 6 ∷ 7 ∷ []) (kind_of (input_at frames.now (startsIn state.now) i.0)) }
+    requires { Held frames.now (starts_in state.now) count × (i.0 < count) }
+    ensures { result ≡ is_one_of (1 ∷ 6 ∷ 7 ∷ []) (kind_of (input_at frames.now (starts_in state.now) i.0)) }
 {
     is_row_kind(kind_read(frames, state, count, i))
 }
 
 // 78 for what is kept, 79 for what was dropped.
 fn head_byte(gone: bool) -> u8
-    ensures { result ≡ headByte (not gone) }
+    ensures { result ≡ head_byte (not gone) }
 {
     if gone { 0x79 } else { 0x78 }
 }
 
 // 00 for an instruction, 01 for data.
 fn data_byte(kind: u8) -> u8
-    ensures { result ≡ dataByte (isOneOf (6 ∷ 7 ∷ []) kind) }
+    ensures { result ≡ data_byte (is_one_of (6 ∷ 7 ∷ []) kind) }
 {
     match kind {
         6 => 1,
@@ -100,11 +100,11 @@ pub fn row_at(
     i: Place,
 ) -> [u8; 18]
     requires { let t : Slots = table_of frames.now state.now count in
-        Held frames.now (startsIn state.now) count × (i.0 < count) × Addressed (program_of t) count after.now
-        × Addressed (input_of frames.now (startsIn state.now) count) count before.now }
+        Held frames.now (starts_in state.now) count × (i.0 < count) × Addressed (program_of t) count after.now
+        × Addressed (input_of frames.now (starts_in state.now) count) count before.now }
     ensures { let t : Slots = table_of frames.now state.now count in
-        let p : Program = input_of frames.now (startsIn state.now) count in
-        result ≡ rowBytes (rowAt p (program_of t) i.0) }
+        let p : Program = input_of frames.now (starts_in state.now) count in
+        result ≡ row_bytes (row_at p (program_of t) i.0) }
 {
     let n = i.0;
     let head = head_byte(is_gone(state, i));

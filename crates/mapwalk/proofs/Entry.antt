@@ -9,28 +9,28 @@ use Rattle.rules.specs.declared.Settings.{Settings}
 use Rattle.rules.specs.Programs.{Program}
 use Rattle.rules.specs.Run.{rewritten}
 use Rattle.promises.specs.Demand2.{Answered, Input}
-use Rattle.promises.proofs.Entry.{on-acceptance}
+use Rattle.promises.proofs.Entry.{on_acceptance}
 use Rattle.mapwalk.specs.Stands.{SameImages}
-use Rattle.mapwalk.specs.Maps.{standsOf, inSlots}
+use Rattle.mapwalk.specs.Maps.{stands_of, in_slots}
 use Rattle.mapwalk.specs.Entry.{ImagesAlike}
-use Rattle.mapwalk.proofs.SameImages.{same-images}
+use Rattle.mapwalk.proofs.SameImages.{same_images}
 use Rattle.mapwalk.proofs.MapRows.{rows_are}
 
 -- images-alike: `Done sizes` says that the front of the image room walks as the image of the input, by the map that `mapping` hands out
-pub images-alike : (asked : Settings) (text listing image : List ℕ) (sizes : Sizes) (listing' image' : List ℕ) → Answered asked text listing image (Done sizes) listing' image'
+pub images_alike : (asked : Settings) (text listing image : List ℕ) (sizes : Sizes) (listing' image' : List ℕ) → Answered asked text listing image (Done sizes) listing' image'
     → ImagesAlike asked text (take sizes.image image')
-images-alike asked text listing image sizes listing' image' x =
-    let a = (on-acceptance asked text listing image sizes listing' image' x).promised in
+images_alike asked text listing image sizes listing' image' x =
+    let a = (on_acceptance asked text listing image sizes listing' image' x).promised in
     let p : Program = a.program in
-    let in_p : Input p = record { text = text; reads = a.keeps-rules; image = a.image; assembles = a.assembles } in
-    let b : (rewritten asked p).image ≡ take sizes.image image' = sym a.as-defined.image in
+    let in_p : Input p = record { text = text; reads = a.keeps_rules; image = a.image; assembles = a.assembles } in
+    let b : (rewritten asked p).image ≡ take sizes.image image' = sym a.as_defined.image in
     record {
       program = p;
-      reads = a.keeps-rules;
+      reads = a.keeps_rules;
       image = a.image;
       assembles = a.assembles;
-      longs = standsOf p p;
-      shorts = standsOf p (inSlots asked p);
+      longs = stands_of p p;
+      shorts = stands_of p (in_slots asked p);
       map_is = rows_are asked p in_p;
-      walks = subst (λ (s : List ℕ). SameImages (standsOf p p) (standsOf p (inSlots asked p)) a.image s) b (same-images asked p in_p);
+      walks = subst (λ (s : List ℕ). SameImages (stands_of p p) (stands_of p (in_slots asked p)) a.image s) b (same_images asked p in_p);
     }

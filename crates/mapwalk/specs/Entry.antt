@@ -3,7 +3,7 @@ use Rattle.std.specs.Prelude.{◌≡◌, List, ℕ}
 use Rattle.rules.specs.declared.Settings.{Settings}
 use Rattle.rules.specs.Answers.{ok}
 use Rattle.rules.specs.Programs.{Program}
-use Rattle.rules.specs.Listing.{readListing}
+use Rattle.rules.specs.Listing.{read_listing}
 use Rattle.rules.specs.Judging.{judge}
 use Rattle.mapping.specs.Rows.{rows}
 use Rattle.mapwalk.specs.Stands.{Stand, SameImages}
@@ -12,7 +12,7 @@ use Rattle.mapwalk.specs.Rows.{RowsAre}
 -- `bytes` is the image that was handed out for an accepted text, and `image` that of the text itself
 pub record ImagesAlike (asked : Settings) (text bytes : List ℕ) : Type 0 where
   pub program : Program
-  pub reads : readListing text ≡ ok program
+  pub reads : read_listing text ≡ ok program
   pub image : List ℕ
   pub assembles : judge program ≡ ok image
   pub longs : List Stand

@@ -8,35 +8,35 @@ use native.Mathlib.Omega.{arith}
 use lib.Dec.{T, eqb, ltb, leb}
 use lib.ListN.{length, get_or}
 use borrow.Author.Tests.{eqb-true, ltb-true, lt-ltb, le-ltb, eq-eqb, ne_eqb, leb-true}
-use Rattle.laws.specs.Counts.{allTo}
+use Rattle.laws.specs.Counts.{all_to}
 use Rattle.laws.specs.Lists.{same}
 use Rattle.laws.proofs.Lists.{same_true}
-use Rattle.laws.proofs.Tests.{and-true, true-false, false-true, clash}
+use Rattle.laws.proofs.Tests.{and_true, true_false, false_true, clash}
 use Rattle.instruction.proofs.Entries.{holds_at, agree_at}
 use Rattle.rules.specs.declared.Kind.{Kind}
 use Rattle.rules.specs.declared.Kind.TheVariants.{Reg, I8, D9, Bit, Rel8, A12, A16, Rel16}
-use Rattle.rules.specs.Forms.{formAt, operandsAt}
+use Rattle.rules.specs.Forms.{form_at, operands_at}
 use Rattle.rules.specs.Programs.{Operand, instr}
 use Rattle.text.specs.Text.{mnemonic}
 use Rattle.plans.specs.Plans.{Plan, done, fork}
 use Rattle.plans.specs.Words.{some?}
-use Rattle.plans.specs.Families.{Mark, hash, at, plain, mark_of, Way, way, narrow, behind, goOn, family, familyOf}
-use Rattle.marks.specs.Narrowing.{markBy, agree, lowest, chosen}
+use Rattle.plans.specs.Families.{Mark, hash, at, plain, mark_of, Way, way, narrow, behind, go_on, family, family_of}
+use Rattle.marks.specs.Narrowing.{mark_by, agree, lowest, chosen}
 
 -- ---- ways compared
 
-abbrev numberOfKind : Kind → ℕ
-numberOfKind Reg = 0
-numberOfKind I8 = 1
-numberOfKind D9 = 2
-numberOfKind Bit = 3
-numberOfKind Rel8 = 4
-numberOfKind A12 = 5
-numberOfKind A16 = 6
-numberOfKind Rel16 = 7
+abbrev number_of_kind : Kind → ℕ
+number_of_kind Reg = 0
+number_of_kind I8 = 1
+number_of_kind D9 = 2
+number_of_kind Bit = 3
+number_of_kind Rel8 = 4
+number_of_kind A12 = 5
+number_of_kind A16 = 6
+number_of_kind Rel16 = 7
 
-abbrev kindOfNumber : ℕ → Kind
-kindOfNumber n =
+abbrev kind_of_number : ℕ → Kind
+kind_of_number n =
     cond (eqb n 0) Reg
     (cond (eqb n 1) I8
     (cond (eqb n 2) D9
@@ -46,45 +46,45 @@ kindOfNumber n =
     (cond (eqb n 6) A16
     Rel16))))))
 
-kind-back : (k : Kind) → kindOfNumber (numberOfKind k) ≡ k
-kind-back Reg = refl
-kind-back I8 = refl
-kind-back D9 = refl
-kind-back Bit = refl
-kind-back Rel8 = refl
-kind-back A12 = refl
-kind-back A16 = refl
-kind-back Rel16 = refl
+kind_back : (k : Kind) → kind_of_number (number_of_kind k) ≡ k
+kind_back Reg = refl
+kind_back I8 = refl
+kind_back D9 = refl
+kind_back Bit = refl
+kind_back Rel8 = refl
+kind_back A12 = refl
+kind_back A16 = refl
+kind_back Rel16 = refl
 
-abbrev sameKinds : List Kind → List Kind → Bool
-sameKinds [] [] = true
-sameKinds [] (l ∷ ls) = false
-sameKinds (k ∷ ks) [] = false
-sameKinds (k ∷ ks) (l ∷ ls) = eqb (numberOfKind k) (numberOfKind l) && sameKinds ks ls
+abbrev same_kinds : List Kind → List Kind → Bool
+same_kinds [] [] = true
+same_kinds [] (l ∷ ls) = false
+same_kinds (k ∷ ks) [] = false
+same_kinds (k ∷ ks) (l ∷ ls) = eqb (number_of_kind k) (number_of_kind l) && same_kinds ks ls
 
-kinds-true : (ks ls : List Kind) → sameKinds ks ls ≡ true → ks ≡ ls
-kinds-true [] [] e = refl
-kinds-true [] (l ∷ ls) e = false-true e
-kinds-true (k ∷ ks) [] e = false-true e
-kinds-true (k ∷ ks) (l ∷ ls) e =
-    let p = and-true (eqb (numberOfKind k) (numberOfKind l)) (sameKinds ks ls) e in
-    let q : k ≡ l = sym (kind-back k) ∙ ap kindOfNumber (eqb-true (numberOfKind k) (numberOfKind l) p.0) ∙ kind-back l in
-    ap (λ x. x ∷ ks) q ∙ ap (λ x. l ∷ x) (kinds-true ks ls p.1)
+kinds_true : (ks ls : List Kind) → same_kinds ks ls ≡ true → ks ≡ ls
+kinds_true [] [] e = refl
+kinds_true [] (l ∷ ls) e = false_true e
+kinds_true (k ∷ ks) [] e = false_true e
+kinds_true (k ∷ ks) (l ∷ ls) e =
+    let p = and_true (eqb (number_of_kind k) (number_of_kind l)) (same_kinds ks ls) e in
+    let q : k ≡ l = sym (kind_back k) ∙ ap kind_of_number (eqb-true (number_of_kind k) (number_of_kind l) p.0) ∙ kind_back l in
+    ap (λ x. x ∷ ks) q ∙ ap (λ x. l ∷ x) (kinds_true ks ls p.1)
 
-abbrev sameWays : List Way → List Way → Bool
-sameWays [] [] = true
-sameWays [] (v ∷ vs) = false
-sameWays (w ∷ ws) [] = false
-sameWays (way f ks ∷ ws) (way g ls ∷ vs) = eqb f g && (sameKinds ks ls && sameWays ws vs)
+abbrev same_ways : List Way → List Way → Bool
+same_ways [] [] = true
+same_ways [] (v ∷ vs) = false
+same_ways (w ∷ ws) [] = false
+same_ways (way f ks ∷ ws) (way g ls ∷ vs) = eqb f g && (same_kinds ks ls && same_ways ws vs)
 
-ways-true : (ws vs : List Way) → sameWays ws vs ≡ true → ws ≡ vs
-ways-true [] [] e = refl
-ways-true [] (v ∷ vs) e = false-true e
-ways-true (w ∷ ws) [] e = false-true e
-ways-true (way f ks ∷ ws) (way g ls ∷ vs) e =
-    let p = and-true (eqb f g) (sameKinds ks ls && sameWays ws vs) e in
-    let q = and-true (sameKinds ks ls) (sameWays ws vs) p.1 in
-    ap (λ x. way x ks ∷ ws) (eqb-true f g p.0) ∙ ap (λ x. way g x ∷ ws) (kinds-true ks ls q.0) ∙ ap (λ x. way g ls ∷ x) (ways-true ws vs q.1)
+ways_true : (ws vs : List Way) → same_ways ws vs ≡ true → ws ≡ vs
+ways_true [] [] e = refl
+ways_true [] (v ∷ vs) e = false_true e
+ways_true (w ∷ ws) [] e = false_true e
+ways_true (way f ks ∷ ws) (way g ls ∷ vs) e =
+    let p = and_true (eqb f g) (same_kinds ks ls && same_ways ws vs) e in
+    let q = and_true (same_kinds ks ls) (same_ways ws vs) p.1 in
+    ap (λ x. way x ks ∷ ws) (eqb-true f g p.0) ∙ ap (λ x. way g x ∷ ws) (kinds_true ks ls q.0) ∙ ap (λ x. way g ls ∷ x) (ways_true ws vs q.1)
 
 -- ---- a form's family lies within two places of it, so that the tests compute a few mnemonics and not seventy
 
@@ -95,157 +95,157 @@ down (suc n) k = (n + k) ∷ down n k
 unfoldable pub near : ℕ → List Way
 near f = family (mnemonic f) (down (min 70 (f + 3) - (f - 2)) (f - 2))
 
-near-is : (f : ℕ) → f < 70 → near f ≡ familyOf f
-unfolding near down allTo narrow family same mnemonic formAt
-near-is f h = ways-true (near f) (familyOf f) (holds_at (λ f. sameWays (near f) (familyOf f)) 70 tt f h)
+near_is : (f : ℕ) → f < 70 → near f ≡ family_of f
+unfolding near down all_to narrow family same mnemonic form_at
+near_is f h = ways_true (near f) (family_of f) (holds_at (λ f. same_ways (near f) (family_of f)) 70 tt f h)
 
-unfoldable pub near-agree : (f j : ℕ) → List Way
-near-agree f zero = near f
-near-agree f (suc j) = narrow (mark_of (get_or (operandsAt f) j Reg)) (near-agree f j)
+unfoldable pub near_agree : (f j : ℕ) → List Way
+near_agree f zero = near f
+near_agree f (suc j) = narrow (mark_of (get_or (operands_at f) j Reg)) (near_agree f j)
 
-agree-is : (f j : ℕ) → f < 70 → near-agree f j ≡ agree f j
-unfolding near-agree agree
-agree-is f zero h = near-is f h
-agree-is f (suc j) h = ap (narrow (mark_of (get_or (operandsAt f) j Reg))) (agree-is f j h)
+agree_is : (f j : ℕ) → f < 70 → near_agree f j ≡ agree f j
+unfolding near_agree agree
+agree_is f zero h = near_is f h
+agree_is f (suc j) h = ap (narrow (mark_of (get_or (operands_at f) j Reg))) (agree_is f j h)
 
-unfoldable pub near-chosen : (f j m : ℕ) → ℕ
-near-chosen f j m = lowest (narrow (markBy m) (near-agree f j))
+unfoldable pub near_chosen : (f j m : ℕ) → ℕ
+near_chosen f j m = lowest (narrow (mark_by m) (near_agree f j))
 
-chosen_is : (f j m : ℕ) → f < 70 → near-chosen f j m ≡ chosen f j m
-unfolding near-chosen chosen
-chosen_is f j m h = ap (λ ws. lowest (narrow (markBy m) ws)) (agree-is f j h)
+chosen_is : (f j m : ℕ) → f < 70 → near_chosen f j m ≡ chosen f j m
+unfolding near_chosen chosen
+chosen_is f j m h = ap (λ ws. lowest (narrow (mark_by m) ws)) (agree_is f j h)
 
 -- ---- the tests, over each form, argument and mark
 
-abbrev stepTest : (f j m : ℕ) → Bool
-stepTest f j m =
-    cond (ltb (near-chosen f j m) 70)
-    (sameWays (narrow (markBy m) (near-agree f j)) (near-agree (near-chosen f j m) (suc j)) && ltb j (length (operandsAt (near-chosen f j m))))
-    (not (some? (narrow (markBy m) (near-agree f j))))
+abbrev step_test : (f j m : ℕ) → Bool
+step_test f j m =
+    cond (ltb (near_chosen f j m) 70)
+    (same_ways (narrow (mark_by m) (near_agree f j)) (near_agree (near_chosen f j m) (suc j)) && ltb j (length (operands_at (near_chosen f j m))))
+    (not (some? (narrow (mark_by m) (near_agree f j))))
 
-abbrev shapeTest : (f j : ℕ) → Bool
-shapeTest f j =
-    cond (ltb j (length (operandsAt f)))
-    (cond (eqb (length (operandsAt f)) (suc j)) (sameWays (near-agree f (suc j)) (way f [] ∷ [])) (goOn (near-agree f (suc j)) && some? (near-agree f (suc j))))
+abbrev shape_test : (f j : ℕ) → Bool
+shape_test f j =
+    cond (ltb j (length (operands_at f)))
+    (cond (eqb (length (operands_at f)) (suc j)) (same_ways (near_agree f (suc j)) (way f [] ∷ [])) (go_on (near_agree f (suc j)) && some? (near_agree f (suc j))))
     true
 
-steps : (k : ℕ) → k < 630 → stepTest (k / 9) (k % 9 / 3) (k % 3) ≡ true
-unfolding allTo near-chosen near-agree near down narrow family same mnemonic formAt
-steps k h = holds_at (λ k. stepTest (k / 9) (k % 9 / 3) (k % 3)) 630 tt k h
+steps : (k : ℕ) → k < 630 → step_test (k / 9) (k % 9 / 3) (k % 3) ≡ true
+unfolding all_to near_chosen near_agree near down narrow family same mnemonic form_at
+steps k h = holds_at (λ k. step_test (k / 9) (k % 9 / 3) (k % 3)) 630 tt k h
 
-shapes : (k : ℕ) → k < 210 → shapeTest (k / 3) (k % 3) ≡ true
-unfolding allTo near-agree near down narrow family same mnemonic formAt
-shapes k h = holds_at (λ k. shapeTest (k / 3) (k % 3)) 210 tt k h
+shapes : (k : ℕ) → k < 210 → shape_test (k / 3) (k % 3) ≡ true
+unfolding all_to near_agree near down narrow family same mnemonic form_at
+shapes k h = holds_at (λ k. shape_test (k / 3) (k % 3)) 210 tt k h
 
-pub at-most-three : (f : ℕ) → f < 70 → length (operandsAt f) ≤ 3
-unfolding allTo formAt
-at-most-three f h = leb-true (length (operandsAt f)) 3 (holds_at (λ f. leb (length (operandsAt f)) 3) 70 tt f h)
+pub at_most_three : (f : ℕ) → f < 70 → length (operands_at f) ≤ 3
+unfolding all_to form_at
+at_most_three f h = leb-true (length (operands_at f)) 3 (holds_at (λ f. leb (length (operands_at f)) 3) 70 tt f h)
 
-step-test : (f j m : ℕ) → f < 70 → j < 3 → m < 3 → stepTest f j m ≡ true
-step-test f j m a b c =
+step_test_lem : (f j m : ℕ) → f < 70 → j < 3 → m < 3 → step_test f j m ≡ true
+step_test_lem f j m a b c =
     let k : ℕ = 9 * f + (3 * j + m) in
     let x : k / 9 ≡ f = omega arith in
     let y : k % 9 / 3 ≡ j = omega arith in
     let z : k % 3 ≡ m = omega arith in
-    subst (λ u. stepTest u j m ≡ true) x (subst (λ u. stepTest (k / 9) u m ≡ true) y (subst (λ u. stepTest (k / 9) (k % 9 / 3) u ≡ true) z (steps k (omega arith))))
+    subst (λ u. step_test u j m ≡ true) x (subst (λ u. step_test (k / 9) u m ≡ true) y (subst (λ u. step_test (k / 9) (k % 9 / 3) u ≡ true) z (steps k (omega arith))))
 
-shape-test : (f j : ℕ) → f < 70 → j < 3 → shapeTest f j ≡ true
-shape-test f j a b =
+shape_test_lem : (f j : ℕ) → f < 70 → j < 3 → shape_test f j ≡ true
+shape_test_lem f j a b =
     let k : ℕ = 3 * f + j in
     let x : k / 3 ≡ f = omega arith in
     let z : k % 3 ≡ j = omega arith in
-    subst (λ u. shapeTest u j ≡ true) x (subst (λ u. shapeTest (k / 3) u ≡ true) z (shapes k (omega arith)))
+    subst (λ u. shape_test u j ≡ true) x (subst (λ u. shape_test (k / 3) u ≡ true) z (shapes k (omega arith)))
 
 -- the ways that the test speaks of are those of the specification
-step-ways : (f j m : ℕ) → f < 70 → near-chosen f j m < 70 → narrow (markBy m) (near-agree f j) ≡ near-agree (near-chosen f j m) (suc j)
-    → narrow (markBy m) (agree f j) ≡ agree (chosen f j m) (suc j)
-step-ways f j m a h e =
-    ap (narrow (markBy m)) (sym (agree-is f j a)) ∙ e ∙ agree-is (near-chosen f j m) (suc j) h ∙ ap (λ g. agree g (suc j)) (chosen_is f j m a)
+step_ways : (f j m : ℕ) → f < 70 → near_chosen f j m < 70 → narrow (mark_by m) (near_agree f j) ≡ near_agree (near_chosen f j m) (suc j)
+    → narrow (mark_by m) (agree f j) ≡ agree (chosen f j m) (suc j)
+step_ways f j m a h e =
+    ap (narrow (mark_by m)) (sym (agree_is f j a)) ∙ e ∙ agree_is (near_chosen f j m) (suc j) h ∙ ap (λ g. agree g (suc j)) (chosen_is f j m a)
 
 -- ---- what they say
 
-pub step-law : (f j m : ℕ) → f < 70 → j < 3 → m < 3 → chosen f j m < 70
-    → (narrow (markBy m) (agree f j) ≡ agree (chosen f j m) (suc j)) × (j < length (operandsAt (chosen f j m)))
-step-law f j m a b c h = on (ltb (near-chosen f j m) 70) (lt-ltb (near-chosen f j m) 70 (omega (arith, chosen_is f j m a))) (step-test f j m a b c)
+pub step_law : (f j m : ℕ) → f < 70 → j < 3 → m < 3 → chosen f j m < 70
+    → (narrow (mark_by m) (agree f j) ≡ agree (chosen f j m) (suc j)) × (j < length (operands_at (chosen f j m)))
+step_law f j m a b c h = on (ltb (near_chosen f j m) 70) (lt-ltb (near_chosen f j m) 70 (omega (arith, chosen_is f j m a))) (step_test_lem f j m a b c)
   where
     on : (y : Bool) → y ≡ true
-        → cond y (sameWays (narrow (markBy m) (near-agree f j)) (near-agree (near-chosen f j m) (suc j)) && ltb j (length (operandsAt (near-chosen f j m)))) (not (some? (narrow (markBy m) (near-agree f j)))) ≡ true
-        → (narrow (markBy m) (agree f j) ≡ agree (chosen f j m) (suc j)) × (j < length (operandsAt (chosen f j m)))
+        → cond y (same_ways (narrow (mark_by m) (near_agree f j)) (near_agree (near_chosen f j m) (suc j)) && ltb j (length (operands_at (near_chosen f j m)))) (not (some? (narrow (mark_by m) (near_agree f j)))) ≡ true
+        → (narrow (mark_by m) (agree f j) ≡ agree (chosen f j m) (suc j)) × (j < length (operands_at (chosen f j m)))
     on true q e =
-        let p = and-true (sameWays (narrow (markBy m) (near-agree f j)) (near-agree (near-chosen f j m) (suc j))) (ltb j (length (operandsAt (near-chosen f j m)))) e in (
-          step-ways f j m a (omega (arith, chosen_is f j m a)) (ways-true (narrow (markBy m) (near-agree f j)) (near-agree (near-chosen f j m) (suc j)) p.0),
-          subst (λ g. j < length (operandsAt g)) (chosen_is f j m a) (ltb-true j (length (operandsAt (near-chosen f j m))) p.1),
+        let p = and_true (same_ways (narrow (mark_by m) (near_agree f j)) (near_agree (near_chosen f j m) (suc j))) (ltb j (length (operands_at (near_chosen f j m)))) e in (
+          step_ways f j m a (omega (arith, chosen_is f j m a)) (ways_true (narrow (mark_by m) (near_agree f j)) (near_agree (near_chosen f j m) (suc j)) p.0),
+          subst (λ g. j < length (operands_at g)) (chosen_is f j m a) (ltb-true j (length (operands_at (near_chosen f j m))) p.1),
         )
-    on false q e = false-true q
+    on false q e = false_true q
 
-pub none-law : (f j m : ℕ) → f < 70 → j < 3 → m < 3 → 69 < chosen f j m → some? (narrow (markBy m) (agree f j)) ≡ false
-none-law f j m a b c h =
-    subst (λ ws. some? (narrow (markBy m) ws) ≡ false) (agree-is f j a)
-    (on (ltb (near-chosen f j m) 70) (le-ltb (near-chosen f j m) 70 (omega (arith, chosen_is f j m a))) (step-test f j m a b c))
+pub none_law : (f j m : ℕ) → f < 70 → j < 3 → m < 3 → 69 < chosen f j m → some? (narrow (mark_by m) (agree f j)) ≡ false
+none_law f j m a b c h =
+    subst (λ ws. some? (narrow (mark_by m) ws) ≡ false) (agree_is f j a)
+    (on (ltb (near_chosen f j m) 70) (le-ltb (near_chosen f j m) 70 (omega (arith, chosen_is f j m a))) (step_test_lem f j m a b c))
   where
     no : (y : Bool) → not y ≡ true → y ≡ false
-    no true e = false-true e
+    no true e = false_true e
     no false e = refl
 
     on : (y : Bool) → y ≡ false
-        → cond y (sameWays (narrow (markBy m) (near-agree f j)) (near-agree (near-chosen f j m) (suc j)) && ltb j (length (operandsAt (near-chosen f j m)))) (not (some? (narrow (markBy m) (near-agree f j)))) ≡ true
-        → some? (narrow (markBy m) (near-agree f j)) ≡ false
-    on true q e = true-false q
-    on false q e = no (some? (narrow (markBy m) (near-agree f j))) e
+        → cond y (same_ways (narrow (mark_by m) (near_agree f j)) (near_agree (near_chosen f j m) (suc j)) && ltb j (length (operands_at (near_chosen f j m)))) (not (some? (narrow (mark_by m) (near_agree f j)))) ≡ true
+        → some? (narrow (mark_by m) (near_agree f j)) ≡ false
+    on true q e = true_false q
+    on false q e = no (some? (narrow (mark_by m) (near_agree f j))) e
 
-some-lowest : (ws : List Way) → lowest ws < 70 → some? ws ≡ true
-some-lowest [] h = absurd (omega arith)
-some-lowest (w ∷ ws) h = refl
+some_lowest : (ws : List Way) → lowest ws < 70 → some? ws ≡ true
+some_lowest [] h = absurd (omega arith)
+some_lowest (w ∷ ws) h = refl
 
-pub some-law : (f j m : ℕ) → chosen f j m < 70 → some? (narrow (markBy m) (agree f j)) ≡ true
+pub some_law : (f j m : ℕ) → chosen f j m < 70 → some? (narrow (mark_by m) (agree f j)) ≡ true
 unfolding chosen
-some-law f j m h = some-lowest (narrow (markBy m) (agree f j)) h
+some_law f j m h = some_lowest (narrow (mark_by m) (agree f j)) h
 
-pub done-law : (next : List Way → List Operand → Plan) (f j : ℕ) (xs : List Operand) → f < 70 → j < 3 → length (operandsAt f) ≡ suc j
+pub done_law : (next : List Way → List Operand → Plan) (f j : ℕ) (xs : List Operand) → f < 70 → j < 3 → length (operands_at f) ≡ suc j
     → behind next (agree f (suc j)) xs ≡ done (instr f xs 0)
-done-law next f j xs a b e =
-    ap (λ w. behind next w xs) (sym (agree-is f (suc j) a) ∙ on (ltb j (length (operandsAt f))) (lt-ltb j (length (operandsAt f)) (omega arith)) (eqb (length (operandsAt f)) (suc j)) (eq-eqb (length (operandsAt f)) (suc j) e) (shape-test f j a b))
+done_law next f j xs a b e =
+    ap (λ w. behind next w xs) (sym (agree_is f (suc j) a) ∙ on (ltb j (length (operands_at f))) (lt-ltb j (length (operands_at f)) (omega arith)) (eqb (length (operands_at f)) (suc j)) (eq-eqb (length (operands_at f)) (suc j) e) (shape_test_lem f j a b))
   where
     on : (y : Bool) → y ≡ true → (z : Bool) → z ≡ true
-        → cond y (cond z (sameWays (near-agree f (suc j)) (way f [] ∷ [])) (goOn (near-agree f (suc j)) && some? (near-agree f (suc j)))) true ≡ true → near-agree f (suc j) ≡ way f [] ∷ []
-    on true p true q e = ways-true (near-agree f (suc j)) (way f [] ∷ []) e
-    on true p false q e = false-true q
-    on false p z q e = false-true p
+        → cond y (cond z (same_ways (near_agree f (suc j)) (way f [] ∷ [])) (go_on (near_agree f (suc j)) && some? (near_agree f (suc j)))) true ≡ true → near_agree f (suc j) ≡ way f [] ∷ []
+    on true p true q e = ways_true (near_agree f (suc j)) (way f [] ∷ []) e
+    on true p false q e = false_true q
+    on false p z q e = false_true p
 
-goes : (next : List Way → List Operand → Plan) (ws : List Way) (xs : List Operand) → goOn ws && some? ws ≡ true → behind next ws xs ≡ fork none (λ c. eqb c 44) (λ c. next ws xs)
+goes : (next : List Way → List Operand → Plan) (ws : List Way) (xs : List Operand) → go_on ws && some? ws ≡ true → behind next ws xs ≡ fork none (λ c. eqb c 44) (λ c. next ws xs)
 goes next [] xs e = refl
-goes next (way f [] ∷ ws) xs e = false-true e
+goes next (way f [] ∷ ws) xs e = false_true e
 goes next (way f (k ∷ ks) ∷ ws) xs e = refl
 
-pub more-law : (next : List Way → List Operand → Plan) (f j : ℕ) (xs : List Operand) → f < 70 → j < 3 → j < length (operandsAt f) → (length (operandsAt f) ≡ suc j → ⊥)
+pub more_law : (next : List Way → List Operand → Plan) (f j : ℕ) (xs : List Operand) → f < 70 → j < 3 → j < length (operands_at f) → (length (operands_at f) ≡ suc j → ⊥)
     → behind next (agree f (suc j)) xs ≡ fork none (λ c. eqb c 44) (λ c. next (agree f (suc j)) xs)
-more-law next f j xs a b h n =
+more_law next f j xs a b h n =
     goes next (agree f (suc j)) xs
-    (subst (λ ws. goOn ws && some? ws ≡ true) (agree-is f (suc j) a)
-    (on (ltb j (length (operandsAt f))) (lt-ltb j (length (operandsAt f)) h) (eqb (length (operandsAt f)) (suc j)) (ne_eqb (length (operandsAt f)) (suc j) n) (shape-test f j a b)))
+    (subst (λ ws. go_on ws && some? ws ≡ true) (agree_is f (suc j) a)
+    (on (ltb j (length (operands_at f))) (lt-ltb j (length (operands_at f)) h) (eqb (length (operands_at f)) (suc j)) (ne_eqb (length (operands_at f)) (suc j) n) (shape_test_lem f j a b)))
   where
     on : (y : Bool) → y ≡ true → (z : Bool) → z ≡ false
-        → cond y (cond z (sameWays (near-agree f (suc j)) (way f [] ∷ [])) (goOn (near-agree f (suc j)) && some? (near-agree f (suc j)))) true ≡ true
-        → goOn (near-agree f (suc j)) && some? (near-agree f (suc j)) ≡ true
-    on true p true q e = true-false q
+        → cond y (cond z (same_ways (near_agree f (suc j)) (way f [] ∷ [])) (go_on (near_agree f (suc j)) && some? (near_agree f (suc j)))) true ≡ true
+        → go_on (near_agree f (suc j)) && some? (near_agree f (suc j)) ≡ true
+    on true p true q e = true_false q
     on true p false q e = e
-    on false p z q e = false-true p
+    on false p z q e = false_true p
 
 -- ---- the table
 
 -- what is computed of each entry
-abbrev pub entryTest : List (List ℕ) → ℕ → Bool
-entryTest rows k = eqb (get_or (get_or rows (k / 9) []) (k % 9) 0) (near-chosen (k / 9) (k % 9 / 3) (k % 3))
+abbrev pub entry_test : List (List ℕ) → ℕ → Bool
+entry_test rows k = eqb (get_or (get_or rows (k / 9) []) (k % 9) 0) (near_chosen (k / 9) (k % 9 / 3) (k % 3))
 
-pub row-law : (rows : List (List ℕ)) → T (allTo (entryTest rows) 630)
+pub row_law : (rows : List (List ℕ)) → T (all_to (entry_test rows) 630)
     → (f j m : ℕ) → f < 70 → j < 3 → m < 3 → get_or (get_or rows f []) (3 * j + m) 0 ≡ chosen f j m
-row-law rows t f j m a b c =
+row_law rows t f j m a b c =
     let k : ℕ = 9 * f + (3 * j + m) in
     let x : k / 9 ≡ f = omega arith in
     let y : k % 9 / 3 ≡ j = omega arith in
     let z : k % 3 ≡ m = omega arith in
     let u : k % 9 ≡ 3 * j + m = omega arith in
-    let e : get_or (get_or rows (k / 9) []) (k % 9) 0 ≡ near-chosen (k / 9) (k % 9 / 3) (k % 3) =
-    agree_at (λ k. get_or (get_or rows (k / 9) []) (k % 9) 0) (λ k. near-chosen (k / 9) (k % 9 / 3) (k % 3)) 630 t k (omega arith) in
+    let e : get_or (get_or rows (k / 9) []) (k % 9) 0 ≡ near_chosen (k / 9) (k % 9 / 3) (k % 3) =
+    agree_at (λ k. get_or (get_or rows (k / 9) []) (k % 9) 0) (λ k. near_chosen (k / 9) (k % 9 / 3) (k % 3)) 630 t k (omega arith) in
     ap (λ n. get_or (get_or rows n []) (3 * j + m) 0) (sym x) ∙ ap (λ n. get_or (get_or rows (k / 9) []) n 0) (sym u) ∙ e
-    ∙ ap (λ n. near-chosen n (k % 9 / 3) (k % 3)) x ∙ ap (λ n. near-chosen f n (k % 3)) y ∙ ap (λ n. near-chosen f j n) z ∙ chosen_is f j m a
+    ∙ ap (λ n. near_chosen n (k % 9 / 3) (k % 3)) x ∙ ap (λ n. near_chosen f n (k % 3)) y ∙ ap (λ n. near_chosen f j n) z ∙ chosen_is f j m a

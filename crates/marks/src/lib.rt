@@ -1,6 +1,6 @@
 // C-19: which of its mnemonic's forms a line is of is told by what stands before each argument, `#`, `@` or nothing.
 ghost use Rattle.std.specs.Prelude.{◌≡◌, ◌<◌};
-ghost use Rattle.marks.specs.Narrowing.{markNumber, chosen};
+ghost use Rattle.marks.specs.Narrowing.{mark_number, chosen};
 
 // For each form and argument, the first form of its mnemonic that goes on with `#`, with `@` and with neither, among those that have the
 // same marks so far; 70 where there is none.
@@ -87,7 +87,7 @@ pub fn narrowed(form: u8, j: usize, mark: usize) -> u8
 
 // What an argument begins with: 0 for `#`, 1 for `@`, 2 for neither.
 pub fn mark_of(c: u8) -> usize
-    ensures { (result ≡ markNumber c) × (result < 3) }
+    ensures { (result ≡ mark_number c) × (result < 3) }
 {
     if c == 35 {
         return 0;

@@ -1,6 +1,6 @@
 // Document 01's program: a listing on standard input; on standard output the new one and a last line, or the 7E line of a refusal.
 ghost use Rattle.std.specs.Prelude.{◌≡◌};
-ghost use Rattle.rules.specs.Settings.{byDefault};
+ghost use Rattle.rules.specs.Settings.{by_default};
 
 use desk::{put_page, put_refusal};
 use io::read_full;
@@ -17,7 +17,7 @@ fn main() {
 
 // C-18: "By default, drop them": comments go, Callf is tried as Call, and folds are tried.
 fn by_default() -> Settings
-    ensures { result ≡ byDefault }
+    ensures { result ≡ by_default }
 {
     Settings {
         comments: false,

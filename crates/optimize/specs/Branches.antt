@@ -3,9 +3,9 @@ use Rattle.std.specs.Prelude.{◌≡◌, List, ℕ, ◌+◌, ◌≤◌, ◌<◌,
 use Rattle.rules.specs.Programs.{Placeℕ}
 use Rattle.rules.specs.Rewriting.{Pattern, inverted, trampoline}
 
-abbrev pub branchOf : Pattern → ℕ
-branchOf (inverted from to) = from
-branchOf (trampoline f) = f
+abbrev pub branch_of : Pattern → ℕ
+branch_of (inverted from to) = from
+branch_of (trampoline f) = f
 
 -- b is the first place of `count`, from a on, where form f stands; `count` if there is none
 pub record Next (forms : List ℕ) (count f : ℕ) (a b : Placeℕ) : Type 0 where

@@ -6,7 +6,7 @@ ghost use Rattle.slots.specs.Slots.{Slots, slots, program_of};
 ghost use Rattle.slots.specs.Links.{Beside};
 ghost use Rattle.attempts.specs.Standing.{Standing, Tried};
 ghost use Rattle.optimize.specs.Optimized.{Optimized};
-ghost use Rattle.slots.specs.State.{startsIn, formsIn, carryIn, ownersIn, offsetsIn, table_of};
+ghost use Rattle.slots.specs.State.{starts_in, forms_in, carry_in, owners_in, offsets_in, table_of};
 
 use crate::scanning::fold_asked;
 use crate::shrinking::shrink;
@@ -22,7 +22,7 @@ pub fn rewrite(
     links: &[u16; 28672],
 ) -> bool
     requires { let t : Slots = table_of frames.now state.old count in
-        Standing t × (assembles (program_of t) ≡ true) × Beside frames.now (startsIn state.old) count links.now }
+        Standing t × (assembles (program_of t) ≡ true) × Beside frames.now (starts_in state.old) count links.now }
     ensures { let t : Slots = table_of frames.now state.old count in
         let u : Slots = table_of frames.now state.new count in
         Tried (step asked (program_of t)) t u result }
@@ -42,7 +42,7 @@ pub fn optimize(
     links: &[u16; 28672],
 ) -> usize
     requires { let t : Slots = table_of frames.now state.old count in
-        Standing t × (assembles (program_of t) ≡ true) × Beside frames.now (startsIn state.old) count links.now }
+        Standing t × (assembles (program_of t) ≡ true) × Beside frames.now (starts_in state.old) count links.now }
     ensures { let t : Slots = table_of frames.now state.old count in
         let u : Slots = table_of frames.now state.new count in
         Optimized asked t u result }

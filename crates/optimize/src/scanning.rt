@@ -1,13 +1,13 @@
 // Folds: "by pattern, then by place". The first that counts is done.
 ghost use Rattle.std.specs.Prelude.{◌≡◌, ◌<◌, ◌≤◌, length, replicate};
 ghost use Rattle.laws.specs.Options.{first_of};
-ghost use Rattle.rules.specs.Rewriting.{patterns, patternsFor, patternAt, anywhere};
+ghost use Rattle.rules.specs.Rewriting.{patterns, patterns_for, pattern_at, anywhere};
 ghost use Rattle.slots.specs.Slots.{Slots, slots, program_of};
 ghost use Rattle.slots.specs.Links.{Beside};
-ghost use Rattle.patterns.specs.Order.{patternOf, Known};
-ghost use Rattle.optimize.specs.Branches.{branchOf, Chained};
+ghost use Rattle.patterns.specs.Order.{pattern_of, Known};
+ghost use Rattle.optimize.specs.Branches.{branch_of, Chained};
 ghost use Rattle.attempts.specs.Standing.{Standing, Tried};
-ghost use Rattle.slots.specs.State.{startsIn, formsIn, carryIn, ownersIn, offsetsIn, table_of};
+ghost use Rattle.slots.specs.State.{starts_in, forms_in, carry_in, owners_in, offsets_in, table_of};
 
 use attempts::{try_inverted, try_trampoline};
 use patterns::Pattern;
@@ -17,7 +17,7 @@ use slots::{State, form_in, wide};
 
 // The form of the branch that a pattern begins with.
 fn branch_of(p: Pattern) -> u8
-    ensures { result ≡ branchOf (patternOf p) }
+    ensures { result ≡ branch_of (pattern_of p) }
 {
     match p {
         Pattern::Inverted(from, _) => from,
@@ -35,10 +35,10 @@ fn try_pattern(
     at: Place,
 ) -> bool
     requires { let t : Slots = table_of frames.now state.old count in
-        Standing t × Known (patternOf p) × (at.0 < count) × Beside frames.now (startsIn state.old) count links.now }
+        Standing t × Known (pattern_of p) × (at.0 < count) × Beside frames.now (starts_in state.old) count links.now }
     ensures { let t : Slots = table_of frames.now state.old count in
         let u : Slots = table_of frames.now state.new count in
-        Tried (patternAt (program_of t) (patternOf p) at.0) t u result }
+        Tried (pattern_at (program_of t) (pattern_of p) at.0) t u result }
 {
     match p {
         Pattern::Inverted(from, to) => try_inverted(frames, state, count, links, from, to, at),
@@ -50,7 +50,7 @@ fn try_pattern(
 // the form of its branch stands, and all patterns together look at each place once.
 fn fill_chains(state: &State, count: usize, first: &mut [u16; 256], after: &mut [u16; 1024])
     requires { (count ≤ 1024) × (first.old ≡ replicate 256 count) × (length after.old ≡ 1024) }
-    ensures { Chained (formsIn state.now) count first.new after.new }
+    ensures { Chained (forms_in state.now) count first.new after.new }
 {
     let mut i = count;
     while 0 < i {
@@ -72,11 +72,11 @@ fn fold_with(
     p: Pattern,
 ) -> bool
     requires { let t : Slots = table_of frames.now state.old count in
-        Standing t × Known (patternOf p) × Beside frames.now (startsIn state.old) count links.now
-        × Chained (formsIn state.old) count first.now after.now }
+        Standing t × Known (pattern_of p) × Beside frames.now (starts_in state.old) count links.now
+        × Chained (forms_in state.old) count first.now after.now }
     ensures { let t : Slots = table_of frames.now state.old count in
         let u : Slots = table_of frames.now state.new count in
-        Tried (anywhere (patternAt (program_of t) (patternOf p)) (program_of t)) t u result }
+        Tried (anywhere (pattern_at (program_of t) (pattern_of p)) (program_of t)) t u result }
 {
     let form = branch_of(p) as usize;
     let mut i = wide(first[form]);
@@ -92,10 +92,10 @@ fn fold_with(
 // The first pattern that counts somewhere.
 fn fold(frames: &[u8], state: &mut State, count: usize, links: &[u16; 28672]) -> bool
     requires { let t : Slots = table_of frames.now state.old count in
-        Standing t × Beside frames.now (startsIn state.old) count links.now }
+        Standing t × Beside frames.now (starts_in state.old) count links.now }
     ensures { let t : Slots = table_of frames.now state.old count in
         let u : Slots = table_of frames.now state.new count in
-        Tried (first_of (λ x. anywhere (patternAt (program_of t) x) (program_of t)) patterns) t u result }
+        Tried (first_of (λ x. anywhere (pattern_at (program_of t) x) (program_of t)) patterns) t u result }
 {
     let nowhere = count as u16;
     let mut first = [nowhere; 256];
@@ -120,10 +120,10 @@ pub fn fold_asked(
     links: &[u16; 28672],
 ) -> bool
     requires { let t : Slots = table_of frames.now state.old count in
-        Standing t × Beside frames.now (startsIn state.old) count links.now }
+        Standing t × Beside frames.now (starts_in state.old) count links.now }
     ensures { let t : Slots = table_of frames.now state.old count in
         let u : Slots = table_of frames.now state.new count in
-        Tried (first_of (λ x. anywhere (patternAt (program_of t) x) (program_of t)) (patternsFor asked)) t u result }
+        Tried (first_of (λ x. anywhere (pattern_at (program_of t) x) (program_of t)) (patterns_for asked)) t u result }
 {
     if !asked.folds {
         return false;

@@ -4,7 +4,7 @@ ghost use Rattle.laws.specs.Options.{or_else};
 ghost use Rattle.rules.specs.declared.Settings.{Settings as Switches};
 ghost use Rattle.rules.specs.Forms.{jmpf, br, jmp};
 ghost use Rattle.rules.specs.Judging.{names_of, assembles};
-ghost use Rattle.rules.specs.Rewriting.{shrinkAt, anywhere};
+ghost use Rattle.rules.specs.Rewriting.{shrink_at, anywhere};
 ghost use Rattle.rules.specs.Programs.{kind_of};
 ghost use Rattle.slots.specs.Slots.{Slots, slot_at, program_of, Positioned};
 ghost use Rattle.slots.specs.Links.{Beside};
@@ -12,7 +12,7 @@ ghost use Rattle.image.specs.Tables.{Tables, tables_of, Ready};
 ghost use Rattle.attempts.specs.Standing.{Standing, Tried};
 ghost use Rattle.attempts.specs.Deepest.{Deepest};
 ghost use Rattle.attempts.specs.Shrinks.{shrunk};
-ghost use Rattle.slots.specs.State.{startsIn, formsIn, carryIn, ownersIn, offsetsIn, table_of};
+ghost use Rattle.slots.specs.State.{starts_in, forms_in, carry_in, owners_in, offsets_in, table_of};
 
 use anchors::is_change_jump;
 use asm::lay_and_define;
@@ -33,9 +33,9 @@ fn try_br_then_jmp(
     at: Place,
 ) -> bool
     requires { let t : Slots = table_of frames.now state.old count in
-        Standing t × Deepest t deepest.now × (at.0 < count) × (kind_of (slot_at t at.0) ≡ 1) × (get_or (formsIn state.old)
+        Standing t × Deepest t deepest.now × (at.0 < count) × (kind_of (slot_at t at.0) ≡ 1) × (get_or (forms_in state.old)
         at.0 0 ≡ jmpf)
-        × Beside frames.now (startsIn state.old) count links.now × Positioned t positions.now }
+        × Beside frames.now (starts_in state.old) count links.now × Positioned t positions.now }
     ensures { let t : Slots = table_of frames.now state.old count in
         let u : Slots = table_of frames.now state.new count in
         Tried (or_else (shrunk t at.0 br) (shrunk t at.0 jmp)) t u result }
@@ -64,11 +64,11 @@ fn shrink_jump(
     requires { let d : Tables = tables_of frames.now state.old count
         links.now values.now positions.now in
         Standing d.slots × Deepest d.slots deepest.now × Ready d
-        × Beside frames.now (startsIn state.old) count links.now × (at.0 < count) × (kind_of (slot_at d.slots at.0) ≡ 1)
-        × (get_or (formsIn state.old) at.0 0 ≡ jmpf) }
+        × Beside frames.now (starts_in state.old) count links.now × (at.0 < count) × (kind_of (slot_at d.slots at.0) ≡ 1)
+        × (get_or (forms_in state.old) at.0 0 ≡ jmpf) }
     ensures { let t : Slots = table_of frames.now state.old count in
         let u : Slots = table_of frames.now state.new count in
-        ((asked : Switches) → Tried (shrinkAt asked (names_of (program_of t)) (program_of t) at.0) t u result) }
+        ((asked : Switches) → Tried (shrink_at asked (names_of (program_of t)) (program_of t) at.0) t u result) }
 {
     if is_change_jump(frames, state, count, links, values, positions, at) {
         return false;
@@ -91,10 +91,10 @@ fn shrink_at(
     requires { let d : Tables = tables_of frames.now state.old count
         links.now values.now positions.now in
         Standing d.slots × Deepest d.slots deepest.now × Ready d
-        × Beside frames.now (startsIn state.old) count links.now × (at.0 < count) }
+        × Beside frames.now (starts_in state.old) count links.now × (at.0 < count) }
     ensures { let t : Slots = table_of frames.now state.old count in
         let u : Slots = table_of frames.now state.new count in
-        Tried (shrinkAt asked (names_of (program_of t)) (program_of t) at.0) t u result }
+        Tried (shrink_at asked (names_of (program_of t)) (program_of t) at.0) t u result }
 {
     let Slot::Form(form) = slot_at(frames, state, count, at) else {
         return false;
@@ -126,11 +126,11 @@ fn shrink_first(
 ) -> bool
     requires { let d : Tables = tables_of frames.now state.old count
         links.now values.now positions.now in
-        Standing d.slots × Deepest d.slots deepest.now × Ready d × Beside frames.now (startsIn state.old) count
+        Standing d.slots × Deepest d.slots deepest.now × Ready d × Beside frames.now (starts_in state.old) count
         links.now }
     ensures { let t : Slots = table_of frames.now state.old count in
         let u : Slots = table_of frames.now state.new count in
-        Tried (anywhere (shrinkAt asked (names_of (program_of t)) (program_of t)) (program_of t)) t u result }
+        Tried (anywhere (shrink_at asked (names_of (program_of t)) (program_of t)) (program_of t)) t u result }
 {
     let mut i = 0;
     while i < count {
@@ -161,10 +161,10 @@ pub fn shrink(
     links: &[u16; 28672],
 ) -> bool
     requires { let t : Slots = table_of frames.now state.old count in
-        Standing t × (assembles (program_of t) ≡ true) × Beside frames.now (startsIn state.old) count links.now }
+        Standing t × (assembles (program_of t) ≡ true) × Beside frames.now (starts_in state.old) count links.now }
     ensures { let t : Slots = table_of frames.now state.old count in
         let u : Slots = table_of frames.now state.new count in
-        Tried (anywhere (shrinkAt asked (names_of (program_of t)) (program_of t)) (program_of t)) t u result }
+        Tried (anywhere (shrink_at asked (names_of (program_of t)) (program_of t)) (program_of t)) t u result }
 {
     let mut positions = [0u32; 1025];
     let mut values = [0i64; 1024];

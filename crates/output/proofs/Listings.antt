@@ -11,22 +11,22 @@ use lib.ListN.{length, get_or, length-append}
 use borrow.Author.Tests.{le-leb, lt-leb}
 use Rattle.laws.specs.Counts.{tab}
 use Rattle.laws.specs.Lists.{each}
-use Rattle.laws.proofs.Tests.{lt-or-le}
-use Rattle.laws.proofs.Counts.{rises, length-tab, tab-suc, each-tab, map-tab}
-use Rattle.rules.specs.Programs.{Operand, Stmt, gone, instr, label, variable, comment, org, bytes, words, pad, Program, retarget, isGone}
+use Rattle.laws.proofs.Tests.{lt_or_le}
+use Rattle.laws.proofs.Counts.{rises, length_tab, tab_suc, each_tab, map_tab}
+use Rattle.rules.specs.Programs.{Operand, Stmt, gone, instr, label, variable, comment, org, bytes, words, pad, Program, retarget, is_gone}
 use Rattle.rules.specs.Listing.{ListingForm}
-use Rattle.rules.specs.Output.{plainTarget, writeBack, stemsFrom, stems, frameIn, line_of, mark_of, text_of}
-use Rattle.rules.proofs.Laws.{linesAt, lines-by-place}
+use Rattle.rules.specs.Output.{plain_target, write_back, stems_from, stems, frame_in, line_of, mark_of, text_of}
+use Rattle.rules.proofs.Laws.{lines_at, lines_by_place}
 use Rattle.listing.specs.Tables.{Held}
-use Rattle.slots.specs.Slots.{Slots, goneForm, slot_at, program_of}
-use Rattle.slots.proofs.Slots.{slot-gone}
-use Rattle.output.specs.Lines.{lineIn, line_at, listingOf, linesTo}
+use Rattle.slots.specs.Slots.{Slots, gone_form, slot_at, program_of}
+use Rattle.slots.proofs.Slots.{slot_gone}
+use Rattle.output.specs.Lines.{line_in, line_at, listing_of, lines_to}
 use Rattle.output.specs.Stems.{kept_to}
-use Rattle.output.proofs.Slots.{kept-kind, kept-form}
+use Rattle.output.proofs.Slots.{kept_kind, kept_form}
 
 -- ---- text, by place
 
-gone_same : (f : Operand → Operand) (s : Stmt) → isGone (retarget f s) ≡ isGone s
+gone_same : (f : Operand → Operand) (s : Stmt) → is_gone (retarget f s) ≡ is_gone s
 gone_same f gone = refl
 gone_same f (instr g xs c) = refl
 gone_same f (label m) = refl
@@ -38,35 +38,35 @@ gone_same f (words es) = refl
 gone_same f (pad add m) = refl
 
 -- of two programs one behind the other
-lines-append : (w : ListingForm) (ns : List ℕ) (i : ℕ) (p q : Program) → linesAt w ns i (p ++ q) ≡ linesAt w ns i p ++ linesAt w ns (i + length p) q
-unfolding linesAt
-lines-append w ns i [] q = let z : i + 0 ≡ i = omega arith in rw z
-lines-append w ns i (s ∷ p) q =
+lines_append : (w : ListingForm) (ns : List ℕ) (i : ℕ) (p q : Program) → lines_at w ns i (p ++ q) ≡ lines_at w ns i p ++ lines_at w ns (i + length p) q
+unfolding lines_at
+lines_append w ns i [] q = let z : i + 0 ≡ i = omega arith in rw z
+lines_append w ns i (s ∷ p) q =
     let z : suc i + length p ≡ i + suc (length p) = omega arith in
-    rw (lines-append w ns (suc i) p q, z, append_assoc)
+    rw (lines_append w ns (suc i) p q, z, append_assoc)
 
 -- ---- places, of two programs one behind the other
 
-stems-append : (i : ℕ) (p q : Program) → stemsFrom i (p ++ q) ≡ stemsFrom i p ++ stemsFrom (i + length p) q
-unfolding stemsFrom
-stems-append i [] q = let z : i + 0 ≡ i = omega arith in rw z
-stems-append i (s ∷ p) q = let z : suc i + length p ≡ i + suc (length p) = omega arith in rw (stems-append (suc i) p q, z) (on (isGone s))
+stems_append : (i : ℕ) (p q : Program) → stems_from i (p ++ q) ≡ stems_from i p ++ stems_from (i + length p) q
+unfolding stems_from
+stems_append i [] q = let z : i + 0 ≡ i = omega arith in rw z
+stems_append i (s ∷ p) q = let z : suc i + length p ≡ i + suc (length p) = omega arith in rw (stems_append (suc i) p q, z) (on (is_gone s))
   where
-    on : (b : Bool) → cond b (stemsFrom (suc i) p ++ stemsFrom (i + suc (length p)) q) (i ∷ (stemsFrom (suc i) p ++ stemsFrom (i + suc (length p)) q))
-        ≡ cond b (stemsFrom (suc i) p) (i ∷ stemsFrom (suc i) p) ++ stemsFrom (i + suc (length p)) q
+    on : (b : Bool) → cond b (stems_from (suc i) p ++ stems_from (i + suc (length p)) q) (i ∷ (stems_from (suc i) p ++ stems_from (i + suc (length p)) q))
+        ≡ cond b (stems_from (suc i) p) (i ∷ stems_from (suc i) p) ++ stems_from (i + suc (length p)) q
     on true = refl
     on false = refl
 
-pub kept_more : (forms : List ℕ) (n : ℕ) → kept_to forms (n + 1) ≡ kept_to forms n ++ cond (leb goneForm (get_or forms n 0)) [] (n ∷ [])
+pub kept_more : (forms : List ℕ) (n : ℕ) → kept_to forms (n + 1) ≡ kept_to forms n ++ cond (leb gone_form (get_or forms n 0)) [] (n ∷ [])
 unfolding kept_to
-kept_more forms n = each-tab (λ i. cond (leb goneForm (get_or forms i 0)) [] (i ∷ [])) (λ i. i) n
+kept_more forms n = each_tab (λ i. cond (leb gone_form (get_or forms i 0)) [] (i ∷ [])) (λ i. i) n
 
-pub kept-few : (forms : List ℕ) (n : ℕ) → length (kept_to forms n) ≤ n
+pub kept_few : (forms : List ℕ) (n : ℕ) → length (kept_to forms n) ≤ n
 unfolding kept_to each tab
-kept-few forms zero = omega arith
-kept-few forms (suc n) =
-    let e = ap length (ap (kept_to forms) (sym (add-one n)) ∙ kept_more forms n) ∙ length-append (kept_to forms n) (cond (leb goneForm (get_or forms n 0)) [] (n ∷ [])) in
-    omega (arith, e, kept-few forms n, one (leb goneForm (get_or forms n 0)))
+kept_few forms zero = omega arith
+kept_few forms (suc n) =
+    let e = ap length (ap (kept_to forms) (sym (add-one n)) ∙ kept_more forms n) ∙ length-append (kept_to forms n) (cond (leb gone_form (get_or forms n 0)) [] (n ∷ [])) in
+    omega (arith, e, kept_few forms n, one (leb gone_form (get_or forms n 0)))
   where
     one : (b : Bool) → length (cond b [] (n ∷ [])) ≤ 1
     one true = omega arith
@@ -75,79 +75,79 @@ kept-few forms (suc n) =
 -- ---- the program that the tables hold
 
 module _ (t : Slots) where
-  program-is : program_of t ≡ tab (slot_at t) t.count
+  program_is : program_of t ≡ tab (slot_at t) t.count
   unfolding program_of
-  program-is = refl
+  program_is = refl
 
   abbrev plain : ℕ → Stmt
-  plain i = retarget (plainTarget (program_of t)) (slot_at t i)
+  plain i = retarget (plain_target (program_of t)) (slot_at t i)
 
-  plain-is : writeBack (program_of t) ≡ tab plain t.count
-  unfolding writeBack
-  plain-is = ap (map (λ s. retarget (plainTarget (program_of t)) s)) program-is ∙ map-tab (slot_at t) (λ s. retarget (plainTarget (program_of t)) s) t.count
+  plain_is : write_back (program_of t) ≡ tab plain t.count
+  unfolding write_back
+  plain_is = ap (map (λ s. retarget (plain_target (program_of t)) s)) program_is ∙ map_tab (slot_at t) (λ s. retarget (plain_target (program_of t)) s) t.count
 
   module _ (w : ListingForm) (ns : List ℕ) where
-    one_line : (n : ℕ) → linesAt w ns n (plain n ∷ []) ≡ line_at w ns t n
-    unfolding linesAt lineIn
-    one_line n = append-nil (cond (isGone (plain n)) [] (line_of (frameIn w (get_or ns n 0) (plain n)))) ∙ rw (gone_same (plainTarget (program_of t)) (slot_at t n))
+    one_line : (n : ℕ) → lines_at w ns n (plain n ∷ []) ≡ line_at w ns t n
+    unfolding lines_at line_in
+    one_line n = append-nil (cond (is_gone (plain n)) [] (line_of (frame_in w (get_or ns n 0) (plain n)))) ∙ rw (gone_same (plain_target (program_of t)) (slot_at t n))
 
-    no_lines : linesAt w ns 0 (tab plain 0) ≡ each (line_at w ns t) (tab (λ i. i) 0)
-    unfolding linesAt tab each
+    no_lines : lines_at w ns 0 (tab plain 0) ≡ each (line_at w ns t) (tab (λ i. i) 0)
+    unfolding lines_at tab each
     no_lines = refl
 
-    slot-lines : (n : ℕ) → linesAt w ns 0 (tab plain n) ≡ each (line_at w ns t) (tab (λ i. i) n)
-    slot-lines zero = no_lines
-    slot-lines (suc n) =
-        let z : 0 + length (tab plain n) ≡ n = omega (arith, length-tab plain n) in
-        ap (λ m. linesAt w ns 0 (tab plain m)) (sym (add-one n)) ∙ ap (linesAt w ns 0) (tab-suc plain n) ∙ lines-append w ns 0 (tab plain n) (plain n ∷ [])
-        ∙ rw (z, one_line n, slot-lines n) (sym (each-tab (line_at w ns t) (λ i. i) n)) ∙ ap (λ m. each (line_at w ns t) (tab (λ i. i) m)) (add-one n)
+    slot_lines : (n : ℕ) → lines_at w ns 0 (tab plain n) ≡ each (line_at w ns t) (tab (λ i. i) n)
+    slot_lines zero = no_lines
+    slot_lines (suc n) =
+        let z : 0 + length (tab plain n) ≡ n = omega (arith, length_tab plain n) in
+        ap (λ m. lines_at w ns 0 (tab plain m)) (sym (add-one n)) ∙ ap (lines_at w ns 0) (tab_suc plain n) ∙ lines_append w ns 0 (tab plain n) (plain n ∷ [])
+        ∙ rw (z, one_line n, slot_lines n) (sym (each_tab (line_at w ns t) (λ i. i) n)) ∙ ap (λ m. each (line_at w ns t) (tab (λ i. i) m)) (add-one n)
 
-    pub lines-all : linesTo w ns t t.count ≡ listingOf (record { form = w; lines = ns }) t
-    unfolding linesTo listingOf text_of stems
-    lines-all =
+    pub lines_all : lines_to w ns t t.count ≡ listing_of (record { form = w; lines = ns }) t
+    unfolding lines_to listing_of text_of stems
+    lines_all =
         ap (λ (l : List ℕ). mark_of w ++ l)
-        (sym (slot-lines t.count) ∙ ap (linesAt w ns 0) (sym plain-is) ∙ sym (lines-by-place w ns 0 (writeBack (program_of t))))
+        (sym (slot_lines t.count) ∙ ap (lines_at w ns 0) (sym plain_is) ∙ sym (lines_by_place w ns 0 (write_back (program_of t))))
 
-    pub lines_none : linesTo w ns t 0 ≡ mark_of w
-    unfolding linesTo each tab
+    pub lines_none : lines_to w ns t 0 ≡ mark_of w
+    unfolding lines_to each tab
     lines_none = append-nil (mark_of w)
 
-    pub lines_more : (n : ℕ) → linesTo w ns t (n + 1) ≡ linesTo w ns t n ++ line_at w ns t n
-    unfolding linesTo
+    pub lines_more : (n : ℕ) → lines_to w ns t (n + 1) ≡ lines_to w ns t n ++ line_at w ns t n
+    unfolding lines_to
     lines_more n =
-        ap (λ (l : List ℕ). mark_of w ++ l) (each-tab (line_at w ns t) (λ i. i) n) ∙ sym (append_assoc (mark_of w) (each (line_at w ns t) (tab (λ i. i) n)) (line_at w ns t n))
+        ap (λ (l : List ℕ). mark_of w ++ l) (each_tab (line_at w ns t) (λ i. i) n) ∙ sym (append_assoc (mark_of w) (each (line_at w ns t) (tab (λ i. i) n)) (line_at w ns t n))
 
-    pub length_more : (n : ℕ) → length (linesTo w ns t (n + 1)) ≡ length (linesTo w ns t n) + length (line_at w ns t n)
-    length_more n = ap length (lines_more n) ∙ length-append (linesTo w ns t n) (line_at w ns t n)
+    pub length_more : (n : ℕ) → length (lines_to w ns t (n + 1)) ≡ length (lines_to w ns t n) + length (line_at w ns t n)
+    length_more n = ap length (lines_more n) ∙ length-append (lines_to w ns t n) (line_at w ns t n)
 
-    pub lines-within : (i : ℕ) → i ≤ t.count → length (linesTo w ns t i) ≤ length (listingOf (record { form = w; lines = ns }) t)
-    lines-within i l =
-        rw (← lines-all)
-        (rises (λ n. length (linesTo w ns t n)) (λ n. let e : length (linesTo w ns t (suc n)) ≡ length (linesTo w ns t (n + 1)) = ap (λ m. length (linesTo w ns t m)) (sym (add-one n)) in omega (arith, length_more n)) i t.count l)
+    pub lines_within : (i : ℕ) → i ≤ t.count → length (lines_to w ns t i) ≤ length (listing_of (record { form = w; lines = ns }) t)
+    lines_within i l =
+        rw (← lines_all)
+        (rises (λ n. length (lines_to w ns t n)) (λ n. let e : length (lines_to w ns t (suc n)) ≡ length (lines_to w ns t (n + 1)) = ap (λ m. length (lines_to w ns t m)) (sym (add-one n)) in omega (arith, length_more n)) i t.count l)
 
   -- ---- and its places
 
-  stems-more : (n : ℕ) → stems (tab (slot_at t) (n + 1)) ≡ stems (tab (slot_at t) n) ++ cond (isGone (slot_at t n)) [] (n ∷ [])
-  unfolding stems stemsFrom
-  stems-more n =
-      let z : 0 + length (tab (slot_at t) n) ≡ n = omega (arith, length-tab (slot_at t) n) in
-      ap (stemsFrom 0) (tab-suc (slot_at t) n) ∙ stems-append 0 (tab (slot_at t) n) (slot_at t n ∷ []) ∙ rw z
+  stems_more : (n : ℕ) → stems (tab (slot_at t) (n + 1)) ≡ stems (tab (slot_at t) n) ++ cond (is_gone (slot_at t n)) [] (n ∷ [])
+  unfolding stems stems_from
+  stems_more n =
+      let z : 0 + length (tab (slot_at t) n) ≡ n = omega (arith, length_tab (slot_at t) n) in
+      ap (stems_from 0) (tab_suc (slot_at t) n) ∙ stems_append 0 (tab (slot_at t) n) (slot_at t n ∷ []) ∙ rw z
 
   -- a slot is gone by its form alone
-  pub gone-form : Held t.frames t.starts t.count → (i : ℕ) → i < t.count → isGone (slot_at t i) ≡ leb goneForm (get_or t.forms i 0)
-  gone-form h i l = ⊎_elim is-kept is-gone (lt-or-le (get_or t.forms i 0) goneForm)
+  pub gone_form_lem : Held t.frames t.starts t.count → (i : ℕ) → i < t.count → is_gone (slot_at t i) ≡ leb gone_form (get_or t.forms i 0)
+  gone_form_lem h i l = ⊎_elim is_kept is_gone_lem (lt_or_le (get_or t.forms i 0) gone_form)
     where
-      is-gone : goneForm ≤ get_or t.forms i 0 → isGone (slot_at t i) ≡ leb goneForm (get_or t.forms i 0)
-      is-gone e = ap isGone (slot-gone t i e) ∙ sym (le-leb goneForm (get_or t.forms i 0) e)
+      is_gone_lem : gone_form ≤ get_or t.forms i 0 → is_gone (slot_at t i) ≡ leb gone_form (get_or t.forms i 0)
+      is_gone_lem e = ap is_gone (slot_gone t i e) ∙ sym (le-leb gone_form (get_or t.forms i 0) e)
 
-      is-kept : get_or t.forms i 0 < goneForm → isGone (slot_at t i) ≡ leb goneForm (get_or t.forms i 0)
-      is-kept n = kept-kind (slot_at t i) (kept-form t h i l n) ∙ sym (lt-leb goneForm (get_or t.forms i 0) n)
+      is_kept : get_or t.forms i 0 < gone_form → is_gone (slot_at t i) ≡ leb gone_form (get_or t.forms i 0)
+      is_kept n = kept_kind (slot_at t i) (kept_form t h i l n) ∙ sym (lt-leb gone_form (get_or t.forms i 0) n)
 
-  stems-to : Held t.frames t.starts t.count → (n : ℕ) → n ≤ t.count → stems (tab (slot_at t) n) ≡ kept_to t.forms n
-  unfolding stems stemsFrom kept_to each tab
-  stems-to h zero l = refl
-  stems-to h (suc n) l =
-      ap (λ m. stems (tab (slot_at t) m)) (sym (add-one n)) ∙ stems-more n ∙ rw (stems-to h n (omega arith), gone-form h n (omega arith)) (sym (kept_more t.forms n)) ∙ ap (kept_to t.forms) (add-one n)
+  stems_to : Held t.frames t.starts t.count → (n : ℕ) → n ≤ t.count → stems (tab (slot_at t) n) ≡ kept_to t.forms n
+  unfolding stems stems_from kept_to each tab
+  stems_to h zero l = refl
+  stems_to h (suc n) l =
+      ap (λ m. stems (tab (slot_at t) m)) (sym (add-one n)) ∙ stems_more n ∙ rw (stems_to h n (omega arith), gone_form_lem h n (omega arith)) (sym (kept_more t.forms n)) ∙ ap (kept_to t.forms) (add-one n)
 
-  pub stems-kept : Held t.frames t.starts t.count → stems (program_of t) ≡ kept_to t.forms t.count
-  stems-kept h = ap stems program-is ∙ stems-to h t.count (omega arith)
+  pub stems_kept : Held t.frames t.starts t.count → stems (program_of t) ≡ kept_to t.forms t.count
+  stems_kept h = ap stems program_is ∙ stems_to h t.count (omega arith)

@@ -8,51 +8,51 @@ use lib.Seq.{length-take-le, drop_at, take-append-le, take-take}
 use Rattle.laws.specs.Lists.{each}
 use Rattle.laws.proofs.Lists.{each_append}
 use Rattle.rules.specs.Expressions.{four}
-use Rattle.rules.specs.Listing.{ListingForm, oldForm, newForm, lineBytes}
-use Rattle.rules.specs.Output.{hexByte, line_of}
-use Rattle.digits.specs.Digits.{hexOf, laid}
-use Rattle.digits.proofs.Rooms.{laid_more, length-hex, length-line}
+use Rattle.rules.specs.Listing.{ListingForm, old_form, new_form, line_bytes}
+use Rattle.rules.specs.Output.{hex_byte, line_of}
+use Rattle.digits.specs.Digits.{hex_of, laid}
+use Rattle.digits.proofs.Rooms.{laid_more, length_hex, length_line}
 use Rattle.output.specs.Digits.{Put}
-use Rattle.output.specs.Lines.{bytesIn, sourced}
+use Rattle.output.specs.Lines.{bytes_in, sourced}
 
 -- ---- pieces of a line, one behind the other
 
-pub put-more : (d : List ℕ) (a : ℕ) (x d₁ : List ℕ) (e₁ : ℕ) (y d₂ : List ℕ) (e₂ : ℕ) → Put d a x d₁ e₁ → Put d₁ e₁ y d₂ e₂ → a + 2 * (length x + length y) ≤ length d
+pub put_more : (d : List ℕ) (a : ℕ) (x d₁ : List ℕ) (e₁ : ℕ) (y d₂ : List ℕ) (e₂ : ℕ) → Put d a x d₁ e₁ → Put d₁ e₁ y d₂ e₂ → a + 2 * (length x + length y) ≤ length d
     → Put d a (x ++ y) d₂ e₂
-put-more d a x d₁ e₁ y d₂ e₂ p q h =
+put_more d a x d₁ e₁ y d₂ e₂ p q h =
     record {
       is =
-          q.is ∙ ap (λ l. laid l e₁ (hexOf y)) p.is
-          ∙ laid_more d (hexOf x) (hexOf y) a e₁ (omega (arith, length-hex x, p.ends)) (omega (arith, length-hex y, p.ends))
-          ∙ ap (laid d a) (sym (each_append (λ b. hexByte b) x y));
+          q.is ∙ ap (λ l. laid l e₁ (hex_of y)) p.is
+          ∙ laid_more d (hex_of x) (hex_of y) a e₁ (omega (arith, length_hex x, p.ends)) (omega (arith, length_hex y, p.ends))
+          ∙ ap (laid d a) (sym (each_append (λ b. hex_byte b) x y));
       ends = omega (arith, p.ends, q.ends, length-append x y);
     }
 
 -- two bytes and those behind
-pub put-head : (d : List ℕ) (a b c : ℕ) (x : List ℕ) → a + 4 + 2 * length x ≤ length d
-    → laid (laid (laid d a (hexByte b)) (a + 2) (hexByte c)) (a + 4) (hexOf x) ≡ laid d a (hexOf (b ∷ c ∷ x))
+pub put_head : (d : List ℕ) (a b c : ℕ) (x : List ℕ) → a + 4 + 2 * length x ≤ length d
+    → laid (laid (laid d a (hex_byte b)) (a + 2) (hex_byte c)) (a + 4) (hex_of x) ≡ laid d a (hex_of (b ∷ c ∷ x))
 unfolding each
-put-head d a b c x h =
-    ap (λ l. laid l (a + 4) (hexOf x)) (laid_more d (hexByte b) (hexByte c) a (a + 2) refl (omega arith))
-    ∙ laid_more d (hexByte b ++ hexByte c) (hexOf x) a (a + 4) (omega arith) (omega (arith, length-hex x))
+put_head d a b c x h =
+    ap (λ l. laid l (a + 4) (hex_of x)) (laid_more d (hex_byte b) (hex_byte c) a (a + 2) refl (omega arith))
+    ∙ laid_more d (hex_byte b ++ hex_byte c) (hex_of x) a (a + 4) (omega arith) (omega (arith, length_hex x))
 
 -- bytes and the line feed
-pub put-line : (d : List ℕ) (a : ℕ) (x d₁ : List ℕ) (e : ℕ) (d₂ : List ℕ) (r : ℕ) (line : List ℕ) → Put d a x d₁ e → d₂ ≡ laid d₁ e (10 ∷ []) → r ≡ e + 1
+pub put_line : (d : List ℕ) (a : ℕ) (x d₁ : List ℕ) (e : ℕ) (d₂ : List ℕ) (r : ℕ) (line : List ℕ) → Put d a x d₁ e → d₂ ≡ laid d₁ e (10 ∷ []) → r ≡ e + 1
     → line ≡ line_of x → a + length line ≤ length d → (d₂ ≡ laid d a line) × (r ≡ a + length line)
 unfolding line_of
-put-line d a x d₁ e d₂ r line p q n is h =
-    let l : length line ≡ 2 * length x + 1 = ap length is ∙ length-line x in (
-      q ∙ ap (λ z. laid z e (10 ∷ [])) p.is ∙ laid_more d (hexOf x) (10 ∷ []) a e (omega (arith, length-hex x, p.ends)) (omega (arith, p.ends)) ∙ ap (laid d a) (sym is),
+put_line d a x d₁ e d₂ r line p q n is h =
+    let l : length line ≡ 2 * length x + 1 = ap length is ∙ length_line x in (
+      q ∙ ap (λ z. laid z e (10 ∷ [])) p.is ∙ laid_more d (hex_of x) (10 ∷ []) a e (omega (arith, length_hex x, p.ends)) (omega (arith, p.ends)) ∙ ap (laid d a) (sym is),
       omega (arith, p.ends),
     )
 
 -- ---- C-20: a source line
 
 -- y stored over the beginning of what was stored behind it: x and z at b, y up to the end of x
-laid-over : (d x y z : List ℕ) (a b : ℕ) → a ≤ b → b + length x ≡ a + length y → b + length (x ++ z) ≤ length d
+laid_over : (d x y z : List ℕ) (a b : ℕ) → a ≤ b → b + length x ≡ a + length y → b + length (x ++ z) ≤ length d
     → laid (laid d b (x ++ z)) a y ≡ laid d a (y ++ z)
 unfolding laid
-laid-over d x y z a b l e h =
+laid_over d x y z a b l e h =
     let n = length-append x z in
     let front : length (take b d ++ x) ≡ a + length y = omega (arith, length-append (take b d) x, length-take-le b d (omega arith)) in
     let out : List ℕ = laid d b (x ++ z) in
@@ -64,15 +64,15 @@ laid-over d x y z a b l e h =
     rw (before, behind, all, append_assoc y z (drop (b + length (x ++ z)) d))
 
 -- a frame stored behind room for its source line, and that before it
-pub put-source : (w : ListingForm) (d : List ℕ) (a k n : ℕ) (r d₁ : List ℕ) (e : ℕ) → Put d (a + 2 * lineBytes w) (k ∷ r) d₁ e
-    → a + 2 * (length (k ∷ r) + lineBytes w) ≤ length d → Put d a (bytesIn w n (k ∷ r)) (sourced w k n d₁ a) e
+pub put_source : (w : ListingForm) (d : List ℕ) (a k n : ℕ) (r d₁ : List ℕ) (e : ℕ) → Put d (a + 2 * line_bytes w) (k ∷ r) d₁ e
+    → a + 2 * (length (k ∷ r) + line_bytes w) ≤ length d → Put d a (bytes_in w n (k ∷ r)) (sourced w k n d₁ a) e
 unfolding each
-put-source oldForm d a k n r d₁ e p h = let z : a + 2 * 0 ≡ a = omega arith in record { is = p.is ∙ ap (λ (m : ℕ). laid d m (hexOf (k ∷ r))) z; ends = omega (arith, p.ends) }
-put-source newForm d a k n r d₁ e p h =
+put_source old_form d a k n r d₁ e p h = let z : a + 2 * 0 ≡ a = omega arith in record { is = p.is ∙ ap (λ (m : ℕ). laid d m (hex_of (k ∷ r))) z; ends = omega (arith, p.ends) }
+put_source new_form d a k n r d₁ e p h =
     record {
       is =
-          ap (λ (l : List ℕ). laid l a (hexOf (k ∷ four n))) p.is
-          ∙ laid-over d (hexByte k) (hexOf (k ∷ four n)) (hexOf r) a (a + 8) (omega arith) (omega (arith, length-hex (k ∷ four n))) (omega (arith, length-hex r, length-append (hexByte k) (hexOf r)))
-          ∙ ap (laid d a) (sym (each_append (λ b. hexByte b) (k ∷ four n) r));
+          ap (λ (l : List ℕ). laid l a (hex_of (k ∷ four n))) p.is
+          ∙ laid_over d (hex_byte k) (hex_of (k ∷ four n)) (hex_of r) a (a + 8) (omega arith) (omega (arith, length_hex (k ∷ four n))) (omega (arith, length_hex r, length-append (hex_byte k) (hex_of r)))
+          ∙ ap (laid d a) (sym (each_append (λ b. hex_byte b) (k ∷ four n) r));
       ends = omega (arith, p.ends);
     }

@@ -3,79 +3,79 @@ use Rattle.std.specs.Prelude.{◌≡◌, List, [], ◌∷◌, ◌++◌, Bool, tr
 use Rattle.laws.specs.Counts.{tab}
 use Rattle.laws.specs.Lists.{each}
 use Rattle.rules.specs.Expressions.{four}
-use Rattle.rules.specs.Forms.{isTransfer, operandsAt}
+use Rattle.rules.specs.Forms.{is_transfer, operands_at}
 use Rattle.rules.specs.Layout.{position}
-use Rattle.rules.specs.Programs.{Placeℕ, Stmt, Program, retarget, kind_of, isGone}
-use Rattle.rules.specs.Listing.{ListingForm, oldForm, newForm, Beside}
-use Rattle.rules.specs.Output.{plainTarget, writeBack, compact, stems, line_of, withLine, frameIn, mark_of, text_of}
-use Rattle.rules.specs.Statements.{argumentAt}
+use Rattle.rules.specs.Programs.{Placeℕ, Stmt, Program, retarget, kind_of, is_gone}
+use Rattle.rules.specs.Listing.{ListingForm, old_form, new_form, Beside}
+use Rattle.rules.specs.Output.{plain_target, write_back, compact, stems, line_of, with_line, frame_in, mark_of, text_of}
+use Rattle.rules.specs.Statements.{argument_at}
 use Rattle.listing.specs.Form.{form_of}
 use Rattle.listing.specs.Tables.{frame_at, Held}
-use Rattle.digits.specs.Digits.{hexOf, laid}
-use Rattle.slots.specs.Slots.{Slots, slots, noOwner, slot_at, program_of, InstrIn, Sound}
+use Rattle.digits.specs.Digits.{hex_of, laid}
+use Rattle.slots.specs.Slots.{Slots, slots, no_owner, slot_at, program_of, InstrIn, Sound}
 
 -- ---- the definition, slot by slot
 
 -- the line of a statement of p, in a listing of form w and with the source line n; nothing where it is gone
-unfoldable pub lineIn : ListingForm → (n : ℕ) (p : Program) → Stmt → List ℕ
-lineIn w n p s = cond (isGone s) [] (line_of (frameIn w n (retarget (plainTarget p) s)))
+unfoldable pub line_in : ListingForm → (n : ℕ) (p : Program) → Stmt → List ℕ
+line_in w n p s = cond (is_gone s) [] (line_of (frame_in w n (retarget (plain_target p) s)))
 
 -- the line of place i of the program that the tables hold; `lines` has the source lines by place
 abbrev pub line_at : ListingForm → (lines : List ℕ) → Slots → (i : Placeℕ) → List ℕ
-line_at w lines t i = lineIn w (get_or lines i 0) (program_of t) (slot_at t i)
+line_at w lines t i = line_in w (get_or lines i 0) (program_of t) (slot_at t i)
 
 -- the text of the program that the tables hold
-unfoldable pub listingOf : Beside → Slots → List ℕ
-listingOf b t = text_of b (stems (writeBack (program_of t))) (compact (writeBack (program_of t)))
+unfoldable pub listing_of : Beside → Slots → List ℕ
+listing_of b t = text_of b (stems (write_back (program_of t))) (compact (write_back (program_of t)))
 
 -- the mark of its form, and its first n slots
-unfoldable pub linesTo : ListingForm → (lines : List ℕ) → Slots → (n : ℕ) → List ℕ
-linesTo w lines t n = mark_of w ++ each (line_at w lines t) (tab (λ i. i) n)
+unfoldable pub lines_to : ListingForm → (lines : List ℕ) → Slots → (n : ℕ) → List ℕ
+lines_to w lines t n = mark_of w ++ each (line_at w lines t) (tab (λ i. i) n)
 
 -- what the code has beside the statements
-abbrev pub besideIn : (marked : Bool) (lines : List ℕ) (count : ℕ) → Beside
-besideIn marked lines count = record { form = form_of marked; lines = take count lines }
+abbrev pub beside_in : (marked : Bool) (lines : List ℕ) (count : ℕ) → Beside
+beside_in marked lines count = record { form = form_of marked; lines = take count lines }
 
 -- bytes of a frame, with the source line n behind the kind
-abbrev pub bytesIn : ListingForm → (n : ℕ) → List ℕ → List ℕ
-bytesIn oldForm n x = x
-bytesIn newForm n x = withLine n x
+abbrev pub bytes_in : ListingForm → (n : ℕ) → List ℕ → List ℕ
+bytes_in old_form n x = x
+bytes_in new_form n x = with_line n x
 
 -- the room d with a kind and a source line stored at a, in the new form
 abbrev pub sourced : ListingForm → (k n : ℕ) (d : List ℕ) (a : ℕ) → List ℕ
-sourced oldForm k n d a = d
-sourced newForm k n d a = laid d a (hexOf (k ∷ four n))
+sourced old_form k n d a = d
+sourced new_form k n d a = laid d a (hex_of (k ∷ four n))
 
 -- ---- the same by the tables
 
 -- where the target of an instruction begins in its frame, which is the last argument; the frame's end where it has no target
-unfoldable pub ownEnd : (s : List ℕ) → ℕ
-ownEnd s =
-    let kinds = operandsAt (get_or s 1 0) in
-    cond (isTransfer (get_or s 1 0)) (argumentAt s kinds 2 (length kinds - 1)) (length s)
+unfoldable pub own_end : (s : List ℕ) → ℕ
+own_end s =
+    let kinds = operands_at (get_or s 1 0) in
+    cond (is_transfer (get_or s 1 0)) (argument_at s kinds 2 (length kinds - 1)) (length s)
 
 -- the target that place c wrote: an inner label as a plain number, any other as it stands there
-unfoldable pub targetBytes : (frames starts owners offsets positions : List ℕ) (c : Placeℕ) → List ℕ
-targetBytes frames starts owners offsets positions c =
+unfoldable pub target_bytes : (frames starts owners offsets positions : List ℕ) (c : Placeℕ) → List ℕ
+target_bytes frames starts owners offsets positions c =
     let s = frame_at frames starts c in
-    cond (ltb (get_or owners c 0) noOwner) (0x00 ∷ four (get_or positions (get_or owners c 0) 0 + get_or offsets c 0)) (drop (ownEnd s) s)
+    cond (ltb (get_or owners c 0) no_owner) (0x00 ∷ four (get_or positions (get_or owners c 0) 0 + get_or offsets c 0)) (drop (own_end s) s)
 
 -- the target of an instruction of form f that carries that of place c
-unfoldable pub carriedBytes : Slots → (positions : List ℕ) (f : ℕ) (c : Placeℕ) → List ℕ
-carriedBytes t positions f c = cond (isTransfer f) (targetBytes t.frames t.starts t.owners t.offsets positions c) []
+unfoldable pub carried_bytes : Slots → (positions : List ℕ) (f : ℕ) (c : Placeℕ) → List ℕ
+carried_bytes t positions f c = cond (is_transfer f) (target_bytes t.frames t.starts t.owners t.offsets positions c) []
 
 -- the first bytes of an instruction, which are its own: the form is f, s its frame
-unfoldable pub ownBytes : (f : ℕ) (s : List ℕ) → List ℕ
-ownBytes f s = 1 ∷ f ∷ take (ownEnd s - 2) (drop 2 s)
+unfoldable pub own_bytes : (f : ℕ) (s : List ℕ) → List ℕ
+own_bytes f s = 1 ∷ f ∷ take (own_end s - 2) (drop 2 s)
 
 -- an instruction: its own bytes, and the target that it carries
-abbrev pub instrBytes : Slots → (positions : List ℕ) (i : Placeℕ) → List ℕ
-instrBytes t positions i =
-    ownBytes (get_or t.forms i 0) (frame_at t.frames t.starts i) ++ carriedBytes t positions (get_or t.forms i 0) (get_or t.carry i 0)
+abbrev pub instr_bytes : Slots → (positions : List ℕ) (i : Placeℕ) → List ℕ
+instr_bytes t positions i =
+    own_bytes (get_or t.forms i 0) (frame_at t.frames t.starts i) ++ carried_bytes t positions (get_or t.forms i 0) (get_or t.carry i 0)
 
 -- any statement that is not gone
 unfoldable pub bytes_at : Slots → (positions : List ℕ) (i : Placeℕ) → List ℕ
-bytes_at t positions i = cond (eqb (kind_of (slot_at t i)) 1) (instrBytes t positions i) (frame_at t.frames t.starts i)
+bytes_at t positions i = cond (eqb (kind_of (slot_at t i)) 1) (instr_bytes t positions i) (frame_at t.frames t.starts i)
 
 -- ---- what is known of the tables
 
@@ -88,11 +88,11 @@ pub record InstrAt (frames starts : List ℕ) (count : ℕ) (i : Placeℕ) : Typ
 pub record Drawn (frames starts : List ℕ) (count : ℕ) (forms carry : List ℕ) (i : Placeℕ) : Type 0 where
   pub held : Held frames starts count
   pub own : InstrAt frames starts count i
-  pub target : isTransfer (get_or forms i 0) ≡ true → InstrAt frames starts count (get_or carry i 0)
+  pub target : is_transfer (get_or forms i 0) ≡ true → InstrAt frames starts count (get_or carry i 0)
 
 -- the inner label that the target of place c became stands for a number that four bytes hold
 abbrev pub NumberLow : (owners positions : List ℕ) (c : Placeℕ) → Type 0
-NumberLow owners positions c = get_or owners c 0 < noOwner → get_or positions (get_or owners c 0) 0 ≤ 65536
+NumberLow owners positions c = get_or owners c 0 < no_owner → get_or positions (get_or owners c 0) 0 ≤ 65536
 
 -- a table of the positions of the program's statements
 pub record Positioned (t : Slots) (positions : List ℕ) : Type 0 where
@@ -106,12 +106,12 @@ SoundWithout frames starts count forms carry owners = (offsets : List ℕ) × So
 
 -- the target that place c wrote has n bytes
 abbrev pub TargetHas : (frames starts owners : List ℕ) (c : Placeℕ) (n : ℕ) → Type 0
-TargetHas frames starts owners c n = (offsets positions : List ℕ) → n ≡ length (targetBytes frames starts owners offsets positions c)
+TargetHas frames starts owners c n = (offsets positions : List ℕ) → n ≡ length (target_bytes frames starts owners offsets positions c)
 
 -- the instruction at place i has n bytes
 abbrev pub InstrHas : (frames starts : List ℕ) (count : ℕ) (forms carry owners : List ℕ) (i : Placeℕ) (n : ℕ) → Type 0
 InstrHas frames starts count forms carry owners i n =
-    (offsets positions : List ℕ) → n ≡ length (instrBytes (slots frames starts count forms carry owners offsets) positions i)
+    (offsets positions : List ℕ) → n ≡ length (instr_bytes (slots frames starts count forms carry owners offsets) positions i)
 
 -- the line of place i, and the text, have n characters, whatever the source lines are
 abbrev pub LineHas : ListingForm → (frames starts : List ℕ) (count : ℕ) (forms carry owners : List ℕ) (i : Placeℕ) (n : ℕ) → Type 0
@@ -122,4 +122,4 @@ LineHas w frames starts count forms carry owners i n =
 abbrev pub TextHas : ListingForm → (frames starts : List ℕ) (count : ℕ) (forms carry owners : List ℕ) (n : ℕ) → Type 0
 TextHas w frames starts count forms carry owners n =
     (lines offsets : List ℕ) → Sound (slots frames starts count forms carry owners offsets)
-    → n ≡ length (listingOf (record { form = w; lines = lines }) (slots frames starts count forms carry owners offsets))
+    → n ≡ length (listing_of (record { form = w; lines = lines }) (slots frames starts count forms carry owners offsets))

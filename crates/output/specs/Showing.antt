@@ -2,11 +2,11 @@
 use Rattle.std.specs.Prelude.{◌≡◌, List, cond, ℕ, eqb}
 use Rattle.rules.specs.declared.Settings.{Settings}
 use Rattle.rules.specs.Output.{shown}
-use Rattle.slots.specs.Slots.{Slots, slots, goneForm, program_of, Sound}
+use Rattle.slots.specs.Slots.{Slots, slots, gone_form, program_of, Sound}
 
 -- the form of a place where a statement of kind k stands, f being its form so far
-unfoldable pub shownForm : Settings → (k f : ℕ) → ℕ
-shownForm asked k f = cond asked.comments f (cond (eqb k 4) goneForm f)
+unfoldable pub shown_form : Settings → (k f : ℕ) → ℕ
+shown_form asked k f = cond asked.comments f (cond (eqb k 4) gone_form f)
 
 -- the tables with other forms
 abbrev pub formed : Slots → (forms : List ℕ) → Slots

@@ -2,7 +2,7 @@
 ghost use Rattle.std.specs.Prelude.{◌≡◌, ◌*◌, ◌<◌, ◌≤◌, length};
 ghost use Rattle.std.specs.Int.{w32};
 ghost use Rattle.std.proofs.Common.{of_z};
-ghost use Rattle.rules.specs.Output.{line_of, doneLine, refusedLine};
+ghost use Rattle.rules.specs.Output.{line_of, done_line, refused_line};
 ghost use Rattle.rules.specs.Run.{front};
 
 use crate::low_byte;
@@ -20,7 +20,7 @@ fn put_whole(bytes: &[u8], out: &mut [u8])
 // 7F, the rewrites in two bytes, the image's length in three: 13 characters.
 pub fn done_line(rewrites: usize, image: usize, out: &mut [u8])
     requires { (rewrites < 65536) × (image ≤ 65536) × (13 ≤ length out.old) }
-    ensures { out.new ≡ front (doneLine rewrites image) out.old }
+    ensures { out.new ≡ front (done_line rewrites image) out.old }
 {
     let count = rewrites as u32;
     let len = image as u32;
@@ -50,7 +50,7 @@ pub fn bits(v: i32) -> u32
 pub fn refused_line(number: u8, place: usize, argument: usize, amount: i32, out: &mut [u8])
     requires { (place < 65536) × (argument < 256) × (19 ≤ length out.old) }
     ensures { out.new
-        ≡ front (refusedLine (record { number = number; place = place; argument = argument; amount = amount })) out.old }
+        ≡ front (refused_line (record { number = number; place = place; argument = argument; amount = amount })) out.old }
 {
     let at = place as u32;
     let of = argument as u32;

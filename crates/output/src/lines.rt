@@ -4,8 +4,8 @@ ghost use Rattle.rules.specs.Output.{mark_of};
 ghost use Rattle.listing.specs.Form.{form_of};
 ghost use Rattle.listing.specs.Tables.{Noted, Held};
 ghost use Rattle.slots.specs.Slots.{InstrIn};
-ghost use Rattle.output.specs.Lines.{ownEnd, InstrAt, Drawn, SoundWithout, TargetHas, InstrHas, LineHas, TextHas};
-ghost use Rattle.slots.specs.State.{startsIn, formsIn, carryIn, ownersIn};
+ghost use Rattle.output.specs.Lines.{own_end, InstrAt, Drawn, SoundWithout, TargetHas, InstrHas, LineHas, TextHas};
+ghost use Rattle.slots.specs.State.{starts_in, forms_in, carry_in, owners_in};
 
 use instruction::tables::{is_transfer, operand_count};
 use listing::line_bytes;
@@ -16,8 +16,8 @@ use slots::{
 
 // Where the target of an instruction begins in its frame; the frame's end where it has none. `at` is the frame's place.
 pub fn own_end(frame: &[u8], state: &State, at: Place) -> usize
-    requires { InstrIn at.0 frame.now × (at.0 < 1024) × Noted (startsIn state.now) at.0 frame.now }
-    ensures { result ≡ ownEnd frame.now }
+    requires { InstrIn at.0 frame.now × (at.0 < 1024) × Noted (starts_in state.now) at.0 frame.now }
+    ensures { result ≡ own_end frame.now }
 {
     let form = frame[1];
     if is_transfer(form) {
@@ -29,8 +29,8 @@ pub fn own_end(frame: &[u8], state: &State, at: Place) -> usize
 
 // How many bytes the target that a place wrote has; as a plain number it has five.
 fn target_length(frames: &[u8], state: &State, count: usize, from: Place) -> usize
-    requires { Held frames.now (startsIn state.now) count × InstrAt frames.now (startsIn state.now) count from.0 }
-    ensures { (result ≤ 28672) × TargetHas frames.now (startsIn state.now) (ownersIn state.now)
+    requires { Held frames.now (starts_in state.now) count × InstrAt frames.now (starts_in state.now) count from.0 }
+    ensures { (result ≤ 28672) × TargetHas frames.now (starts_in state.now) (owners_in state.now)
         from.0 result }
 {
     if owner_at(state, from) < NO_OWNER {
@@ -42,9 +42,9 @@ fn target_length(frames: &[u8], state: &State, count: usize, from: Place) -> usi
 
 // How many bytes an instruction has: its own, and the target that it carries.
 fn instruction_length(frames: &[u8], state: &State, count: usize, at: Place) -> usize
-    requires { Drawn frames.now (startsIn state.now) count (formsIn state.now) (carryIn state.now) at.0 }
-    ensures { (result ≤ 57344) × InstrHas frames.now (startsIn state.now) count (formsIn state.now)
-        (carryIn state.now) (ownersIn state.now) at.0 result }
+    requires { Drawn frames.now (starts_in state.now) count (forms_in state.now) (carry_in state.now) at.0 }
+    ensures { (result ≤ 57344) × InstrHas frames.now (starts_in state.now) count (forms_in state.now)
+        (carry_in state.now) (owners_in state.now) at.0 result }
 {
     let i = at.0;
     let frame = frame_at(frames, state, count, at);
@@ -59,11 +59,11 @@ fn instruction_length(frames: &[u8], state: &State, count: usize, at: Place) -> 
 
 // How many characters the line of a slot has, with its line feed; 0 where the slot is gone.
 pub fn line_length_at(marked: bool, frames: &[u8], state: &State, count: usize, at: Place) -> usize
-    requires { SoundWithout frames.now (startsIn state.now) count (formsIn state.now) (carryIn state.now) (ownersIn
+    requires { SoundWithout frames.now (starts_in state.now) count (forms_in state.now) (carry_in state.now) (owners_in
         state.now) × (at.0 < count) }
-    ensures { (result ≤ 114697) × LineHas (form_of marked) frames.now (startsIn state.now) count (formsIn
+    ensures { (result ≤ 114697) × LineHas (form_of marked) frames.now (starts_in state.now) count (forms_in
         state.now)
-        (carryIn state.now) (ownersIn state.now) at.0 result }
+        (carry_in state.now) (owners_in state.now) at.0 result }
 {
     let b = line_bytes(marked);
     match slot_at(frames, state, count, at) {
@@ -85,10 +85,10 @@ pub fn mark_length(marked: bool) -> usize
 
 // How many characters the text has.
 pub fn text_length(marked: bool, frames: &[u8], state: &State, count: usize) -> usize
-    requires { SoundWithout frames.now (startsIn state.now) count (formsIn state.now) (carryIn state.now) (ownersIn
+    requires { SoundWithout frames.now (starts_in state.now) count (forms_in state.now) (carry_in state.now) (owners_in
         state.now) }
-    ensures { TextHas (form_of marked) frames.now (startsIn state.now) count (formsIn state.now)
-        (carryIn state.now) (ownersIn state.now) result }
+    ensures { TextHas (form_of marked) frames.now (starts_in state.now) count (forms_in state.now)
+        (carry_in state.now) (owners_in state.now) result }
 {
     let mut n = mark_length(marked);
     let mut i = 0;

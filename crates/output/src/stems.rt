@@ -3,7 +3,7 @@ ghost use Rattle.std.specs.Prelude.{◌≡◌, ◌+◌, ◌*◌, ◌≤◌, ◌<
 ghost use Rattle.rules.specs.Expressions.{pair};
 ghost use Rattle.rules.specs.Run.{front};
 ghost use Rattle.digits.specs.Digits.{laid};
-ghost use Rattle.slots.specs.State.{formsIn};
+ghost use Rattle.slots.specs.State.{forms_in};
 ghost use Rattle.output.specs.Stems.{kept_to, list_of};
 
 use rules::Place;
@@ -12,7 +12,7 @@ use slots::{State, is_gone};
 // How many slots are left: as many entries has the list.
 pub fn count_stems(count: usize, state: &State) -> usize
     requires { count ≤ 1024 }
-    ensures { result ≡ length (kept_to (formsIn state.now) count) }
+    ensures { result ≡ length (kept_to (forms_in state.now) count) }
 {
     let mut n = 0;
     let mut i = 0;
@@ -36,8 +36,8 @@ fn put_entry(list: &mut [u8], at: usize, i: usize)
 
 // The places of the slots that are left, at the front of the list; how many they are.
 pub fn write_stems(count: usize, state: &State, list: &mut [u8]) -> usize
-    requires { (count ≤ 1024) × (2 * length (kept_to (formsIn state.now) count) ≤ length list.old) }
-    ensures { let left = kept_to (formsIn state.now) count in
+    requires { (count ≤ 1024) × (2 * length (kept_to (forms_in state.now) count) ≤ length list.old) }
+    ensures { let left = kept_to (forms_in state.now) count in
         (list.new ≡ front (list_of left) list.old) × (result ≡ length left) }
 {
     let mut n = 0;

@@ -1,18 +1,18 @@
 // The lines of the slots, one behind the other: each piece is stored where the one before ended, and its function returns where it ends.
 ghost use Rattle.std.specs.Prelude.{◌≡◌, true, List, ◌∷◌, [], ℕ, ◌+◌, ◌*◌, ◌<◌, ◌≤◌, length, get_or};
 ghost use Rattle.rules.specs.Expressions.{four};
-ghost use Rattle.rules.specs.Forms.{isTransfer};
-ghost use Rattle.rules.specs.Listing.{lineBytes};
+ghost use Rattle.rules.specs.Forms.{is_transfer};
+ghost use Rattle.rules.specs.Listing.{line_bytes};
 ghost use Rattle.rules.specs.Output.{mark_of};
 ghost use Rattle.rules.specs.Run.{front};
 ghost use Rattle.listing.specs.Form.{form_of};
 ghost use Rattle.listing.specs.Tables.{Noted, Held};
 ghost use Rattle.slots.specs.Slots.{Slots, slots, InstrIn, Sound};
-ghost use Rattle.digits.specs.Digits.{hexOf, laid};
+ghost use Rattle.digits.specs.Digits.{hex_of, laid};
 ghost use Rattle.output.specs.Digits.{Put};
-ghost use Rattle.output.specs.Lines.{line_at, listingOf, besideIn, sourced, ownEnd, ownBytes, targetBytes, instrBytes, bytes_at};
+ghost use Rattle.output.specs.Lines.{line_at, listing_of, beside_in, sourced, own_end, own_bytes, target_bytes, instr_bytes, bytes_at};
 ghost use Rattle.output.specs.Lines.{InstrAt, Drawn, NumberLow, Positioned};
-ghost use Rattle.slots.specs.State.{startsIn, formsIn, carryIn, ownersIn, offsetsIn, table_of};
+ghost use Rattle.slots.specs.State.{starts_in, forms_in, carry_in, owners_in, offsets_in, table_of};
 
 use crate::lines::own_end;
 use crate::low_byte;
@@ -27,7 +27,7 @@ use slots::{
 // A byte, and the four bytes of a number behind it, high byte first.
 fn put_five(out: &mut [u8], at: usize, first: u8, n: u32)
     requires { at + 10 ≤ length out.old }
-    ensures { out.new ≡ laid out.old at (hexOf (first ∷ four n)) }
+    ensures { out.new ≡ laid out.old at (hex_of (first ∷ four n)) }
 {
     let bytes = [
         first,
@@ -42,14 +42,14 @@ fn put_five(out: &mut [u8], at: usize, first: u8, n: u32)
 // A plain number: 00 and its four bytes.
 fn put_number(out: &mut [u8], at: usize, n: u32)
     requires { at + 10 ≤ length out.old }
-    ensures { out.new ≡ laid out.old at (hexOf (0 ∷ four n)) }
+    ensures { out.new ≡ laid out.old at (hex_of (0 ∷ four n)) }
 {
     put_five(out, at, 0, n);
 }
 
 // C-20: the source line n behind the kind, where the listing has the new form.
 fn put_source(marked: bool, kind: u8, n: u32, out: &mut [u8], at: usize)
-    requires { at + (2 + 2 * lineBytes (form_of marked)) ≤ length out.old }
+    requires { at + (2 + 2 * line_bytes (form_of marked)) ≤ length out.old }
     ensures { out.new ≡ sourced (form_of marked) kind n out.old at }
 {
     if !marked {
@@ -74,12 +74,12 @@ fn put_target(
     out: &mut [u8],
     at: usize,
 ) -> usize
-    requires { let target : List ℕ = targetBytes frames.now (startsIn state.now) (ownersIn state.now) (offsetsIn state.now)
+    requires { let target : List ℕ = target_bytes frames.now (starts_in state.now) (owners_in state.now) (offsets_in state.now)
         positions.now from.0 in
-        Held frames.now (startsIn state.now) count × InstrAt frames.now (startsIn state.now) count from.0
-        × NumberLow (ownersIn state.now) positions.now from.0 × (at + 2 * length target ≤ length out.old) }
-    ensures { let target : List ℕ = targetBytes frames.now (startsIn state.now) (ownersIn state.now)
-        (offsetsIn state.now) positions.now from.0 in
+        Held frames.now (starts_in state.now) count × InstrAt frames.now (starts_in state.now) count from.0
+        × NumberLow (owners_in state.now) positions.now from.0 × (at + 2 * length target ≤ length out.old) }
+    ensures { let target : List ℕ = target_bytes frames.now (starts_in state.now) (owners_in state.now)
+        (offsets_in state.now) positions.now from.0 in
         Put out.old at target out.new result }
 {
     let c = from.0;
@@ -96,9 +96,9 @@ fn put_target(
 
 // What is an instruction's own: the kind, its form, and the operands before the target. `place` is the frame's place.
 fn put_own(frame: &[u8], state: &State, place: Place, form: u8, out: &mut [u8], at: usize) -> usize
-    requires { InstrIn place.0 frame.now × (at + 2 * ownEnd frame.now ≤ length out.old)
-        × (place.0 < 1024) × Noted (startsIn state.now) place.0 frame.now }
-    ensures { Put out.old at (ownBytes form frame.now) out.new result }
+    requires { InstrIn place.0 frame.now × (at + 2 * own_end frame.now ≤ length out.old)
+        × (place.0 < 1024) × Noted (starts_in state.now) place.0 frame.now }
+    ensures { Put out.old at (own_bytes form frame.now) out.new result }
 {
     let e = own_end(frame, state, place);
     put_byte(out, at, 1);
@@ -118,12 +118,12 @@ fn put_instruction(
     at: usize,
 ) -> usize
     requires { let t : Slots = table_of frames.now state.now count in
-        Drawn frames.now (startsIn state.now) count (formsIn state.now) (carryIn state.now) place.0
-        × (isTransfer (get_or (formsIn state.now) place.0 0) ≡ true → NumberLow (ownersIn state.now) positions.now (get_or
-        (carryIn state.now) place.0 0))
-        × (at + 2 * length (instrBytes t positions.now place.0) ≤ length out.old) }
+        Drawn frames.now (starts_in state.now) count (forms_in state.now) (carry_in state.now) place.0
+        × (is_transfer (get_or (forms_in state.now) place.0 0) ≡ true → NumberLow (owners_in state.now) positions.now (get_or
+        (carry_in state.now) place.0 0))
+        × (at + 2 * length (instr_bytes t positions.now place.0) ≤ length out.old) }
     ensures { let t : Slots = table_of frames.now state.now count in
-        Put out.old at (instrBytes t positions.now place.0) out.new result }
+        Put out.old at (instr_bytes t positions.now place.0) out.new result }
 {
     let i = place.0;
     let form = form_in(state, place);
@@ -224,9 +224,9 @@ pub fn write_text(
 )
     requires { let t : Slots = table_of frames.now state.now count in
         Sound t × Positioned t positions.now
-        × (length (listingOf (besideIn marked lines.now count) t) ≤ length out.old) }
+        × (length (listing_of (beside_in marked lines.now count) t) ≤ length out.old) }
     ensures { let t : Slots = table_of frames.now state.now count in
-        out.new ≡ front (listingOf (besideIn marked lines.now count) t) out.old }
+        out.new ≡ front (listing_of (beside_in marked lines.now count) t) out.old }
 {
     let first = put_mark(marked, out);
     let mut at = first;

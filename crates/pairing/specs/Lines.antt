@@ -3,21 +3,21 @@ use Rattle.std.specs.Prelude.{◌≡◌, true, List, [], map, ℕ, suc, ◌+◌,
 use Rattle.laws.specs.Lists.{every}
 use Rattle.rules.specs.Answers.{Judged, ok, no}
 use Rattle.rules.specs.Programs.{Placeℕ, Program}
-use Rattle.rules.specs.Listing.{lines_of, statementLines, isDigit}
-use Rattle.listing.specs.Form.{afterMark}
+use Rattle.rules.specs.Listing.{lines_of, statement_lines, is_digit}
+use Rattle.listing.specs.Form.{after_mark}
 use Rattle.pairing.specs.declared.lines.Counted.{Counted}
 use Rattle.pairing.specs.declared.lines.Counted.TheVariants.{Are, Refused}
 
 -- the characters of the lines that are statements
-unfoldable pub charsOf : (text : List ℕ) → List (List ℕ)
-charsOf text = map (λ l. l.chars) (statementLines (lines_of text))
+unfoldable pub chars_of : (text : List ℕ) → List (List ℕ)
+chars_of text = map (λ l. l.chars) (statement_lines (lines_of text))
 
-abbrev pub lineIn : (text : List ℕ) (i : Placeℕ) → List ℕ
-lineIn text i = get_or (charsOf text) i []
+abbrev pub line_in : (text : List ℕ) (i : Placeℕ) → List ℕ
+line_in text i = get_or (chars_of text) i []
 
 -- digit pairs, no more than a frame may have
 pub record Written (line : List ℕ) : Type 0 where
-  pub digits : every (λ c. isDigit c) line ≡ true
+  pub digits : every (λ c. is_digit c) line ≡ true
   pub even : length line % 2 ≡ 0
   pub short : length line ≤ 248
 
@@ -29,7 +29,7 @@ pub record LineAt (text starts : List ℕ) (i : Placeℕ) (l : List ℕ) : Type 
 
 -- where the first line begins that is a statement: behind the line that marks the form
 abbrev pub FirstAt : (text : List ℕ) (at : ℕ) → Type 0
-FirstAt text at = (drop at text ≡ afterMark text) × (at ≤ length text) × (at ≤ 5)
+FirstAt text at = (drop at text ≡ after_mark text) × (at ≤ length text) × (at ≤ 5)
 
 -- how many statements were read
 abbrev pub CountedAs : Counted → Judged Program → Type 0
@@ -40,8 +40,8 @@ CountedAs (Refused q) (no r) = q ≡ r
 
 -- an accepted listing of n statements, and where each of its lines begins
 pub record Lined (text starts : List ℕ) (n : ℕ) : Type 0 where
-  pub count : n ≡ length (charsOf text)
+  pub count : n ≡ length (chars_of text)
   pub few : n ≤ 1024
   pub begins : get_or starts 0 0 ≤ 5
-  pub lines : (i : Placeℕ) → i < n → LineAt text starts i (lineIn text i)
-  pub written : (i : Placeℕ) → i < n → Written (lineIn text i)
+  pub lines : (i : Placeℕ) → i < n → LineAt text starts i (line_in text i)
+  pub written : (i : Placeℕ) → i < n → Written (line_in text i)

@@ -3,7 +3,7 @@ use Rattle.std.specs.Prelude.{List, [], ◌∷◌, ◌++◌, map, reverse, ◌&&
 use Rattle.std.proofs.Math.Option.{Option, none, some}
 use Rattle.laws.specs.Lists.{same}
 use Rattle.rules.specs.Programs.{Placeℕ}
-use Rattle.rules.specs.Listing.{lines_of, statementLines, unhex}
+use Rattle.rules.specs.Listing.{lines_of, statement_lines, unhex}
 
 -- a frame's bytes, its source line among them, and the frames of a listing
 abbrev pub Frame : Type 0
@@ -12,8 +12,8 @@ Frame = List ℕ
 abbrev pub Frames : Type 0
 Frames = List Frame
 
-unfoldable pub framesOf : (text : List ℕ) → Frames
-framesOf text = map (λ l. unhex l.chars) (statementLines (lines_of text))
+unfoldable pub frames_of : (text : List ℕ) → Frames
+frames_of text = map (λ l. unhex l.chars) (statement_lines (lines_of text))
 
 -- places of the first and of the second listing
 pub record Pair : Type 0 where
@@ -24,25 +24,25 @@ pub record Pair : Type 0 where
 -- statement i)"
 
 -- two bytes an entry, high byte first. An entry that is cut short names no statement: it lies beyond every listing
-unfoldable pub entriesOf : (pairing : List ℕ) → List Placeℕ
-entriesOf [] = []
-entriesOf (b ∷ []) = 65536 ∷ []
-entriesOf (high ∷ low ∷ s) = (high * 256 + low) ∷ entriesOf s
+unfoldable pub entries_of : (pairing : List ℕ) → List Placeℕ
+entries_of [] = []
+entries_of (b ∷ []) = 65536 ∷ []
+entries_of (high ∷ low ∷ s) = (high * 256 + low) ∷ entries_of s
 
 -- the pairs of a list of entries, the first of which pairs the second's statement j
-unfoldable pub pairsFrom : (j : Placeℕ) → List Placeℕ → List Pair
-pairsFrom j [] = []
-pairsFrom j (i ∷ is) = record { first = i; second = j } ∷ pairsFrom (suc j) is
+unfoldable pub pairs_from : (j : Placeℕ) → List Placeℕ → List Pair
+pairs_from j [] = []
+pairs_from j (i ∷ is) = record { first = i; second = j } ∷ pairs_from (suc j) is
 
 -- "13 for a pairing out of order, repeated or beyond a listing": each entry is at `low` or above, which is one above the entry before
 -- it, and below the first listing's count n; and there are no more entries than statements, m, in the second. So many entries are good,
 -- up to the first that is not
-unfoldable pub goodFrom : (n m : ℕ) (low j : Placeℕ) → List Placeℕ → ℕ
-goodFrom n m low j [] = 0
-goodFrom n m low j (i ∷ is) = cond (leb low i && (ltb i n && ltb j m)) (suc (goodFrom n m (suc i) (suc j) is)) 0
+unfoldable pub good_from : (n m : ℕ) (low j : Placeℕ) → List Placeℕ → ℕ
+good_from n m low j [] = 0
+good_from n m low j (i ∷ is) = cond (leb low i && (ltb i n && ltb j m)) (suc (good_from n m (suc i) (suc j) is)) 0
 
-unfoldable pub goodEntries : (n m : ℕ) → List Placeℕ → ℕ
-goodEntries n m is = goodFrom n m 0 0 is
+unfoldable pub good_entries : (n m : ℕ) → List Placeℕ → ℕ
+good_entries n m is = good_from n m 0 0 is
 
 -- ---- "Without one, the longest common beginning is paired, then the longest common end of the rest; the middle is removed and added."
 
@@ -64,15 +64,15 @@ unfoldable pub run_of : (n : ℕ) (i j : Placeℕ) → List Pair
 run_of zero i j = []
 run_of (suc n) i j = record { first = i; second = j } ∷ run_of n (suc i) (suc j)
 
-unfoldable pub defaultPairs : Frames → Frames → List Pair
-defaultPairs a b = run_of (beginning a b) 0 0 ++ run_of (ending a b) (length a - ending a b) (length b - ending a b)
+unfoldable pub default_pairs : Frames → Frames → List Pair
+default_pairs a b = run_of (beginning a b) 0 0 ++ run_of (ending a b) (length a - ending a b) (length b - ending a b)
 
 -- ---- with a pairing or without: an empty one is a pairing, in which nothing is paired
 
-abbrev pub entriesIn : (pairing : Option (List ℕ)) → List Placeℕ
-entriesIn none = []
-entriesIn (some s) = entriesOf s
+abbrev pub entries_in : (pairing : Option (List ℕ)) → List Placeℕ
+entries_in none = []
+entries_in (some s) = entries_of s
 
-abbrev pub pairsOf : Frames → Frames → (pairing : Option (List ℕ)) → List Pair
-pairsOf a b none = defaultPairs a b
-pairsOf a b (some s) = pairsFrom 0 (entriesOf s)
+abbrev pub pairs_of : Frames → Frames → (pairing : Option (List ℕ)) → List Pair
+pairs_of a b none = default_pairs a b
+pairs_of a b (some s) = pairs_from 0 (entries_of s)

@@ -6,5 +6,5 @@ use Rattle.pairing.specs.Pairings.{Pair}
 abbrev pub pair_at : (pairs : List ℕ) (k : ℕ) → Pair
 pair_at pairs k = record { first = get_or pairs k 0; second = get_or pairs (1024 + k) 0 }
 
-unfoldable pub pairsIn : (pairs : List ℕ) (count : ℕ) → List Pair
-pairsIn pairs count = tab (pair_at pairs) count
+unfoldable pub pairs_in : (pairs : List ℕ) (count : ℕ) → List Pair
+pairs_in pairs count = tab (pair_at pairs) count

@@ -1,9 +1,9 @@
 // Without a list: the lines that both listings begin with are paired, then those that the rest of both ends with.
 ghost use Rattle.std.specs.Prelude.{◌≡◌, [], ◌++◌, ◌+◌, ◌≤◌, ◌<◌, length, get_or};
 ghost use Rattle.laws.specs.Lists.{same};
-ghost use Rattle.pairing.specs.Pairings.{framesOf, beginning, ending, run_of, defaultPairs};
+ghost use Rattle.pairing.specs.Pairings.{frames_of, beginning, ending, run_of, default_pairs};
 ghost use Rattle.pairing.specs.Lines.{Lined};
-ghost use Rattle.pairing.specs.Tables.{pairsIn};
+ghost use Rattle.pairing.specs.Tables.{pairs_in};
 
 use crate::lines::{line_at, same_bytes};
 
@@ -19,7 +19,7 @@ fn same_frame(
     j: usize,
 ) -> bool
     requires { Lined first.now firsts.now n × Lined second.now seconds.now m × (i < n) × (j < m) }
-    ensures { result ≡ same (get_or (framesOf first.now) i []) (get_or (framesOf second.now) j []) }
+    ensures { result ≡ same (get_or (frames_of first.now) i []) (get_or (frames_of second.now) j []) }
 {
     same_bytes(line_at(first, firsts, n, i), line_at(second, seconds, m, j))
 }
@@ -34,7 +34,7 @@ fn alike_first(
     m: usize,
 ) -> usize
     requires { Lined first.now firsts.now n × Lined second.now seconds.now m }
-    ensures { (result ≡ beginning (framesOf first.now) (framesOf second.now)) × (result ≤ n) × (result ≤ m) }
+    ensures { (result ≡ beginning (frames_of first.now) (frames_of second.now)) × (result ≤ n) × (result ≤ m) }
 {
     let mut k = 0;
     while k < n {
@@ -60,8 +60,8 @@ fn alike_last(
     b: usize,
 ) -> usize
     requires { Lined first.now firsts.now n × Lined second.now seconds.now m
-        × (b ≡ beginning (framesOf first.now) (framesOf second.now)) × (b ≤ n) × (b ≤ m) }
-    ensures { (result ≡ ending (framesOf first.now) (framesOf second.now)) × (b + result ≤ n) × (b + result ≤ m) }
+        × (b ≡ beginning (frames_of first.now) (frames_of second.now)) × (b ≤ n) × (b ≤ m) }
+    ensures { (result ≡ ending (frames_of first.now) (frames_of second.now)) × (b + result ≤ n) × (b + result ≤ m) }
 {
     let mut k = 0;
     while b + k < n {
@@ -79,7 +79,7 @@ fn alike_last(
 // A run of n pairs from i and j on, behind those that the table has.
 fn put_run(pairs: &mut [usize; 2048], at: usize, i: usize, j: usize, n: usize)
     requires { (at + n ≤ 1024) × (i + n ≤ 1024) × (j + n ≤ 1024) × (length pairs.old ≡ 2048) }
-    ensures { (pairsIn pairs.new (at + n) ≡ pairsIn pairs.old at ++ run_of n i j)
+    ensures { (pairs_in pairs.new (at + n) ≡ pairs_in pairs.old at ++ run_of n i j)
         × (length pairs.new ≡ 2048) }
 {
     let mut k = 0;
@@ -102,7 +102,7 @@ pub fn pair_alike(
     pairs: &mut [usize; 2048],
 ) -> usize
     requires { Lined first.now firsts.now n × Lined second.now seconds.now m × (length pairs.old ≡ 2048) }
-    ensures { (pairsIn pairs.new result ≡ defaultPairs (framesOf first.now) (framesOf second.now))
+    ensures { (pairs_in pairs.new result ≡ default_pairs (frames_of first.now) (frames_of second.now))
         × (result ≤ 1024) }
 {
     let b = alike_first(first, firsts, n, second, seconds, m);

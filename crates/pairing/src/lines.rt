@@ -1,9 +1,9 @@
 // Where the lines of an accepted listing begin. A line is compared as it stands: two frames are the same where their digits are.
 ghost use Rattle.std.specs.Prelude.{◌≡◌, true, ◌≤◌, ◌<◌, length};
 ghost use Rattle.laws.specs.Lists.{same};
-ghost use Rattle.rules.specs.Answers.{isOk};
-ghost use Rattle.rules.specs.Listing.{readListing};
-ghost use Rattle.pairing.specs.Lines.{charsOf, lineIn, FirstAt, CountedAs, Lined};
+ghost use Rattle.rules.specs.Answers.{is_ok};
+ghost use Rattle.rules.specs.Listing.{read_listing};
+ghost use Rattle.pairing.specs.Lines.{chars_of, line_in, FirstAt, CountedAs, Lined};
 
 use listing::{Listed, new_form, read_listing, take_line};
 use rules::Refusal;
@@ -16,7 +16,7 @@ pub enum Counted {
 }
 
 pub fn statements_of(text: &[u8]) -> Counted
-    ensures { CountedAs result (readListing text.now) }
+    ensures { CountedAs result (read_listing text.now) }
 {
     let mut frames = [0u8; 28672];
     let mut starts = [0u16; 4100];
@@ -39,7 +39,7 @@ fn first_line(text: &[u8]) -> usize
 
 // Where each line begins, and behind the last one the end of the text.
 pub fn find_lines(text: &[u8], n: usize, starts: &mut [usize; 1025])
-    requires { (isOk (readListing text.now) ≡ true) × (n ≡ length (charsOf text.now)) × (length starts.old ≡ 1025) }
+    requires { (is_ok (read_listing text.now) ≡ true) × (n ≡ length (chars_of text.now)) × (length starts.old ≡ 1025) }
     ensures { Lined text.now starts.new n }
 {
     let first = first_line(text);
@@ -57,7 +57,7 @@ pub fn find_lines(text: &[u8], n: usize, starts: &mut [usize; 1025])
 // Line i as it stands in the text.
 pub fn line_at<'a>(text: &'a [u8], starts: &[usize; 1025], n: usize, i: usize) -> &'a [u8]
     requires { Lined text.now starts.now n × (i < n) }
-    ensures { result.now ≡ lineIn text.now i }
+    ensures { result.now ≡ line_in text.now i }
 {
     let from = starts[i];
     let to = starts[i + 1] - 1;

@@ -6,23 +6,23 @@ use Prim.Native.Nat.{ℕ, ◌+◌}
 use Prim.Native.String.{String}
 use lib.Dec.{T, eqb}
 use lib.ListN.{drop, get_or}
-use Rattle.laws.specs.Lists.{same, isOneOf}
+use Rattle.laws.specs.Lists.{same, is_one_of}
 use Rattle.rules.specs.declared.Settings.{Settings}
-use Rattle.rules.specs.Settings.{byDefault, asDocument01}
+use Rattle.rules.specs.Settings.{by_default, as_document01}
 use Rattle.rules.specs.Forms.{branches}
 use Rattle.rules.specs.Programs.{Program}
-use Rattle.rules.specs.Listing.{readListing}
+use Rattle.rules.specs.Listing.{read_listing}
 use Rattle.rules.proofs.Computed.{lines, freely}
-use Rattle.promises.specs.Demand2.{outputProgram, ownFrom}
-use Rattle.walk.specs.SameWalk.{stemOf}
-use Rattle.paths.specs.Walk.{class, plainForm, takenOn, Event, event, Oracle, unreturned, Walk, codeFrom, code_at, namesBefore, labelNames, isClouded, meets, run, walk}
+use Rattle.promises.specs.Demand2.{output_program, own_from}
+use Rattle.walk.specs.SameWalk.{stem_of}
+use Rattle.paths.specs.Walk.{class, plain_form, taken_on, Event, event, Oracle, unreturned, Walk, code_from, code_at, names_before, label_names, is_clouded, meets, run, walk}
 use Rattle.paths.specs.SamePath.{itself}
 use Rattle.paths.proofs.Examples.{matching, number_in, code, holds_of}
 
 -- ---- a machine that keeps its stack and whose tests come out as they were recorded, one by one
 abbrev asked : List Event → ℕ
 asked [] = 0
-asked (v ∷ vs) = cond (isOneOf branches v.form) 1 0 + asked vs
+asked (v ∷ vs) = cond (is_one_of branches v.form) 1 0 + asked vs
 
 abbrev pub recorded : List Bool → Oracle
 recorded ts = record { answers = λ met. get_or ts (asked (drop 1 met)) true; returns = λ met. matching 0 0 (drop 1 met) }
@@ -100,18 +100,18 @@ courses =
     []
 
 -- all of them, of a walk for each oracle
-abbrev pub courseHolds : List Course → (Oracle → Walk) → Bool
-courseHolds [] f = true
-courseHolds (c ∷ cs) f = tells c.met (f (recorded c.tests)) && courseHolds cs f
+abbrev pub course_holds : List Course → (Oracle → Walk) → Bool
+course_holds [] f = true
+course_holds (c ∷ cs) f = tells c.met (f (recorded c.tests)) && course_holds cs f
 
 -- in the long routine, and in the short one with comments and without, told by stems
-trayHolds : Bool
-unfolding freely same class plainForm takenOn event codeFrom code_at meets run walk outputProgram ownFrom namesBefore labelNames isClouded tray courses
-trayHolds = holds_of (λ p. courseHolds courses (λ o. walk o itself 60 p 0) && (shows asDocument01 p && shows byDefault p)) (readListing (lines tray))
+tray_holds : Bool
+unfolding freely same class plain_form taken_on event code_from code_at meets run walk output_program own_from names_before label_names is_clouded tray courses
+tray_holds = holds_of (λ p. course_holds courses (λ o. walk o itself 60 p 0) && (shows as_document01 p && shows by_default p)) (read_listing (lines tray))
   where
     shows : Settings → Program → Bool
-    shows asked p = courseHolds courses (λ o. walk o (stemOf asked p) 60 (ownFrom 0 (outputProgram asked p)) 0)
+    shows asked p = course_holds courses (λ o. walk o (stem_of asked p) 60 (own_from 0 (output_program asked p)) 0)
 
-tray-walks : T trayHolds
-unfolding trayHolds
-tray-walks = tt
+tray_walks : T tray_holds
+unfolding tray_holds
+tray_walks = tt

@@ -37,12 +37,12 @@ woven walks o plan [] = handled walks o (plan []) []
 woven walks o plan (v ∷ met) = let history : List Event = v ∷ woven walks o plan met in handled walks o (plan history) history
 
 -- the oracle as it answers the program between its interrupts: it sees them all
-abbrev pub seenWith : Walks → Oracle → Plan → (met : List Event) → List Event
-seenWith walks o plan [] = []
-seenWith walks o plan (v ∷ met) = v ∷ woven walks o plan met
+abbrev pub seen_with : Walks → Oracle → Plan → (met : List Event) → List Event
+seen_with walks o plan [] = []
+seen_with walks o plan (v ∷ met) = v ∷ woven walks o plan met
 
 abbrev pub between : Walks → Oracle → Plan → Oracle
-between walks o plan = record { answers = λ met. o.answers (seenWith walks o plan met); returns = λ met. o.returns (seenWith walks o plan met) }
+between walks o plan = record { answers = λ met. o.answers (seen_with walks o plan met); returns = λ met. o.returns (seen_with walks o plan met) }
 
 -- a walk from address a with interrupts; steps are counted of the program
 abbrev pub interrupted : Walks → Plan → (a : Addressℕ) → Oracle → ℕ → Walk
@@ -55,8 +55,8 @@ Return p walks o (i ∷ is) history =
     ((g : Placeℕ) × (at p g ≡ org i.location)) × ((handler walks o i history).ending ≡ unreturned) × Return p walks o is ((handler walks o i history).met ++ history)
 
 -- the walks of a program, told by `tell`
-abbrev pub walksOf : (tell : Placeℕ → Placeℕ) → Program → Walks
-walksOf tell p a o n = walk o tell n p a
+abbrev pub walks_of : (tell : Placeℕ → Placeℕ) → Program → Walks
+walks_of tell p a o n = walk o tell n p a
 
 -- of a program p and its output q: whatever interrupts come behind whatever is met, if their handlers return in p they do in q, and both walk alike
 pub record SameInterrupted (p : Program) (long short : Walks) (starts : (a b : Addressℕ) → Type 0) : Type 0 where

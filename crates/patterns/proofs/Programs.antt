@@ -8,23 +8,23 @@ use native.Mathlib.Omega.{arith}
 use lib.ListN.{length}
 use types.Run.{OneOf}
 use Rattle.laws.specs.Counts.{scan}
-use Rattle.laws.proofs.Counts.{length-tab, getD-tab, scan-bound}
-use Rattle.laws.proofs.Stores.{get-out}
+use Rattle.laws.proofs.Counts.{length_tab, get_or_tab, scan_bound}
+use Rattle.laws.proofs.Stores.{get_out}
 use Rattle.rules.specs.Programs.{gone, at}
 use Rattle.rules.specs.Rewriting.{insignificant, next}
 use Rattle.slots.specs.Slots.{Slots, slot_at, program_of}
 
 module _ (t : Slots) where
-  pub length-program : length (program_of t) ≡ t.count
+  pub length_program : length (program_of t) ≡ t.count
   unfolding program_of
-  length-program = length-tab (slot_at t) t.count
+  length_program = length_tab (slot_at t) t.count
 
-  pub at-program : (i : ℕ) → i < t.count → at (program_of t) i ≡ slot_at t i
+  pub at_program : (i : ℕ) → i < t.count → at (program_of t) i ≡ slot_at t i
   unfolding program_of
-  at-program i l = getD-tab (slot_at t) t.count i gone l
+  at_program i l = get_or_tab (slot_at t) t.count i gone l
 
-  pub past-program : (i : ℕ) → t.count ≤ i → at (program_of t) i ≡ gone
-  past-program i l = get-out (program_of t) i gone (omega (arith, length-program))
+  pub past_program : (i : ℕ) → t.count ≤ i → at (program_of t) i ≡ gone
+  past_program i l = get_out (program_of t) i gone (omega (arith, length_program))
 
 -- what is the same for every number of a list is so for one of them: joined arms of a match
 pub joined : {A : Type 0} (f : ℕ → A) (y : A) (ks : List ℕ) (n : ℕ) → OneOf ks n → map f ks ≡ map (λ k. y) ks → f n ≡ y
@@ -37,15 +37,15 @@ joined f y (k ∷ l ∷ ks) n h e =
 
 -- ---- the search for the next significant place, which stands at j
 module _ (t : Slots) where
-  abbrev pub significantAt : (j : ℕ) → Bool
-  significantAt j = not (insignificant (at (program_of t) j))
+  abbrev pub significant_at : (j : ℕ) → Bool
+  significant_at j = not (insignificant (at (program_of t) j))
 
-  pub next-starts : (i : ℕ) → next (program_of t) i ≡ scan significantAt (t.count - i) i
+  pub next_starts : (i : ℕ) → next (program_of t) i ≡ scan significant_at (t.count - i) i
   unfolding next
-  next-starts i = rw (length-program t)
+  next_starts i = rw (length_program t)
 
-  pub next-within : (i : ℕ) → i ≤ t.count → (i ≤ next (program_of t) i) × (next (program_of t) i ≤ t.count)
-  next-within i l =
-      let b = scan-bound significantAt (t.count - i) i in
-      let e = next-starts i in
+  pub next_within : (i : ℕ) → i ≤ t.count → (i ≤ next (program_of t) i) × (next (program_of t) i ≤ t.count)
+  next_within i l =
+      let b = scan_bound significant_at (t.count - i) i in
+      let e = next_starts i in
       (omega (arith, b.0), omega (arith, b.1))

@@ -15,9 +15,9 @@ unfoldable pub label_at : Slots → (i : Placeℕ) → InnerLabel
 label_at t i = label_of (last_of (args_of (slot_at t i)))
 
 -- a test of an inner label by its owner's place and its offset; where there is none it is passed
-abbrev pub ofLabel : (Placeℕ → ℕ → Bool) → InnerLabel → Bool
-ofLabel f (Of i o) = f i.0 o
-ofLabel f Nothing = true
+abbrev pub of_label : (Placeℕ → ℕ → Bool) → InnerLabel → Bool
+of_label f (Of i o) = f i.0 o
+of_label f Nothing = true
 
 -- the owner is a statement of the program
 abbrev pub OwnerIn : (count : ℕ) → InnerLabel → Type 0

@@ -2,15 +2,15 @@
 ghost use Rattle.std.specs.Prelude.{◌≡◌, Bool, List, ℕ, ◌*◌, ◌<◌, ◌≤◌, pos, length, get_or, take, drop};
 ghost use Rattle.laws.specs.Counts.{sum_to};
 ghost use Rattle.laws.specs.Lists.{total};
-ghost use Rattle.rules.specs.Expressions.{Expr, num, mentions, readExpr, got};
-ghost use Rattle.rules.specs.Forms.{operandsAt};
-ghost use Rattle.rules.specs.Programs.{register, args_of, inOperand, overExprs, kind_of};
+ghost use Rattle.rules.specs.Expressions.{Expr, num, mentions, read_expr, got};
+ghost use Rattle.rules.specs.Forms.{operands_at};
+ghost use Rattle.rules.specs.Programs.{register, args_of, in_operand, over_exprs, kind_of};
 ghost use Rattle.expression.specs.Naming.{Referred};
 ghost use Rattle.listing.specs.Tables.{frame_at, Noted, Held};
 ghost use Rattle.slots.specs.Slots.{slots, slot_at, target_of, InstrIn, DataIn, Sound};
 ghost use Rattle.patterns.specs.Targets.{TargetIn};
-ghost use Rattle.patterns.specs.Mentions.{readAs, items_of, Short, Refers, RefersAll};
-ghost use Rattle.slots.specs.State.{startsIn, formsIn, carryIn, ownersIn};
+ghost use Rattle.patterns.specs.Mentions.{read_as, items_of, Short, Refers, RefersAll};
+ghost use Rattle.slots.specs.State.{starts_in, forms_in, carry_in, owners_in};
 
 use crate::targets::{target_in, target_links};
 use expression::count_links;
@@ -31,13 +31,13 @@ fn in_target(
     at: Place,
     place: Place,
 ) -> usize
-    requires { Held frames.now (startsIn state.now) count × TargetIn frames.now (startsIn state.now) count at.0 × (length
+    requires { Held frames.now (starts_in state.now) count × TargetIn frames.now (starts_in state.now) count at.0 × (length
         links.now ≡ 28672) }
     ensures few { result ≤ 120 }
-    ensures by_index { (f : ℕ → Bool) → Referred f (frame_at frames.now (startsIn state.now) at.0)
-        (frame_at links.now (startsIn state.now) at.0) place.0
-        → (forms carry offsets : List ℕ) → result ≡ inOperand (mentions f)
-        (target_of (slots frames.now (startsIn state.now) count forms carry (ownersIn
+    ensures by_index { (f : ℕ → Bool) → Referred f (frame_at frames.now (starts_in state.now) at.0)
+        (frame_at links.now (starts_in state.now) at.0) place.0
+        → (forms carry offsets : List ℕ) → result ≡ in_operand (mentions f)
+        (target_of (slots frames.now (starts_in state.now) count forms carry (owners_in
         state.now) offsets) at.0) }
 {
     if owner_at(state, at) < NO_OWNER {
@@ -55,7 +55,7 @@ fn in_part(frame: &[u8], links: &[u16], a: usize, place: Place) -> usize
     requires { (a ≤ length frame.now) × Short frame.now links.now }
     ensures few { result ≤ 120 }
     ensures by_index { (f : ℕ → Bool) → Referred f frame.now links.now place.0
-        → (e : Expr) (k : ℕ) → readExpr (drop a frame.now) ≡ got e k → result ≡ mentions f e }
+        → (e : Expr) (k : ℕ) → read_expr (drop a frame.now) ≡ got e k → result ≡ mentions f e }
 {
     count_links(&frame[a..], &links[a..], place.0)
 }
@@ -69,11 +69,11 @@ fn in_argument(
     j: usize,
     place: Place,
 ) -> usize
-    requires { InstrIn at.0 frame.now × (j < length (operandsAt (get_or frame.now 1 0))) × Short frame.now links.now
-        × (at.0 < 1024) × Noted (startsIn state.now) at.0 frame.now }
+    requires { InstrIn at.0 frame.now × (j < length (operands_at (get_or frame.now 1 0))) × Short frame.now links.now
+        × (at.0 < 1024) × Noted (starts_in state.now) at.0 frame.now }
     ensures few { result ≤ 120 }
     ensures by_index { (f : ℕ → Bool) → Referred f frame.now links.now place.0
-        → result ≡ inOperand (mentions f) (get_or (args_of (readAs at.0 frame.now)) j (register 0)) }
+        → result ≡ in_operand (mentions f) (get_or (args_of (read_as at.0 frame.now)) j (register 0)) }
 {
     if is_register(frame[1], j) {
         return 0;
@@ -90,11 +90,11 @@ fn in_arguments(
     m: usize,
     place: Place,
 ) -> usize
-    requires { InstrIn at.0 frame.now × (m ≤ length (operandsAt (get_or frame.now 1 0))) × Short frame.now links.now
-        × (at.0 < 1024) × Noted (startsIn state.now) at.0 frame.now }
+    requires { InstrIn at.0 frame.now × (m ≤ length (operands_at (get_or frame.now 1 0))) × Short frame.now links.now
+        × (at.0 < 1024) × Noted (starts_in state.now) at.0 frame.now }
     ensures few { result ≤ 120 * m }
     ensures by_index { (f : ℕ → Bool) → Referred f frame.now links.now place.0
-        → result ≡ total (inOperand (mentions f)) (take m (args_of (readAs at.0 frame.now))) }
+        → result ≡ total (in_operand (mentions f)) (take m (args_of (read_as at.0 frame.now))) }
 {
     let mut found = 0;
     let mut j = 0;
@@ -115,15 +115,15 @@ fn in_instruction(
     place: Place,
 ) -> usize
     requires { (at.0 < count) × (length links.now ≡ 28672) × ((offsets : List ℕ) →
-        (let t = slots frames.now (startsIn state.now) count (formsIn state.now) (carryIn state.now) (ownersIn
+        (let t = slots frames.now (starts_in state.now) count (forms_in state.now) (carry_in state.now) (owners_in
         state.now) offsets in
         Sound t × (kind_of (slot_at t at.0) ≡ 1))) }
     ensures few { result ≤ 2048 }
     ensures by_index { (f : ℕ → Bool) (offsets : List ℕ) →
-        (let t = slots frames.now (startsIn state.now) count (formsIn state.now) (carryIn
+        (let t = slots frames.now (starts_in state.now) count (forms_in state.now) (carry_in
         state.now)
-        (ownersIn state.now) offsets in
-        Refers f t links.now at.0 place.0 → result ≡ overExprs (mentions f) (slot_at t at.0)) }
+        (owners_in state.now) offsets in
+        Refers f t links.now at.0 place.0 → result ≡ over_exprs (mentions f) (slot_at t at.0)) }
 {
     let frame = frame_at(frames, state, count, at);
     let beside = links_at(links, state, at);
@@ -142,7 +142,7 @@ fn in_item(frame: &[u8], links: &[u16], j: usize, place: Place) -> usize
     ensures few { result ≤ 120 }
     ensures by_index { (i : ℕ) → DataIn i frame.now
         → (f : ℕ → Bool) → Referred f frame.now links.now place.0
-        → result ≡ mentions f (get_or (items_of (readAs i frame.now)) j (num (pos 0))) }
+        → result ≡ mentions f (get_or (items_of (read_as i frame.now)) j (num (pos 0))) }
 {
     in_part(frame, links, item_in(frame, j), place)
 }
@@ -153,7 +153,7 @@ fn in_items(frame: &[u8], links: &[u16], m: usize, place: Place) -> usize
     ensures few { result ≤ 2048 }
     ensures by_index { (i : ℕ) → DataIn i frame.now
         → (f : ℕ → Bool) → Referred f frame.now links.now place.0
-        → result ≡ overExprs (mentions f) (readAs i frame.now) }
+        → result ≡ over_exprs (mentions f) (read_as i frame.now) }
 {
     let mut found = 0;
     let mut j = 0;
@@ -174,14 +174,14 @@ fn in_statement(
     place: Place,
 ) -> usize
     requires { (at.0 < count) × (length links.now ≡ 28672)
-        × ((offsets : List ℕ) → Sound (slots frames.now (startsIn state.now) count (formsIn state.now) (carryIn state.now)
-        (ownersIn state.now) offsets)) }
+        × ((offsets : List ℕ) → Sound (slots frames.now (starts_in state.now) count (forms_in state.now) (carry_in state.now)
+        (owners_in state.now) offsets)) }
     ensures few { result ≤ 2048 }
     ensures by_index { (f : ℕ → Bool) (offsets : List ℕ) →
-        (let t = slots frames.now (startsIn state.now) count (formsIn state.now) (carryIn
+        (let t = slots frames.now (starts_in state.now) count (forms_in state.now) (carry_in
         state.now)
-        (ownersIn state.now) offsets in
-        Refers f t links.now at.0 place.0 → result ≡ overExprs (mentions f) (slot_at t at.0)) }
+        (owners_in state.now) offsets in
+        Refers f t links.now at.0 place.0 → result ≡ over_exprs (mentions f) (slot_at t at.0)) }
 {
     match slot_at(frames, state, count, at) {
         Slot::Gone => 0,
@@ -213,13 +213,13 @@ pub fn references(
     place: Place,
 ) -> usize
     requires { (length links.now ≡ 28672)
-        × ((offsets : List ℕ) → Sound (slots frames.now (startsIn state.now) count (formsIn state.now) (carryIn state.now)
-        (ownersIn state.now) offsets)) }
+        × ((offsets : List ℕ) → Sound (slots frames.now (starts_in state.now) count (forms_in state.now) (carry_in state.now)
+        (owners_in state.now) offsets)) }
     ensures { (F : ℕ → ℕ → Bool) (offsets : List ℕ) →
-        (let t = slots frames.now (startsIn state.now) count (formsIn state.now) (carryIn
+        (let t = slots frames.now (starts_in state.now) count (forms_in state.now) (carry_in
         state.now)
-        (ownersIn state.now) offsets in
-        RefersAll F t links.now place.0 → result ≡ sum_to (λ j. overExprs (mentions (F j)) (slot_at t j)) count) }
+        (owners_in state.now) offsets in
+        RefersAll F t links.now place.0 → result ≡ sum_to (λ j. over_exprs (mentions (F j)) (slot_at t j)) count) }
 {
     let mut found = 0;
     let mut j = 0;

@@ -1,11 +1,11 @@
 // Inner labels: the one that a target is, and tests of all of them.
 ghost use Rattle.std.specs.Prelude.{◌≡◌, ◌&&◌, not, List, ℕ, ◌<◌, eqb, leb, ltb};
-ghost use Rattle.rules.specs.Layout.{sizeIn};
-ghost use Rattle.rules.specs.Rewriting.{everyInnerLabel, noInnerLabelBetween, noInteriorLabelAt};
+ghost use Rattle.rules.specs.Layout.{size_in};
+ghost use Rattle.rules.specs.Rewriting.{every_inner_label, no_inner_label_between, no_interior_label_at};
 ghost use Rattle.listing.specs.Tables.{Held};
 ghost use Rattle.slots.specs.Slots.{slots, program_of, Positioned, Sound};
-ghost use Rattle.patterns.specs.Labels.{label_at, ofLabel, OwnerIn};
-ghost use Rattle.slots.specs.State.{startsIn, formsIn, table_of};
+ghost use Rattle.patterns.specs.Labels.{label_at, of_label, OwnerIn};
+ghost use Rattle.slots.specs.State.{starts_in, forms_in, table_of};
 
 use crate::InnerLabel;
 use crate::targets::form_at;
@@ -32,7 +32,7 @@ pub fn inner_label_at(frames: &[u8], state: &State, count: usize, at: Place) -> 
 
 // Not right before an owner from i + 1 to m.
 fn is_outside(label: InnerLabel, i: Place, m: Place) -> bool
-    ensures { result ≡ ofLabel (λ owner o. not (ltb i.0 owner && leb owner m.0)) label }
+    ensures { result ≡ of_label (λ owner o. not (ltb i.0 owner && leb owner m.0)) label }
 {
     match label {
         InnerLabel::Of(owner, _) => { if i.0 < owner.0 { m.0 < owner.0 } else { true } }
@@ -50,7 +50,7 @@ pub fn no_inner_label_between(
 ) -> bool
     requires { Sound (table_of frames.now state.now count) }
     ensures { let p = program_of (table_of frames.now state.now count) in
-        result ≡ noInnerLabelBetween p i.0 m.0 }
+        result ≡ no_inner_label_between p i.0 m.0 }
 {
     let mut j = 0;
     while j < count {
@@ -65,7 +65,7 @@ pub fn no_inner_label_between(
 
 // Not of offset 1 or more in the run right before place i.
 fn is_not_interior(label: InnerLabel, i: Place) -> bool
-    ensures { result ≡ ofLabel (λ owner o. not (eqb owner i.0 && leb 1 o)) label }
+    ensures { result ≡ of_label (λ owner o. not (eqb owner i.0 && leb 1 o)) label }
 {
     match label {
         InnerLabel::Of(owner, offset) => { if owner.0 == i.0 { offset < 1 } else { true } }
@@ -77,7 +77,7 @@ fn is_not_interior(label: InnerLabel, i: Place) -> bool
 pub fn no_interior_label_at(frames: &[u8], state: &State, count: usize, at: Place) -> bool
     requires { Sound (table_of frames.now state.now count) }
     ensures { let p = program_of (table_of frames.now state.now count) in
-        result ≡ noInteriorLabelAt p at.0 }
+        result ≡ no_interior_label_at p at.0 }
 {
     let mut j = 0;
     while j < count {
@@ -105,10 +105,10 @@ fn fits_owner(
     positions: &[u32; 1025],
     label: InnerLabel,
 ) -> bool
-    requires { Held frames.now (startsIn state.now) count × OwnerIn count label }
+    requires { Held frames.now (starts_in state.now) count × OwnerIn count label }
     ensures { (carry owners offsets : List ℕ) →
-        (let t = slots frames.now (startsIn state.now) count (formsIn state.now) carry owners offsets in
-        Positioned t positions.now → result ≡ ofLabel (λ owner o. ltb o (sizeIn (program_of t) owner)) label) }
+        (let t = slots frames.now (starts_in state.now) count (forms_in state.now) carry owners offsets in
+        Positioned t positions.now → result ≡ of_label (λ owner o. ltb o (size_in (program_of t) owner)) label) }
 {
     match label {
         InnerLabel::Of(owner, offset) => {
@@ -125,7 +125,7 @@ pub fn offsets_fit(frames: &[u8], state: &State, count: usize, positions: &[u32;
     requires { let t = table_of frames.now state.now count in
         Sound t × Positioned t positions.now }
     ensures { let p = program_of (table_of frames.now state.now count) in
-        result ≡ everyInnerLabel (λ owner o. ltb o (sizeIn p owner)) p }
+        result ≡ every_inner_label (λ owner o. ltb o (size_in p owner)) p }
 {
     let mut j = 0;
     while j < count {

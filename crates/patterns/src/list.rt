@@ -1,6 +1,6 @@
 // The patterns, in the order in which they are tried.
 ghost use Rattle.std.specs.Prelude.{◌≡◌, ◌<◌};
-ghost use Rattle.patterns.specs.Order.{patternAt, patternOf, Known};
+ghost use Rattle.patterns.specs.Order.{pattern_at, pattern_of, Known};
 
 use crate::Pattern;
 
@@ -59,7 +59,7 @@ const PATTERNS: [Pattern; 23] = [
 
 pub fn pattern(k: usize) -> Pattern
     requires { k < 23 }
-    ensures { (patternOf result ≡ patternAt k) × Known (patternOf result) }
+    ensures { (pattern_of result ≡ pattern_at k) × Known (pattern_of result) }
 {
     PATTERNS[k]
 }

@@ -1,12 +1,12 @@
 // The two shapes of a pattern, looked for at a place.
 ghost use Rattle.std.specs.Prelude.{◌≡◌, true, ◌&&◌, List, ℕ, ◌<◌};
-ghost use Rattle.rules.specs.Forms.{isTransfer};
-ghost use Rattle.rules.specs.Rewriting.{noInnerLabelBetween, noInteriorLabelAt};
+ghost use Rattle.rules.specs.Forms.{is_transfer};
+ghost use Rattle.rules.specs.Rewriting.{no_inner_label_between, no_interior_label_at};
 ghost use Rattle.listing.specs.Tables.{Held};
 ghost use Rattle.slots.specs.Slots.{Slots, slots, program_of, Sound};
 ghost use Rattle.patterns.specs.Mentions.{Told};
 ghost use Rattle.patterns.specs.Matches.{JumpAfter, LandingAfter, OpeningIs, InvertedBegins, TrampolineBegins, InvertedIs, TrampolineIs};
-ghost use Rattle.slots.specs.State.{startsIn, formsIn, table_of};
+ghost use Rattle.slots.specs.State.{starts_in, forms_in, table_of};
 
 use crate::counting::references;
 use crate::labels::{no_inner_label_between, no_interior_label_at};
@@ -39,9 +39,9 @@ enum Opening {
 
 // The unconditional that comes next behind a place.
 fn jump_after(frames: &[u8], state: &State, count: usize, at: Place) -> Jump
-    requires { Held frames.now (startsIn state.now) count × (at.0 < count) }
+    requires { Held frames.now (starts_in state.now) count × (at.0 < count) }
     ensures { (carry owners offsets : List ℕ) →
-        (let t = slots frames.now (startsIn state.now) count (formsIn state.now) carry owners offsets in
+        (let t = slots frames.now (starts_in state.now) count (forms_in state.now) carry owners offsets in
         JumpAfter t at.0 result) }
 {
     let jump = next(frames, state, count, Place(at.0 + 1));
@@ -53,9 +53,9 @@ fn jump_after(frames: &[u8], state: &State, count: usize, at: Place) -> Jump
 
 // The local label that comes next behind a place.
 fn landing_after(frames: &[u8], state: &State, count: usize, at: Place) -> Landing
-    requires { Held frames.now (startsIn state.now) count × (at.0 < count) }
+    requires { Held frames.now (starts_in state.now) count × (at.0 < count) }
     ensures { (carry owners offsets : List ℕ) →
-        (let t = slots frames.now (startsIn state.now) count (formsIn state.now) carry owners offsets in
+        (let t = slots frames.now (starts_in state.now) count (forms_in state.now) carry owners offsets in
         LandingAfter t at.0 result) }
 {
     let label = next(frames, state, count, Place(at.0 + 1));
@@ -67,9 +67,9 @@ fn landing_after(frames: &[u8], state: &State, count: usize, at: Place) -> Landi
 
 // What both shapes begin with: a branch, an unconditional, a local label. `form` is that of the branch.
 fn opening_at(frames: &[u8], state: &State, count: usize, form: u8, at: Place) -> Opening
-    requires { Held frames.now (startsIn state.now) count × (at.0 < count) × (isTransfer form ≡ true) }
+    requires { Held frames.now (starts_in state.now) count × (at.0 < count) × (is_transfer form ≡ true) }
     ensures { (carry owners offsets : List ℕ) →
-        (let t = slots frames.now (startsIn state.now) count (formsIn state.now) carry owners offsets in
+        (let t = slots frames.now (starts_in state.now) count (forms_in state.now) carry owners offsets in
         OpeningIs t form at.0 result) }
 {
     if !branch_at(frames, state, count, form, at) {
@@ -88,7 +88,7 @@ fn opening_at(frames: &[u8], state: &State, count: usize, form: u8, at: Place) -
 fn is_free(frames: &[u8], state: &State, count: usize, at: Place, m: Place) -> bool
     requires { Sound (table_of frames.now state.now count) }
     ensures { let p = program_of (table_of frames.now state.now count) in
-        result ≡ noInnerLabelBetween p at.0 m.0 && noInteriorLabelAt p at.0 }
+        result ≡ no_inner_label_between p at.0 m.0 && no_interior_label_at p at.0 }
 {
     if no_inner_label_between(frames, state, count, at, m) {
         return no_interior_label_at(frames, state, count, at);
@@ -107,7 +107,7 @@ pub fn inverted_shape(
     at: Place,
 ) -> Inverted
     requires { let t : Slots = table_of frames.now state.now count in
-        Sound t × Told t links.now × (at.0 < count) × (isTransfer from ≡ true) }
+        Sound t × Told t links.now × (at.0 < count) × (is_transfer from ≡ true) }
     ensures { let t : Slots = table_of frames.now state.now count in
         InvertedBegins t from at.0 result }
 {
@@ -130,7 +130,7 @@ pub fn inverted_at(
     at: Place,
 ) -> Inverted
     requires { let t : Slots = table_of frames.now state.now count in
-        Sound t × Told t links.now × (at.0 < count) × (isTransfer from ≡ true) }
+        Sound t × Told t links.now × (at.0 < count) × (is_transfer from ≡ true) }
     ensures { let t : Slots = table_of frames.now state.now count in
         InvertedIs t from at.0 result }
 {
@@ -154,7 +154,7 @@ pub fn trampoline_shape(
     at: Place,
 ) -> Trampoline
     requires { let t : Slots = table_of frames.now state.now count in
-        Sound t × Told t links.now × (at.0 < count) × (isTransfer form ≡ true) }
+        Sound t × Told t links.now × (at.0 < count) × (is_transfer form ≡ true) }
     ensures { let t : Slots = table_of frames.now state.now count in
         TrampolineBegins t form at.0 result }
 {
@@ -189,7 +189,7 @@ pub fn trampoline_at(
     at: Place,
 ) -> Trampoline
     requires { let t : Slots = table_of frames.now state.now count in
-        Sound t × Told t links.now × (at.0 < count) × (isTransfer form ≡ true) }
+        Sound t × Told t links.now × (at.0 < count) × (is_transfer form ≡ true) }
     ensures { let t : Slots = table_of frames.now state.now count in
         TrampolineIs t form at.0 result }
 {

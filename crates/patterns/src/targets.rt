@@ -2,13 +2,13 @@
 ghost use Rattle.std.specs.Prelude.{◌≡◌, true, List, ℕ, ◌<◌, eqb, length, get_or};
 ghost use Rattle.expression.specs.Naming.{Referred};
 ghost use Rattle.laws.specs.Options.{is_some};
-ghost use Rattle.rules.specs.Forms.{isTransfer};
-ghost use Rattle.rules.specs.Rewriting.{branch, unconditional, localLabel, bareIn, namesBare};
+ghost use Rattle.rules.specs.Forms.{is_transfer};
+ghost use Rattle.rules.specs.Rewriting.{branch, unconditional, local_label, bare_in, names_bare};
 ghost use Rattle.listing.specs.Tables.{frame_at, Held};
 ghost use Rattle.rules.specs.Programs.{kind_of};
 ghost use Rattle.slots.specs.Slots.{slots, slot_at, target_of, Sound};
-ghost use Rattle.patterns.specs.Targets.{standsAt, formIn, instrAt, labelAs, TargetIn, lastBytes, lastLinks};
-ghost use Rattle.slots.specs.State.{startsIn, formsIn, carryIn, ownersIn};
+ghost use Rattle.patterns.specs.Targets.{stands_at, form_in, instr_at, label_as, TargetIn, last_bytes, last_links};
+ghost use Rattle.slots.specs.State.{starts_in, forms_in, carry_in, owners_in};
 
 use crate::LocalLabel;
 use expression::is_bare;
@@ -20,10 +20,10 @@ use slots::{
 
 // The form of the instruction at a place; GONE where none stands.
 pub fn form_at(frames: &[u8], state: &State, count: usize, at: Place) -> u8
-    requires { Held frames.now (startsIn state.now) count }
+    requires { Held frames.now (starts_in state.now) count }
     ensures { (carry owners offsets : List ℕ) →
-        (let t = slots frames.now (startsIn state.now) count (formsIn state.now) carry owners offsets in
-        result ≡ formIn (standsAt t at.0)) }
+        (let t = slots frames.now (starts_in state.now) count (forms_in state.now) carry owners offsets in
+        result ≡ form_in (stands_at t at.0)) }
 {
     let i = at.0;
     if count <= i {
@@ -36,28 +36,28 @@ pub fn form_at(frames: &[u8], state: &State, count: usize, at: Place) -> u8
 }
 
 pub fn branch_at(frames: &[u8], state: &State, count: usize, form: u8, at: Place) -> bool
-    requires { Held frames.now (startsIn state.now) count × (form < 70) }
+    requires { Held frames.now (starts_in state.now) count × (form < 70) }
     ensures { (carry owners offsets : List ℕ) →
-        (let t = slots frames.now (startsIn state.now) count (formsIn state.now) carry owners offsets in
-        result ≡ is_some (branch form (standsAt t at.0))) }
+        (let t = slots frames.now (starts_in state.now) count (forms_in state.now) carry owners offsets in
+        result ≡ is_some (branch form (stands_at t at.0))) }
 {
     form_at(frames, state, count, at) == form
 }
 
 pub fn unconditional_at(frames: &[u8], state: &State, count: usize, at: Place) -> bool
-    requires { Held frames.now (startsIn state.now) count }
+    requires { Held frames.now (starts_in state.now) count }
     ensures { (carry owners offsets : List ℕ) →
-        (let t = slots frames.now (startsIn state.now) count (formsIn state.now) carry owners offsets in
-        result ≡ is_some (unconditional (standsAt t at.0))) }
+        (let t = slots frames.now (starts_in state.now) count (forms_in state.now) carry owners offsets in
+        result ≡ is_some (unconditional (stands_at t at.0))) }
 {
     is_unconditional(form_at(frames, state, count, at))
 }
 
 pub fn local_label_at(frames: &[u8], state: &State, count: usize, at: Place) -> LocalLabel
-    requires { Held frames.now (startsIn state.now) count }
+    requires { Held frames.now (starts_in state.now) count }
     ensures { (carry owners offsets : List ℕ) →
-        (let t = slots frames.now (startsIn state.now) count (formsIn state.now) carry owners offsets in
-        result ≡ labelAs (localLabel (standsAt t at.0))) }
+        (let t = slots frames.now (starts_in state.now) count (forms_in state.now) carry owners offsets in
+        result ≡ label_as (local_label (stands_at t at.0))) }
 {
     let i = at.0;
     if count <= i {
@@ -77,8 +77,8 @@ pub fn local_label_at(frames: &[u8], state: &State, count: usize, at: Place) -> 
 
 // The bytes of a transfer's frame from its target on.
 pub fn target_in<'a>(frames: &'a [u8], state: &State, count: usize, at: Place) -> &'a [u8]
-    requires { Held frames.now (startsIn state.now) count × TargetIn frames.now (startsIn state.now) count at.0 }
-    ensures { result.now ≡ lastBytes (frame_at frames.now (startsIn state.now) at.0) }
+    requires { Held frames.now (starts_in state.now) count × TargetIn frames.now (starts_in state.now) count at.0 }
+    ensures { result.now ≡ last_bytes (frame_at frames.now (starts_in state.now) at.0) }
 {
     let frame = frame_at(frames, state, count, at);
     let a = argument_at(state, at, operand_count(frame[1]) - 1);
@@ -93,10 +93,10 @@ pub fn target_links<'a>(
     links: &'a [u16],
     at: Place,
 ) -> &'a [u16]
-    requires { Held frames.now (startsIn state.now) count × TargetIn frames.now (startsIn state.now) count at.0 × (length
+    requires { Held frames.now (starts_in state.now) count × TargetIn frames.now (starts_in state.now) count at.0 × (length
         links.now ≡ 28672) }
-    ensures { result.now ≡ lastLinks (frame_at frames.now (startsIn state.now) at.0)
-        (frame_at links.now (startsIn state.now) at.0) }
+    ensures { result.now ≡ last_links (frame_at frames.now (starts_in state.now) at.0)
+        (frame_at links.now (starts_in state.now) at.0) }
 {
     let frame = frame_at(frames, state, count, at);
     let beside = links_at(links, state, at);
@@ -113,12 +113,12 @@ fn is_bare_target(
     at: Place,
     place: Place,
 ) -> bool
-    requires { Held frames.now (startsIn state.now) count × TargetIn frames.now (startsIn state.now) count at.0 × (length
+    requires { Held frames.now (starts_in state.now) count × TargetIn frames.now (starts_in state.now) count at.0 × (length
         links.now ≡ 28672) }
-    ensures { (n : ℕ) → Referred (λ m. eqb m n) (frame_at frames.now (startsIn state.now) at.0)
-        (frame_at links.now (startsIn state.now) at.0) place.0 → (forms carry offsets : List ℕ)
-        → (let t = slots frames.now (startsIn state.now) count forms carry (ownersIn state.now) offsets in
-        result ≡ bareIn n (target_of t at.0)) }
+    ensures { (n : ℕ) → Referred (λ m. eqb m n) (frame_at frames.now (starts_in state.now) at.0)
+        (frame_at links.now (starts_in state.now) at.0) place.0 → (forms carry offsets : List ℕ)
+        → (let t = slots frames.now (starts_in state.now) count forms carry (owners_in state.now) offsets in
+        result ≡ bare_in n (target_of t at.0)) }
 {
     if owner_at(state, at) < NO_OWNER {
         return false;
@@ -139,15 +139,15 @@ pub fn names_bare(
     at: Place,
     place: Place,
 ) -> bool
-    requires { Held frames.now (startsIn state.now) count × (at.0 < count)
-        × TargetIn frames.now (startsIn state.now) count (get_or (carryIn state.now) at.0 0) × (length links.now ≡ 28672) }
-    ensures { let c = get_or (carryIn state.now) at.0 0 in
-        (n : ℕ) → Referred (λ m. eqb m n) (frame_at frames.now (startsIn state.now) c)
-        (frame_at links.now (startsIn state.now) c) place.0 → (forms offsets : List ℕ) →
-        (let t = slots frames.now (startsIn state.now) count forms (carryIn state.now) (ownersIn
+    requires { Held frames.now (starts_in state.now) count × (at.0 < count)
+        × TargetIn frames.now (starts_in state.now) count (get_or (carry_in state.now) at.0 0) × (length links.now ≡ 28672) }
+    ensures { let c = get_or (carry_in state.now) at.0 0 in
+        (n : ℕ) → Referred (λ m. eqb m n) (frame_at frames.now (starts_in state.now) c)
+        (frame_at links.now (starts_in state.now) c) place.0 → (forms offsets : List ℕ) →
+        (let t = slots frames.now (starts_in state.now) count forms (carry_in state.now) (owners_in
         state.now) offsets in
-        Sound t → kind_of (slot_at t at.0) ≡ 1 → isTransfer (get_or forms at.0 0) ≡ true
-        → result ≡ namesBare n (instrAt t at.0)) }
+        Sound t → kind_of (slot_at t at.0) ≡ 1 → is_transfer (get_or forms at.0 0) ≡ true
+        → result ≡ names_bare n (instr_at t at.0)) }
 {
     let written = carry_at(state, at);
     is_bare_target(frames, state, count, links, written, place)

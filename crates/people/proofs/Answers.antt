@@ -4,22 +4,22 @@ use mathlib.Core.List.{List, []}
 use Prim.Native.Nat.{ℕ, ◌-◌, ◌≤◌, ◌<◌}
 use native.Mathlib.Omega.{arith}
 use lib.ListN.{length, drop, length-drop}
-use Rattle.rules.specs.Programs.{Stmt, overExprs}
+use Rattle.rules.specs.Programs.{Stmt, over_exprs}
 use Rattle.rules.specs.Output.{frame_of}
 use Rattle.grammar.specs.Reading.{Line, WrongAt, Fitting}
-use Rattle.plans.specs.Lines.{linePlan}
-use Rattle.plans.proofs.Wholes.{reads-line, column}
+use Rattle.plans.specs.Lines.{line_plan}
+use Rattle.plans.proofs.Wholes.{reads_line, column}
 use Rattle.laying.specs.Laying.{long, Stands}
 use Rattle.laying.specs.declared.Told.{Told}
 use Rattle.laying.specs.declared.Told.TheVariants.{Frame, Wrong}
 use Rattle.laying.specs.Speaking.{Spoken}
 use Rattle.people.specs.Reading.{Reads, Answers}
 
-pub answers : (s a : List ℕ) (r : Told) → Spoken linePlan s 0 a r → Answers s a r
+pub answers : (s a : List ℕ) (r : Told) → Spoken line_plan s 0 a r → Answers s a r
 answers s a (Frame to) (x, (w, h)) =
     record {
       x = x;
-      line = (reads-line x s [] w).0;
+      line = (reads_line x s [] w).0;
       size = h.size;
       within = h.within;
       fits = λ l. (h.short l, subst (λ n. n ≤ 120) (h.ends l) l);

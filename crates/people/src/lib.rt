@@ -1,6 +1,6 @@
 // C-19: one line of the people's text to a frame.
 ghost use Rattle.std.specs.Prelude.{◌≡◌, ℕ, ◌≤◌, ◌<◌, length};
-ghost use Rattle.plans.specs.Lines.{linePlan};
+ghost use Rattle.plans.specs.Lines.{line_plan};
 ghost use Rattle.plans.specs.Fronts.{spelling, opens, Matches};
 ghost use Rattle.openings.specs.Numbered.{word_at};
 ghost use Rattle.laying.specs.Speaking.{Spoken};
@@ -18,7 +18,7 @@ use series::items::{bytes_line, words_line};
 // A mnemonic, which ends at n.
 fn form_line(s: &[u8], n: usize, form: u8, out: &mut [u8; 120]) -> Told
     requires { (form < 70) × (length out.old ≡ 120) × Matches (opens (word_at form)) (spelling (word_at form)) s.now n }
-    ensures { Spoken linePlan s.now 0 out.new result }
+    ensures { Spoken line_plan s.now 0 out.new result }
 {
     if operand_count(form) > 0 {
         return arguments(s, n, form, out);
@@ -30,7 +30,7 @@ fn form_line(s: &[u8], n: usize, form: u8, out: &mut [u8; 120]) -> Told
 // A dot word, by its number, which ends at n.
 fn dot_line(s: &[u8], n: usize, row: u8, out: &mut [u8; 120]) -> Told
     requires { (70 ≤ row) × (row < 76) × (length out.old ≡ 120) × Matches (opens (word_at row)) (spelling (word_at row)) s.now n }
-    ensures { Spoken linePlan s.now 0 out.new result }
+    ensures { Spoken line_plan s.now 0 out.new result }
 {
     match row {
         70 => comment_line(s, n, out),

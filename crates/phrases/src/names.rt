@@ -4,7 +4,7 @@ ghost use Rattle.std.proofs.Math.Option.{none};
 ghost use Rattle.rules.specs.Expressions.{pair};
 ghost use Rattle.rules.specs.Programs.{label, variable};
 ghost use Rattle.plans.specs.Plans.{done, fork, expression};
-ghost use Rattle.plans.specs.Lines.{afterGlobal, globalPlan, localPlan};
+ghost use Rattle.plans.specs.Lines.{after_global, global_plan, local_plan};
 ghost use Rattle.laying.specs.Laying.{Stands};
 ghost use Rattle.laying.specs.Speaking.{Spoken};
 
@@ -28,7 +28,7 @@ fn bound(s: &[u8], k: usize, out: &mut [u8; 120], at: usize) -> Told
 // What follows a global name.
 fn after_global(s: &[u8], k: usize, name: usize, out: &mut [u8; 120]) -> Told
     requires { (k ≤ length s.now) × (length out.old ≡ 120) × (name ≤ 32767) }
-    ensures { Spoken (fork none (λ c. eqb c 58 || eqb c 61) (afterGlobal name)) s.now k out.new result }
+    ensures { Spoken (fork none (λ c. eqb c 58 || eqb c 61) (after_global name)) s.now k out.new result }
 {
     let c = look(&s[k..]);
     if c == 58 {
@@ -56,7 +56,7 @@ fn after_local(s: &[u8], k: usize, name: usize, out: &mut [u8; 120]) -> Told
 
 pub fn global_line(s: &[u8], k: usize, out: &mut [u8; 120]) -> Told
     requires { (k ≤ length s.now) × (length out.old ≡ 120) }
-    ensures { Spoken globalPlan s.now k out.new result }
+    ensures { Spoken global_plan s.now k out.new result }
 {
     match fixed(&s[k..]) {
         Value::Is(n, v) => after_global(s, k + n, v, out),
@@ -66,7 +66,7 @@ pub fn global_line(s: &[u8], k: usize, out: &mut [u8; 120]) -> Told
 
 pub fn local_line(s: &[u8], k: usize, out: &mut [u8; 120]) -> Told
     requires { (k ≤ length s.now) × (length out.old ≡ 120) }
-    ensures { Spoken localPlan s.now k out.new result }
+    ensures { Spoken local_plan s.now k out.new result }
 {
     match fixed(&s[k..]) {
         Value::Is(n, v) => after_local(s, k + n, v, out),

@@ -6,7 +6,7 @@ ghost use Rattle.rules.specs.Output.{frame_of};
 ghost use Rattle.laying.specs.Laying.{Stands};
 ghost use Rattle.plans.specs.Plans.{fork, finish};
 ghost use Rattle.plans.specs.Finals.{multiples};
-ghost use Rattle.plans.specs.Lines.{orgPlan, alignPlan};
+ghost use Rattle.plans.specs.Lines.{org_plan, align_plan};
 ghost use Rattle.laying.specs.Speaking.{Spoken};
 
 use crate::ends::{ended, number, put_head};
@@ -16,7 +16,7 @@ use leaves::lexing::look;
 
 pub fn org_line(s: &[u8], k: usize, out: &mut [u8; 120]) -> Told
     requires { (k ≤ length s.now) × (length out.old ≡ 120) }
-    ensures { Spoken orgPlan s.now k out.new result }
+    ensures { Spoken org_plan s.now k out.new result }
 {
     match number(s, k, 65535) {
         Value::Is(n, v) => {
@@ -59,7 +59,7 @@ fn multiple_line(s: &[u8], k: usize, add: usize, out: &mut [u8; 120]) -> Told
 
 pub fn align_line(s: &[u8], k: usize, out: &mut [u8; 120]) -> Told
     requires { (k ≤ length s.now) × (length out.old ≡ 120) }
-    ensures { Spoken (alignPlan pad) s.now k out.new result }
+    ensures { Spoken (align_plan pad) s.now k out.new result }
 {
     match number(s, k, 255) {
         Value::Is(n, v) => {

@@ -9,19 +9,19 @@ use lib.Dec.{eqb, leb, lit≤}
 use lib.ListN.{length, length-append}
 use borrow.Author.Tests.{eqb-true, leb-true, leb-false, le-leb}
 use Rattle.laws.specs.Lists.{every}
-use Rattle.laws.proofs.Tests.{clash, false-true}
+use Rattle.laws.proofs.Tests.{clash, false_true}
 use Rattle.rules.specs.Programs.{Stmt}
-use Rattle.grammar.specs.Reading.{isDecimal, worth, look, Decimal}
+use Rattle.grammar.specs.Reading.{is_decimal, worth, look, Decimal}
 use Rattle.grammar.specs.Going.{Read, got, stuck, digits}
 use Rattle.plans.specs.Plans as plans
 use Rattle.plans.specs.Plans.{Plan, fork, decimal, finish, Alike, both, same, Halts, Finishes, Reads, Alive}
 use Rattle.plans.specs.Finals.{counted, multiples}
-use Rattle.plans.specs.Lines.{alignPlan}
+use Rattle.plans.specs.Lines.{align_plan}
 use Rattle.grammar.proofs.Takes.{Took}
-use Rattle.grammar.proofs.Digits.{AllDigits, more-digits, digits-all}
-use Rattle.grammar.proofs.RoundTrip.{worth-append, digits_append}
-use Rattle.plans.proofs.Planned.{alike-look, NumTook, num-took}
-use Rattle.plans.proofs.ReadOnce.{digit-head}
+use Rattle.grammar.proofs.Digits.{AllDigits, more_digits, digits_all}
+use Rattle.grammar.proofs.RoundTrip.{worth_append, digits_append}
+use Rattle.plans.proofs.Planned.{alike_look, NumTook, num_took}
+use Rattle.plans.proofs.ReadOnce.{digit_head}
 use Rattle.plans.proofs.Parts.{Value, value_of, Byte, byte_of, comma}
 
 module _ (most : ℕ) (f : ℕ → Stmt) where
@@ -30,12 +30,12 @@ module _ (most : ℕ) (f : ℕ → Stmt) where
   from_one (suc n) h = refl
 
   -- a number from 1 on is read
-  pub counted-all : (n : ℕ) (t : List ℕ) → Decimal most n t → 1 ≤ n → multiples most f t ≡ got (f n) []
+  pub counted_all : (n : ℕ) (t : List ℕ) → Decimal most n t → 1 ≤ n → multiples most f t ≡ got (f n) []
   unfolding multiples
-  counted-all n t d h =
-      let p : isDecimal (look t) ≡ true = subst (λ y. isDecimal (look y) ≡ true) (append-nil t) (digit-head most n t [] d) in
+  counted_all n t d h =
+      let p : is_decimal (look t) ≡ true = subst (λ y. is_decimal (look y) ≡ true) (append-nil t) (digit_head most n t [] d) in
       let e : digits most 0 t ≡ got n [] =
-      subst (λ y. digits most 0 y ≡ got n []) (append-nil t) (digits-all most 0 t [] d.digits (omega (arith, d.is, d.within)) refl ∙ ap (λ x. got x []) d.is) in
+      subst (λ y. digits most 0 y ≡ got n []) (append-nil t) (digits_all most 0 t [] d.digits (omega (arith, d.is, d.within)) refl ∙ ap (λ x. got x []) d.is) in
       ap (λ b. cond b (counted f (digits most 0 t)) (stuck t)) p ∙ ap (counted f) e ∙ from_one n h
 
   -- what begins with digits that are not too many can be finished
@@ -49,18 +49,18 @@ module _ (most : ℕ) (f : ℕ → Stmt) where
   filled n w m d = on (leb 1 n) refl
     where
       on : (b : Bool) → leb 1 n ≡ b → Filled w
-      on true e = record { more = []; line = f n; good = ap (multiples most f) (append-nil w) ∙ counted-all n w d (leb-true 1 n e) }
+      on true e = record { more = []; line = f n; good = ap (multiples most f) (append-nil w) ∙ counted_all n w d (leb-true 1 n e) }
       on false e =
           let z : n < 1 = leb-false 1 n e in
           record {
             more = 49 ∷ [];
             line = f 1;
             good =
-                counted-all 1 (w ++ (49 ∷ []))
+                counted_all 1 (w ++ (49 ∷ []))
                 (record {
                   some = subst (λ (x : ℕ). 1 ≤ x) (sym (length-append w (49 ∷ []))) (omega arith);
                   digits = digits_append w (49 ∷ []) d.digits refl;
-                  is = worth-append 0 w (49 ∷ []) ∙ ap (λ v. 10 * v + 1) d.is ∙ once n z;
+                  is = worth_append 0 w (49 ∷ []) ∙ ap (λ v. 10 * v + 1) d.is ∙ once n z;
                   within = m;
                 })
                 (lit≤ tt);
@@ -73,51 +73,51 @@ module _ (most : ℕ) (f : ℕ → Stmt) where
   unfolding worth every
   one_number m = record { some = lit≤ tt; digits = refl; is = refl; within = m }
 
-  no_digit : (t : List ℕ) → isDecimal (look t) ≡ false → multiples most f t ≡ stuck t
+  no_digit : (t : List ℕ) → is_decimal (look t) ≡ false → multiples most f t ≡ stuck t
   unfolding multiples
   no_digit t e = ap (λ b. cond b (counted f (digits most 0 t)) (stuck t)) e
 
-  some-digit : (t : List ℕ) (o : Read ℕ) → (isDecimal (look t) ≡ true) × (digits most 0 t ≡ o) → multiples most f t ≡ counted f o
+  some_digit : (t : List ℕ) (o : Read ℕ) → (is_decimal (look t) ≡ true) × (digits most 0 t ≡ o) → multiples most f t ≡ counted f o
   unfolding multiples
-  some-digit t o e = ap (λ b. cond b (counted f (digits most 0 t)) (stuck t)) e.0 ∙ ap (counted f) e.1
+  some_digit t o e = ap (λ b. cond b (counted f (digits most 0 t)) (stuck t)) e.0 ∙ ap (counted f) e.1
 
   -- stuck behind a number: at the end if it is 0, at a byte
-  end-alike : (w u : List ℕ) → ((u : List ℕ) → look [] ≡ look u → (isDecimal (look (w ++ u)) ≡ true) × (digits most 0 (w ++ u) ≡ got 0 u)) → Alike [] u → multiples most f (w ++ u) ≡ stuck u
-  end-alike w u g both = some-digit (w ++ []) (got 0 []) (g [] refl)
+  end_alike : (w u : List ℕ) → ((u : List ℕ) → look [] ≡ look u → (is_decimal (look (w ++ u)) ≡ true) × (digits most 0 (w ++ u) ≡ got 0 u)) → Alike [] u → multiples most f (w ++ u) ≡ stuck u
+  end_alike w u g both = some_digit (w ++ []) (got 0 []) (g [] refl)
 
-  byte-alike : (w u : List ℕ) (n c : ℕ) (r : List ℕ) → ((u : List ℕ) → c ≡ look u → (isDecimal (look (w ++ u)) ≡ true) × (digits most 0 (w ++ u) ≡ got n u)) → Alike (c ∷ r) u
+  byte_alike : (w u : List ℕ) (n c : ℕ) (r : List ℕ) → ((u : List ℕ) → c ≡ look u → (is_decimal (look (w ++ u)) ≡ true) × (digits most 0 (w ++ u) ≡ got n u)) → Alike (c ∷ r) u
       → multiples most f (w ++ u) ≡ stuck u
-  byte-alike w u n c r g (same {u = v}) = some-digit (w ++ (c ∷ v)) (got n (c ∷ v)) (g (c ∷ v) refl)
+  byte_alike w u n c r g (same {u = v}) = some_digit (w ++ (c ∷ v)) (got n (c ∷ v)) (g (c ∷ v) refl)
 
   halts : (t r : List ℕ) (n : ℕ) (w : List ℕ) → t ≡ w ++ r → 1 ≤ most → Decimal most n w → ((u : List ℕ) → Alike r u → multiples most f (w ++ u) ≡ stuck u) → Halts (multiples most f) t r
   halts t r n w s m d g = let h = filled n w m d in record { w = w; split = s; more = h.more; line = h.line; good = h.good; alike = g }
 
   finishes : (t : List ℕ) → 9 ≤ most → (o : Read ℕ) → NumTook most t o → Finishes (multiples most f) t (counted f o)
-  finishes t m (got zero []) a = halts t [] 0 a.w a.split (omega arith) a.means (λ u k. end-alike a.w u a.alike k)
+  finishes t m (got zero []) a = halts t [] 0 a.w a.split (omega arith) a.means (λ u k. end_alike a.w u a.alike k)
   finishes t m (got (suc n) []) a = refl
-  finishes t m (got n (c ∷ r)) a = halts t (c ∷ r) n a.w a.split (omega arith) a.means (λ u k. byte-alike a.w u n c r a.alike k)
+  finishes t m (got n (c ∷ r)) a = halts t (c ∷ r) n a.w a.split (omega arith) a.means (λ u k. byte_alike a.w u n c r a.alike k)
   finishes t m (stuck r) a =
-      halts t r (worth 0 a.w) a.w a.split (omega arith) a.means (λ u k. some-digit (a.w ++ u) (stuck u) (a.alike u (alike-look k)))
+      halts t r (worth 0 a.w) a.w a.split (omega arith) a.means (λ u k. some_digit (a.w ++ u) (stuck u) (a.alike u (alike_look k)))
 
-  finishes-all : 9 ≤ most → (t : List ℕ) → Finishes (multiples most f) t (multiples most f t)
+  finishes_all : 9 ≤ most → (t : List ℕ) → Finishes (multiples most f) t (multiples most f t)
   unfolding multiples
-  finishes-all m t = on (isDecimal (look t)) refl
+  finishes_all m t = on (is_decimal (look t)) refl
     where
-      on : (b : Bool) → isDecimal (look t) ≡ b → Finishes (multiples most f) t (cond b (counted f (digits most 0 t)) (stuck t))
-      on true e = finishes t m (digits most 0 t) (num-took most t (digits most 0 t) m e refl)
+      on : (b : Bool) → is_decimal (look t) ≡ b → Finishes (multiples most f) t (cond b (counted f (digits most 0 t)) (stuck t))
+      on true e = finishes t m (digits most 0 t) (num_took most t (digits most 0 t) m e refl)
       on false e =
           record {
             w = [];
             split = refl;
             more = 49 ∷ [];
             line = f 1;
-            good = counted-all 1 (49 ∷ []) (one_number (omega arith)) (lit≤ tt);
-            alike = λ u k. no_digit u (ap isDecimal (sym (alike-look k)) ∙ e);
+            good = counted_all 1 (49 ∷ []) (one_number (omega arith)) (lit≤ tt);
+            alike = λ u k. no_digit u (ap is_decimal (sym (alike_look k)) ∙ e);
           }
 
-  pub counted-alive : 9 ≤ most → Alive (finish (multiples most f))
+  pub counted_alive : 9 ≤ most → Alive (finish (multiples most f))
   unfolding Alive
-  counted-alive m = ((49 ∷ [], (f 1, counted-all 1 (49 ∷ []) (one_number (omega arith)) (lit≤ tt))), finishes-all m)
+  counted_alive m = ((49 ∷ [], (f 1, counted_all 1 (49 ∷ []) (one_number (omega arith)) (lit≤ tt))), finishes_all m)
 
   -- what is read is a number from 1 on
   pub record Count (s : Stmt) (t : List ℕ) : Type 0 where
@@ -126,29 +126,29 @@ module _ (most : ℕ) (f : ℕ → Stmt) where
     pub good : Decimal most n t
     pub least : 1 ≤ n
 
-  count-got : (s : Stmt) (t : List ℕ) (o : Read ℕ) → NumTook most t o → counted f o ≡ got s [] → Count s t
-  count-got s t (got zero []) a e = clash (cc)
-  count-got s t (got (suc n) []) a e =
+  count_got : (s : Stmt) (t : List ℕ) (o : Read ℕ) → NumTook most t o → counted f o ≡ got s [] → Count s t
+  count_got s t (got zero []) a e = clash (cc)
+  count_got s t (got (suc n) []) a e =
       record { n = suc n; is = is e; good = subst (λ y. Decimal most (suc n) y) (sym (a.split ∙ append-nil a.w)) a.means; least = omega arith }
     where
       is : {x y : Stmt} → ◌≡◌ {A = Read Stmt} (got x []) (got y []) → y ≡ x
       is e = cc
-  count-got s t (got n (c ∷ r)) a e = clash (cc)
-  count-got s t (stuck r) a e = clash (cc)
+  count_got s t (got n (c ∷ r)) a e = clash (cc)
+  count_got s t (stuck r) a e = clash (cc)
 
   pub count_of : 9 ≤ most → {s : Stmt} {t : List ℕ} → Reads (finish (multiples most f)) s t → Count s t
   unfolding multiples
-  count_of m {s = s} {t = t} (plans.finished e) = on (isDecimal (look t)) refl e
+  count_of m {s = s} {t = t} (plans.finished e) = on (is_decimal (look t)) refl e
     where
-      on : (b : Bool) → isDecimal (look t) ≡ b → cond b (counted f (digits most 0 t)) (stuck t) ≡ got s [] → Count s t
-      on true p e = count-got s t (digits most 0 t) (num-took most t (digits most 0 t) m p refl) e
+      on : (b : Bool) → is_decimal (look t) ≡ b → cond b (counted f (digits most 0 t)) (stuck t) ≡ got s [] → Count s t
+      on true p e = count_got s t (digits most 0 t) (num_took most t (digits most 0 t) m p refl) e
       on false p e = clash (cc)
 
 -- ---- `.align `: add, a comma, the multiple
 
-pub align-alive : (make : ℕ → ℕ → Stmt) → Alive (alignPlan make)
-unfolding Alive alignPlan
-align-alive make = (lit≤ tt, λ a. ((λ c p. comma c p), ((44, refl), λ c p. counted-alive 256 (make a) (lit≤ tt))))
+pub align_alive : (make : ℕ → ℕ → Stmt) → Alive (align_plan make)
+unfolding Alive align_plan
+align_alive make = (lit≤ tt, λ a. ((λ c p. comma c p), ((44, refl), λ c p. counted_alive 256 (make a) (lit≤ tt))))
 
 pub record Aligned (make : ℕ → ℕ → Stmt) (s : Stmt) (t : List ℕ) : Type 0 where
   pub a : ℕ
@@ -161,9 +161,9 @@ pub record Aligned (make : ℕ → ℕ → Stmt) (s : Stmt) (t : List ℕ) : Typ
   pub multiple : Decimal 256 m v
   pub least : 1 ≤ m
 
-pub align-of : (make : ℕ → ℕ → Stmt) (s : Stmt) (t : List ℕ) → Reads (alignPlan make) s t → Aligned make s t
-unfolding alignPlan
-align-of make s t g = on (value_of g)
+pub align_of : (make : ℕ → ℕ → Stmt) (s : Stmt) (t : List ℕ) → Reads (align_plan make) s t → Aligned make s t
+unfolding align_plan
+align_of make s t g = on (value_of g)
   where
     next : ℕ → Plan
     next a = fork none (λ c. eqb c 44) (λ c. finish (multiples 256 (make a)))
@@ -186,6 +186,6 @@ align-of make s t g = on (value_of g)
               least = z.least;
             }
 
-pub of-align : (make : ℕ → ℕ → Stmt) (a m : ℕ) (u v : List ℕ) → Decimal 255 a u → Decimal 256 m v → 1 ≤ m → Reads (alignPlan make) (make a m) (u ++ (44 ∷ v))
-unfolding alignPlan
-of-align make a m u v d e h = plans.value d (plans.byte refl (plans.finished (counted-all 256 (make a) m v e h)))
+pub of_align : (make : ℕ → ℕ → Stmt) (a m : ℕ) (u v : List ℕ) → Decimal 255 a u → Decimal 256 m v → 1 ≤ m → Reads (align_plan make) (make a m) (u ++ (44 ∷ v))
+unfolding align_plan
+of_align make a m u v d e h = plans.value d (plans.byte refl (plans.finished (counted_all 256 (make a) m v e h)))

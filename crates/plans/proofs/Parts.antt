@@ -10,21 +10,21 @@ use lib.Dec.{eqb, lit≤}
 use lib.ListN.{length}
 use borrow.Author.Tests.{eqb-true}
 use Rattle.laws.specs.Lists.{every}
-use Rattle.laws.proofs.Tests.{clash, false-true, or-true}
+use Rattle.laws.proofs.Tests.{clash, false_true, or_true}
 use Rattle.rules.specs.Expressions.{Expr}
 use Rattle.rules.specs.Patterns.{codes}
 use Rattle.rules.specs.Programs.{Stmt, gone, label, variable, comment, org, bytes, words}
 use Rattle.grammar.specs.Reading as reading
-use Rattle.grammar.specs.Reading.{isDecimal, Exp, Line}
-use Rattle.grammar.specs.Going.{infixOf}
+use Rattle.grammar.specs.Reading.{is_decimal, Exp, Line}
+use Rattle.grammar.specs.Going.{infix_of}
 use Rattle.plans.specs.Plans as plans
 use Rattle.plans.specs.Plans.{Plan, done, fork, expression, decimal, five, Reads, Behind, Alive}
 use Rattle.plans.specs.Words.{Word, opening, closing, Says, In, here, there, advance, end_of, fit, trie}
-use Rattle.plans.proofs.Planned.{done-ends}
-use Rattle.plans.proofs.Worded.{Step, fork-step, trie-right, trie-alive, Found}
+use Rattle.plans.proofs.Planned.{done_ends}
+use Rattle.plans.proofs.Worded.{Step, fork_step, trie_right, trie_alive, Found}
 
-pub done-is : {r s : Stmt} {t : List ℕ} → Reads (done r) s t → s ≡ r
-done-is plans.last = refl
+pub done_is : {r s : Stmt} {t : List ℕ} → Reads (done r) s t → s ≡ r
+done_is plans.last = refl
 
 -- what a text of a plan is made of
 pub record Tree (f : Expr → Plan) (s : Stmt) (t : List ℕ) : Type 0 where
@@ -70,13 +70,13 @@ pub record Byte (ok : ℕ → Bool) (f : ℕ → Plan) (s : Stmt) (t : List ℕ)
   pub rest : Reads (f c) s v
 
 pub byte_of : (ok : ℕ → Bool) (f : ℕ → Plan) (s : Stmt) (t : List ℕ) → Reads (fork none ok f) s t → Byte ok f s t
-byte_of ok f s t g = on (fork-step g)
+byte_of ok f s t g = on (fork_step g)
   where
     on : Step s t none ok f → Byte ok f s t
     on (inl (q, z)) = clash (cc)
     on (inr (c, (v, (z, (p, h))))) = record { c = c; v = v; is = z; passes = p; rest = h }
 
 -- a comma may stand behind an expression
-pub comma : (c : ℕ) → eqb c 44 ≡ true → (isDecimal c ≡ false) × ((eqb c 32 ≡ false) × (infixOf c ≡ none))
-unfolding infixOf
-comma c p = subst (λ x. (isDecimal x ≡ false) × ((eqb x 32 ≡ false) × (infixOf x ≡ none))) (sym (eqb-true c 44 p)) (refl, (refl, refl))
+pub comma : (c : ℕ) → eqb c 44 ≡ true → (is_decimal c ≡ false) × ((eqb c 32 ≡ false) × (infix_of c ≡ none))
+unfolding infix_of
+comma c p = subst (λ x. (is_decimal x ≡ false) × ((eqb x 32 ≡ false) × (infix_of x ≡ none))) (sym (eqb-true c 44 p)) (refl, (refl, refl))

@@ -12,11 +12,11 @@ use Rattle.laws.specs.Lists.{every, each, same}
 use Rattle.rules.specs.declared.Op1.TheVariants.{Negate, Upper, Lower}
 use Rattle.rules.specs.declared.Op2.TheVariants.{Plus, Minus, Times, Divide, Xor, And, Or}
 use Rattle.rules.specs.Expressions.{Expr, num, name, two, one, bytes_of}
-use Rattle.rules.specs.Forms.{formAt}
+use Rattle.rules.specs.Forms.{form_at}
 use Rattle.rules.specs.Patterns.{codes}
 use Rattle.rules.specs.Programs.{Operand, register, value, Stmt, instr, label, variable, comment, org, bytes, words}
-use Rattle.text.specs.Text.{digitsOf, five, exprText, mnemonic, argsText, itemsText, lineText}
-use Rattle.grammar.specs.Going.{Read, got, stuck, digits, fixed, local, class_of, led, start, skip, infixOf, whole}
+use Rattle.text.specs.Text.{digits_of, five, expr_text, mnemonic, args_text, items_text, line_text}
+use Rattle.grammar.specs.Going.{Read, got, stuck, digits, fixed, local, class_of, led, start, skip, infix_of, whole}
 use Rattle.grammar.proofs.Computing.{goes}
 
 unfoldable pub all : List Bool → Bool
@@ -25,7 +25,7 @@ all (b ∷ bs) = b && all bs
 
 -- C-16: the line of a statement
 unfoldable pub writes : Stmt → String → Bool
-writes s t = same (lineText s) (codes t)
+writes s t = same (line_text s) (codes t)
 
 pub lines : T (all (
     writes (instr 0x00 (value (num (pos 5)) ∷ []) 0) "add #5" ∷
@@ -47,7 +47,7 @@ pub lines : T (all (
     writes (bytes (num (pos 1) ∷ name 2 ∷ [])) ".byte 1,g00002" ∷
     writes (words (num (pos 0) ∷ [])) ".word 0" ∷
     []))
-unfolding all writes same lineText mnemonic argsText itemsText exprText five digitsOf formAt each
+unfolding all writes same line_text mnemonic args_text items_text expr_text five digits_of form_at each
 lines = tt
 
 -- C-19: an expression read; the tree is compared by its frame's bytes
@@ -89,7 +89,7 @@ pub trees : T (all (
     reads ".l00001+g32767" (two Plus (name 0x8001) (name 32767)) ∷
     reads "-2147483648" (num (negsuc 2147483647)) ∷
     []))
-unfolding all reads same bytes_of goes start led class_of digits fixed local skip infixOf
+unfolding all reads same bytes_of goes start led class_of digits fixed local skip infix_of
 trees = tt
 
 pub columns : T (all (
@@ -113,5 +113,5 @@ pub columns : T (all (
     stops "-" 1 ∷
     stops "1)" 1 ∷
     []))
-unfolding all stops goes start led class_of digits fixed local skip infixOf
+unfolding all stops goes start led class_of digits fixed local skip infix_of
 columns = tt

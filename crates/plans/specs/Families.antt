@@ -6,7 +6,7 @@ use Rattle.laws.specs.Lists.{every, same}
 use Rattle.rules.specs.declared.Kind.{Kind}
 use Rattle.rules.specs.declared.Kind.TheVariants.{Reg, I8, D9, Bit, Rel8, A12, A16, Rel16}
 use Rattle.rules.specs.Expressions.{Expr}
-use Rattle.rules.specs.Forms.{operandsAt}
+use Rattle.rules.specs.Forms.{operands_at}
 use Rattle.rules.specs.Programs.{Operand, register, value, Stmt, gone, instr}
 use Rattle.text.specs.Text.{mnemonic}
 use Rattle.grammar.specs.Reading.{Exp}
@@ -48,18 +48,18 @@ pub data Shape : Mark → Operand → List ℕ → Type 0 where
 
 -- ---- one argument: the marks that may stand there, and what follows an argument of each
 
-abbrev pub registerPlan : (ℕ → Plan) → Plan
-registerPlan f = fork none (λ c. eqb c 82) (λ c. fork none (λ d. leb 48 d && leb d 51) (λ d. f (d - 48)))
+abbrev pub register_plan : (ℕ → Plan) → Plan
+register_plan f = fork none (λ c. eqb c 82) (λ c. fork none (λ d. leb 48 d && leb d 51) (λ d. f (d - 48)))
 
 abbrev pub marks : (Mark → Bool) → ℕ → Bool
 marks can c = (eqb c 35 && can hash) || (eqb c 64 && can at)
 
-abbrev pub markPlan : (Mark → Operand → Plan) → ℕ → Plan
-markPlan f c = cond (eqb c 35) (expression (λ e. f hash (value e))) (registerPlan (λ r. f at (register r)))
+abbrev pub mark_plan : (Mark → Operand → Plan) → ℕ → Plan
+mark_plan f c = cond (eqb c 35) (expression (λ e. f hash (value e))) (register_plan (λ r. f at (register r)))
 
 abbrev pub argument : (bare : Bool) → (Mark → Bool) → (Mark → Operand → Plan) → Plan
-argument true can f = either (marks can) (markPlan f) (λ e. f plain (value e))
-argument false can f = fork none (marks can) (markPlan f)
+argument true can f = either (marks can) (mark_plan f) (λ e. f plain (value e))
+argument false can f = fork none (marks can) (mark_plan f)
 
 -- ---- the forms that the line may still be of
 
@@ -81,32 +81,32 @@ behind next (way f [] ∷ w ∷ ws) xs = fork none (λ c. eqb c 44) (λ c. next 
 behind next (way f (k ∷ ks) ∷ ws) xs = fork none (λ c. eqb c 44) (λ c. next (way f (k ∷ ks) ∷ ws) xs)
 
 -- the arguments that follow xs, n at most
-unfoldable pub argsPlan : (n : ℕ) → List Way → List Operand → Plan
-argsPlan zero ws xs = done gone
-argsPlan (suc n) ws xs =
-    argument (some? (narrow plain ws)) (λ m. some? (narrow m ws)) (λ m x. behind (argsPlan n) (narrow m ws) (xs ++ (x ∷ [])))
+unfoldable pub args_plan : (n : ℕ) → List Way → List Operand → Plan
+args_plan zero ws xs = done gone
+args_plan (suc n) ws xs =
+    argument (some? (narrow plain ws)) (λ m. some? (narrow m ws)) (λ m x. behind (args_plan n) (narrow m ws) (xs ++ (x ∷ [])))
 
 -- ---- the forms are told apart as they are read
 
-abbrev pub goOn : List Way → Bool
-goOn [] = true
-goOn (way f [] ∷ ws) = false
-goOn (way f (k ∷ ks) ∷ ws) = goOn ws
+abbrev pub go_on : List Way → Bool
+go_on [] = true
+go_on (way f [] ∷ ws) = false
+go_on (way f (k ∷ ks) ∷ ws) = go_on ws
 
-abbrev pub behindFit : (List Way → Bool) → List Way → Bool
-behindFit g [] = false
-behindFit g (way f [] ∷ []) = true
-behindFit g (way f [] ∷ w ∷ ws) = false
-behindFit g (way f (k ∷ ks) ∷ ws) = g (way f (k ∷ ks) ∷ ws)
+abbrev pub behind_fit : (List Way → Bool) → List Way → Bool
+behind_fit g [] = false
+behind_fit g (way f [] ∷ []) = true
+behind_fit g (way f [] ∷ w ∷ ws) = false
+behind_fit g (way f (k ∷ ks) ∷ ws) = g (way f (k ∷ ks) ∷ ws)
 
-abbrev pub markFit : (List Way → Bool) → List Way → Bool
-markFit g ws = not (some? ws) || behindFit g ws
+abbrev pub mark_fit : (List Way → Bool) → List Way → Bool
+mark_fit g ws = not (some? ws) || behind_fit g ws
 
-unfoldable pub waysFit : (n : ℕ) → List Way → Bool
-waysFit zero ws = false
-waysFit (suc n) ws =
-    (goOn ws && some? ws)
-    && (markFit (waysFit n) (narrow hash ws) && (markFit (waysFit n) (narrow at ws) && markFit (waysFit n) (narrow plain ws)))
+unfoldable pub ways_fit : (n : ℕ) → List Way → Bool
+ways_fit zero ws = false
+ways_fit (suc n) ws =
+    (go_on ws && some? ws)
+    && (mark_fit (ways_fit n) (narrow hash ws) && (mark_fit (ways_fit n) (narrow at ws) && mark_fit (ways_fit n) (narrow plain ws)))
 
 -- ---- the words
 
@@ -117,7 +117,7 @@ below (suc n) = n ∷ below n
 -- the forms of a mnemonic
 unfoldable pub family : List ℕ → List ℕ → List Way
 family m [] = []
-family m (f ∷ fs) = onto (same (mnemonic f) m) (way f (operandsAt f)) (family m fs)
+family m (f ∷ fs) = onto (same (mnemonic f) m) (way f (operands_at f)) (family m fs)
 
 -- one form of each mnemonic
 unfoldable pub heads : List ℕ → List ℕ
@@ -125,13 +125,13 @@ heads [] = []
 heads (f ∷ fs) = onto (not (some? (family (mnemonic f) fs))) f (heads fs)
 
 abbrev pub word_of : List ℕ → List Way → Word
-word_of m [] = opening (m ++ (32 ∷ [])) (argsPlan 3 [] [])
+word_of m [] = opening (m ++ (32 ∷ [])) (args_plan 3 [] [])
 word_of m (way f [] ∷ []) = closing m (instr f [] 0)
-word_of m (way f [] ∷ w ∷ ws) = opening (m ++ (32 ∷ [])) (argsPlan 3 (way f [] ∷ w ∷ ws) [])
-word_of m (way f (k ∷ ks) ∷ ws) = opening (m ++ (32 ∷ [])) (argsPlan 3 (way f (k ∷ ks) ∷ ws) [])
+word_of m (way f [] ∷ w ∷ ws) = opening (m ++ (32 ∷ [])) (args_plan 3 (way f [] ∷ w ∷ ws) [])
+word_of m (way f (k ∷ ks) ∷ ws) = opening (m ++ (32 ∷ [])) (args_plan 3 (way f (k ∷ ks) ∷ ws) [])
 
-abbrev pub familyOf : ℕ → List Way
-familyOf f = family (mnemonic f) (below 70)
+abbrev pub family_of : ℕ → List Way
+family_of f = family (mnemonic f) (below 70)
 
 unfoldable pub mnemonics : List Word
-mnemonics = map (λ f. word_of (mnemonic f) (familyOf f)) (heads (below 70))
+mnemonics = map (λ f. word_of (mnemonic f) (family_of f)) (heads (below 70))

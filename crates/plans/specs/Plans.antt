@@ -4,9 +4,9 @@ use Rattle.std.specs.Prelude.{◌≡◌, List, [], ◌∷◌, ◌++◌, Bool, tr
 use Rattle.std.proofs.Math.Option.{Option, none, some}
 use Rattle.rules.specs.Expressions.{Expr}
 use Rattle.rules.specs.Programs.{Stmt}
-use Rattle.grammar.specs.Reading.{isDecimal, look, Decimal, Exp}
+use Rattle.grammar.specs.Reading.{is_decimal, look, Decimal, Exp}
 use Rattle.grammar.specs.Going as going
-use Rattle.grammar.specs.Going.{Read, got, stuck, infixOf, whole, Goes}
+use Rattle.grammar.specs.Going.{Read, got, stuck, infix_of, whole, Goes}
 
 pub data Plan : Type 0 where
   -- the line ends here
@@ -53,12 +53,12 @@ pub data Walks : Plan → List ℕ → Read Stmt → Type 0 where
   tree : {f : Expr → Plan} {e : Expr} {t r : List ℕ} {o : Read Stmt} → Goes (whole 5) t (got e r) → Walks (f e) r o
       → Walks (expression f) t o
   treeless : {f : Expr → Plan} {t r : List ℕ} → Goes (whole 5) t (stuck r) → Walks (expression f) t (stuck r)
-  value : {f : ℕ → Plan} {most n : ℕ} {t r : List ℕ} {o : Read Stmt} → isDecimal (look t) ≡ true
+  value : {f : ℕ → Plan} {most n : ℕ} {t r : List ℕ} {o : Read Stmt} → is_decimal (look t) ≡ true
       → going.digits most 0 t ≡ got n r → Walks (f n) r o
       → Walks (decimal most f) t o
-  large : {f : ℕ → Plan} {most : ℕ} {t r : List ℕ} → isDecimal (look t) ≡ true → going.digits most 0 t ≡ stuck r
+  large : {f : ℕ → Plan} {most : ℕ} {t r : List ℕ} → is_decimal (look t) ≡ true → going.digits most 0 t ≡ stuck r
       → Walks (decimal most f) t (stuck r)
-  valueless : {f : ℕ → Plan} {most : ℕ} {t : List ℕ} → isDecimal (look t) ≡ false → Walks (decimal most f) t (stuck t)
+  valueless : {f : ℕ → Plan} {most : ℕ} {t : List ℕ} → is_decimal (look t) ≡ false → Walks (decimal most f) t (stuck t)
   digits : {f : ℕ → Plan} {n : ℕ} {t r : List ℕ} {o : Read Stmt} → going.fixed 32767 5 0 t ≡ got n r → Walks (f n) r o → Walks (five f) t o
   nameless : {f : ℕ → Plan} {t r : List ℕ} → going.fixed 32767 5 0 t ≡ stuck r → Walks (five f) t (stuck r)
   marked : {ok : ℕ → Bool} {next : ℕ → Plan} {f : Expr → Plan} {c : ℕ} {t : List ℕ} {o : Read Stmt} → ok c ≡ true → Walks (next c) t o
@@ -73,7 +73,7 @@ pub data Walks : Plan → List ℕ → Read Stmt → Type 0 where
 -- what may stand behind an expression or a number: the end, or a byte that is no digit, no space and no operator
 abbrev pub Behind : Plan → Type 0
 Behind (done s) = Unit
-Behind (fork end ok f) = (c : ℕ) → ok c ≡ true → (isDecimal c ≡ false) × ((eqb c 32 ≡ false) × (infixOf c ≡ none))
+Behind (fork end ok f) = (c : ℕ) → ok c ≡ true → (is_decimal c ≡ false) × ((eqb c 32 ≡ false) × (infix_of c ≡ none))
 Behind (expression f) = ⊥
 Behind (decimal most f) = ⊥
 Behind (five f) = ⊥

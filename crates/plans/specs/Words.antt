@@ -73,13 +73,13 @@ apart (opening (d ∷ x) P ∷ ws) = clean true ws
 apart (closing x s ∷ ws) = clean true (closing x s ∷ ws)
 
 -- every way to go on is told apart too
-abbrev pub eachFirst : (List Word → Bool) → List Word → List Word → Bool
-eachFirst g vs [] = true
-eachFirst g vs (opening [] P ∷ ws) = eachFirst g vs ws
-eachFirst g vs (opening (c ∷ x) P ∷ ws) = g (advance c vs) && eachFirst g vs ws
-eachFirst g vs (closing [] s ∷ ws) = eachFirst g vs ws
-eachFirst g vs (closing (c ∷ x) s ∷ ws) = g (advance c vs) && eachFirst g vs ws
+abbrev pub each_first : (List Word → Bool) → List Word → List Word → Bool
+each_first g vs [] = true
+each_first g vs (opening [] P ∷ ws) = each_first g vs ws
+each_first g vs (opening (c ∷ x) P ∷ ws) = g (advance c vs) && each_first g vs ws
+each_first g vs (closing [] s ∷ ws) = each_first g vs ws
+each_first g vs (closing (c ∷ x) s ∷ ws) = g (advance c vs) && each_first g vs ws
 
 unfoldable pub fit : (k : ℕ) → List Word → Bool
 fit zero ws = false
-fit (suc k) ws = apart ws && eachFirst (fit k) ws ws
+fit (suc k) ws = apart ws && each_first (fit k) ws ws

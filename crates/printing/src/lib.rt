@@ -1,6 +1,6 @@
 // The program's answer to a text as the bytes that it prints: the new listing and the last line on a page, or a refusal's 7E line.
 ghost use Rattle.std.specs.Prelude.{◌≡◌, ◌≤◌, length};
-ghost use Rattle.printing.specs.Page.{Lent, Printable, lastAfter, PrintedRun, pageLength, refusalLine};
+ghost use Rattle.printing.specs.Page.{Lent, Printable, last_after, PrintedRun, page_length, refusal_line};
 
 use entries::optimize_jumps;
 use fault::fault_of;
@@ -18,7 +18,7 @@ fn run_into(asked: Settings, listing: &[u8], page: &mut [u8], image: &mut [u8]) 
 // The last line behind the listing. On refusal no lent byte changes.
 fn end_page(answer: Answer, page: &mut [u8])
     requires { Printable answer (length page.old) }
-    ensures { page.new ≡ lastAfter answer page.old }
+    ensures { page.new ≡ last_after answer page.old }
 {
     match answer {
         Answer::Done(sizes) => {
@@ -46,7 +46,7 @@ pub fn print_run(
 
 // How many bytes of the page an answer fills.
 pub fn page_length(answer: Answer) -> usize
-    ensures { (result ≡ pageLength answer) × (result ≤ 62482) }
+    ensures { (result ≡ page_length answer) × (result ≤ 62482) }
 {
     match answer {
         Answer::Done(sizes) => {
@@ -59,7 +59,7 @@ pub fn page_length(answer: Answer) -> usize
 
 // The 7E line: the place in two bytes and the argument's place in one, which hold those of every refusal of a run.
 pub fn refusal_line(r: Refusal) -> [u8; 19]
-    ensures { (result ≡ refusalLine r) × (19 ≡ length result) }
+    ensures { (result ≡ refusal_line r) × (19 ≡ length result) }
 {
     let f = fault_of(r);
     let mut line = [0u8; 19];

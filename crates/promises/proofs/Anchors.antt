@@ -6,57 +6,57 @@ use Prim.Native.Nat.{◌≤◌, ◌<◌}
 use native.Mathlib.Omega.{arith}
 use lib.ListN.{length, length-map}
 use Rattle.laws.specs.Lists.{total}
-use Rattle.laws.proofs.Tests.{lt-or-le, cond_both}
-use Rattle.laws.proofs.Stores.{get-out}
-use Rattle.laws.proofs.Lists.{getD-map-in}
+use Rattle.laws.proofs.Tests.{lt_or_le, cond_both}
+use Rattle.laws.proofs.Stores.{get_out}
+use Rattle.laws.proofs.Lists.{get_or_map_in}
 use Rattle.rules.specs.Programs.{Placeℕ, Operand, Stmt, gone, Program, at, retarget}
-use Rattle.rules.specs.Names.{Placed, placed, contextAt}
+use Rattle.rules.specs.Names.{Placed, placed, context_at}
 use Rattle.rules.specs.Judging.{names_of}
-use Rattle.rules.specs.Rewriting.{isAnchored, anchorTarget, anchorAt, anchor, instrBytes, movingOf}
-use Rattle.rules.proofs.Laws.{length-placed, placed-at, by-change}
-use Rattle.promises.proofs.General.{total-alike}
+use Rattle.rules.specs.Rewriting.{is_anchored, anchor_target, anchor_at, anchor, instr_bytes, moving_of}
+use Rattle.rules.proofs.Laws.{length_placed, placed_at_lem, by_change}
+use Rattle.promises.proofs.General.{total_alike}
 
 -- what anchoring makes of a target at place i
-abbrev pub anchorIn : Program → Placeℕ → Operand → Operand
-anchorIn p i = anchorTarget (names_of p) (movingOf p) p (contextAt p i)
+abbrev pub anchor_in : Program → Placeℕ → Operand → Operand
+anchor_in p i = anchor_target (names_of p) (moving_of p) p (context_at p i)
 
 -- the statement that anchoring leaves at place i
 abbrev pub anchored : Program → Placeℕ → Stmt
-anchored p i = cond (isAnchored (names_of p) p i (at p i)) (retarget (anchorIn p i) (at p i)) (at p i)
+anchored p i = cond (is_anchored (names_of p) p i (at p i)) (retarget (anchor_in p i) (at p i)) (at p i)
 
 -- as many statements
-pub length-anchor : (p : Program) → length (anchor p) ≡ length p
+pub length_anchor : (p : Program) → length (anchor p) ≡ length p
 unfolding anchor placed
-length-anchor p = rw (length-map, length-placed)
+length_anchor p = rw (length-map, length_placed)
 
 -- at each place
-pub at-anchor : (p : Program) (i : Placeℕ) → at (anchor p) i ≡ anchored p i
+pub at_anchor : (p : Program) (i : Placeℕ) → at (anchor p) i ≡ anchored p i
 unfolding anchor
-at-anchor p i = ⊎_elim inside outside (lt-or-le i (length p))
+at_anchor p i = ⊎_elim inside outside (lt_or_le i (length p))
   where
     nowhere : Placed
     nowhere = record { place = 0; context = 0; position = 0; stmt = gone }
 
     inside : i < length p → at (anchor p) i ≡ anchored p i
     inside h =
-        let k : i < length (placed p) = unfold placed in rw length-placed h in
-        getD-map-in (anchorAt (names_of p) (movingOf p) p) (placed p) i nowhere gone k ∙ ap (anchorAt (names_of p) (movingOf p) p) (placed-at p i nowhere h)
+        let k : i < length (placed p) = unfold placed in rw length_placed h in
+        get_or_map_in (anchor_at (names_of p) (moving_of p) p) (placed p) i nowhere gone k ∙ ap (anchor_at (names_of p) (moving_of p) p) (placed_at_lem p i nowhere h)
 
     outside : length p ≤ i → at (anchor p) i ≡ anchored p i
     outside h =
-        get-out (anchor p) i gone (omega (arith, length-anchor p))
-        ∙ sym (unfold isAnchored in ap (λ (s : Stmt). cond (isAnchored (names_of p) p i s) (retarget (anchorIn p i) s) s) (get-out p i gone h))
+        get_out (anchor p) i gone (omega (arith, length_anchor p))
+        ∙ sym (unfold is_anchored in ap (λ (s : Stmt). cond (is_anchored (names_of p) p i s) (retarget (anchor_in p i) s) s) (get_out p i gone h))
 
 -- what a change of targets keeps, anchoring keeps
-pub anchored-keeps {ℓ} : (P : Stmt → Type ℓ) (p : Program) (i : Placeℕ) → P (retarget (anchorIn p i) (at p i)) → P (at p i) → P (anchored p i)
-anchored-keeps P p i x y = cond_both P (isAnchored (names_of p) p i (at p i)) (retarget (anchorIn p i) (at p i)) (at p i) x y
+pub anchored_keeps {ℓ} : (P : Stmt → Type ℓ) (p : Program) (i : Placeℕ) → P (retarget (anchor_in p i) (at p i)) → P (at p i) → P (anchored p i)
+anchored_keeps P p i x y = cond_both P (is_anchored (names_of p) p i (at p i)) (retarget (anchor_in p i) (at p i)) (at p i) x y
 
 -- a change of operands changes no size
-pub instrBytes-retarget : (f : Operand → Operand) (s : Stmt) → instrBytes (retarget f s) ≡ instrBytes s
-instrBytes-retarget f s = by-change (λ s t. instrBytes t ≡ instrBytes s) _ (λ g xs c. refl) (λ s n. refl) s
+pub instr_bytes_retarget : (f : Operand → Operand) (s : Stmt) → instr_bytes (retarget f s) ≡ instr_bytes s
+instr_bytes_retarget f s = by_change (λ s t. instr_bytes t ≡ instr_bytes s) _ (λ g xs c. refl) (λ s n. refl) s
 
 -- so anchoring keeps the instruction bytes
-pub instrBytes-anchor : (p : Program) → total instrBytes (anchor p) ≡ total instrBytes p
-instrBytes-anchor p =
-    total-alike instrBytes instrBytes (anchor p) p gone gone (length-anchor p)
-    (λ i h. ap instrBytes (at-anchor p i) ∙ anchored-keeps (λ s. instrBytes s ≡ instrBytes (at p i)) p i (instrBytes-retarget (anchorIn p i) (at p i)) refl)
+pub instr_bytes_anchor : (p : Program) → total instr_bytes (anchor p) ≡ total instr_bytes p
+instr_bytes_anchor p =
+    total_alike instr_bytes instr_bytes (anchor p) p gone gone (length_anchor p)
+    (λ i h. ap instr_bytes (at_anchor p i) ∙ anchored_keeps (λ s. instr_bytes s ≡ instr_bytes (at p i)) p i (instr_bytes_retarget (anchor_in p i) (at p i)) refl)

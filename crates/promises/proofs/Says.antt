@@ -3,7 +3,7 @@ use mathlib.Core.Path.{◌≡◌, refl, subst}
 use mathlib.Core.List.{List, [], ◌∷◌}
 use mathlib.Core.Bool.{Bool, true, false, cond}
 use Rattle.rules.specs.declared.Refusal.{Refusal}
-use Rattle.rules.specs.Answers.{Judged, ok, no, Check, ◌>>=◌, ◌>>◌, checkEach, require}
+use Rattle.rules.specs.Answers.{Judged, ok, no, Check, ◌>>=◌, ◌>>◌, check_each, require}
 
 module _ {A : Type 0} where
   -- P holds of what is accepted, Q of why it is refused
@@ -13,12 +13,12 @@ module _ {A : Type 0} where
 
   module _ (P : A → Type 0) (Q : Refusal → Type 0) where
     -- what an acceptance says
-    pub says-ok : (x : Judged A) (a : A) → Says P Q x → x ≡ ok a → P a
-    says-ok x a h e = subst (Says P Q) e h
+    pub says_ok : (x : Judged A) (a : A) → Says P Q x → x ≡ ok a → P a
+    says_ok x a h e = subst (Says P Q) e h
 
     -- what a refusal says
-    pub says-no : (x : Judged A) (r : Refusal) → Says P Q x → x ≡ no r → Q r
-    says-no x r h e = subst (Says P Q) e h
+    pub says_no : (x : Judged A) (r : Refusal) → Says P Q x → x ≡ no r → Q r
+    says_no x r h e = subst (Says P Q) e h
 
     -- less of a refusal
     pub says_less : (R : Refusal → Type 0) → ((r : Refusal) → Q r → R r) → (x : Judged A) → Says P Q x → Says P R x
@@ -26,27 +26,27 @@ module _ {A : Type 0} where
     says_less R h (no r) k = h r k
 
     -- beside a fact
-    pub says-with : {X : Type 0} → X → (x : Judged A) → Says P Q x → Says (λ a. X × P a) Q x
-    says-with f (ok a) h = (f, h)
-    says-with f (no r) h = h
+    pub says_with : {X : Type 0} → X → (x : Judged A) → Says P Q x → Says (λ a. X × P a) Q x
+    says_with f (ok a) h = (f, h)
+    says_with f (no r) h = h
 
     -- a test, then the rest
-    pub says-require : (t : Bool) (r : Refusal) (y : Judged A) → Q r → (t ≡ true → Says P Q y) → Says P Q (require t r y)
+    pub says_require : (t : Bool) (r : Refusal) (y : Judged A) → Q r → (t ≡ true → Says P Q y) → Says P Q (require t r y)
     unfolding require
-    says-require true r y q h = h refl
-    says-require false r y q h = q
+    says_require true r y q h = h refl
+    says_require false r y q h = q
 
     -- one of two
-    pub says-cond : (t : Bool) (x y : Judged A) → (t ≡ true → Says P Q x) → (t ≡ false → Says P Q y) → Says P Q (cond t x y)
-    says-cond true x y h k = h refl
-    says-cond false x y h k = k refl
+    pub says_cond : (t : Bool) (x y : Judged A) → (t ≡ true → Says P Q x) → (t ≡ false → Says P Q y) → Says P Q (cond t x y)
+    says_cond true x y h k = h refl
+    says_cond false x y h k = k refl
 
 module _ {A B : Type 0} (P : A → Type 0) (R : B → Type 0) (Q : Refusal → Type 0) where
   -- one after the other, the second with what the first gave
-  pub says-bind : (x : Judged A) (f : A → Judged B) → Says P Q x → ((a : A) → P a → Says R Q (f a)) → Says R Q (x >>= f)
+  pub says_bind : (x : Judged A) (f : A → Judged B) → Says P Q x → ((a : A) → P a → Says R Q (f a)) → Says R Q (x >>= f)
   unfolding ◌>>=◌
-  says-bind (ok a) f h k = k a h
-  says-bind (no r) f h k = h
+  says_bind (ok a) f h k = k a h
+  says_bind (no r) f h k = h
 
   -- one after the other
   pub says_then : (x : Judged A) (y : Judged B) → Says P Q x → Says R Q y → Says R Q (x >> y)
@@ -58,7 +58,7 @@ abbrev pub Nothing-more : {A : Type 0} → A → Type 0
 Nothing-more a = Unit
 
 -- a check of each element
-pub says-each : {X : Type 0} (Q : Refusal → Type 0) (f : X → Check) → ((x : X) → Says Nothing-more Q (f x)) → (xs : List X) → Says Nothing-more Q (checkEach f xs)
-unfolding checkEach
-says-each Q f h [] = tt
-says-each Q f h (x ∷ xs) = says_then Nothing-more Nothing-more Q (f x) (checkEach f xs) (h x) (says-each Q f h xs)
+pub says_each : {X : Type 0} (Q : Refusal → Type 0) (f : X → Check) → ((x : X) → Says Nothing-more Q (f x)) → (xs : List X) → Says Nothing-more Q (check_each f xs)
+unfolding check_each
+says_each Q f h [] = tt
+says_each Q f h (x ∷ xs) = says_then Nothing-more Nothing-more Q (f x) (check_each f xs) (h x) (says_each Q f h xs)

@@ -5,18 +5,18 @@ use mathlib.Core.Bool.{Bool, true, false}
 use Prim.Native.Nat.{ℕ, ◌≤◌, ◌<◌}
 use lib.ListN.{length}
 use borrow.Author.Tests.{lt-ltb}
-use Rattle.laws.proofs.Lists.{every-all}
+use Rattle.laws.proofs.Lists.{every_all}
 use Rattle.rules.specs.declared.Kind.{Kind}
 use Rattle.rules.specs.declared.Kind.TheVariants.{Reg, I8, D9, Bit, Rel8, A12, A16, Rel16}
 use Rattle.rules.specs.Expressions.{Expr, bytes_of}
-use Rattle.rules.specs.Forms.{operandsAt}
+use Rattle.rules.specs.Forms.{operands_at}
 use Rattle.rules.specs.Programs.{Operand, register, value, inner, Stmt, gone, instr, label, variable, comment, org, bytes, words, pad}
 use Rattle.promises.proofs.Parses.{Bytes, Fine}
 use Rattle.promises.proofs.RoundTrip.{is_byte, AllBytes}
 
 -- bytes by place are bytes by the test
-pub all-bytes : (s : List ℕ) → Bytes s → AllBytes s
-all-bytes s h = every-all is_byte s 0 (λ i l. lt-ltb _ 256 (h i))
+pub all_bytes : (s : List ℕ) → Bytes s → AllBytes s
+all_bytes s h = every_all is_byte s 0 (λ i l. lt-ltb _ 256 (h i))
 
 -- ---- operands
 abbrev pub is_register : Kind → Bool
@@ -31,7 +31,7 @@ is_register Rel16 = false
 
 -- which operands of a form are registers
 abbrev pub shapes : ℕ → List Bool
-shapes f = map (λ k. is_register k) (operandsAt f)
+shapes f = map (λ k. is_register k) (operands_at f)
 
 abbrev pub SoundExpr : Expr → Type 0
 SoundExpr e = Fine e × (length (bytes_of e) ≤ 32)

@@ -15,8 +15,8 @@ pub record LeastMultiple (q : Addressℕ) (add m : ℕ) : Type 0 where
 
 -- "A pad may grow after a shrink, but the position after it never rises": at no place does any position rise, by a rewrite or by all of them
 pub record NeverRises (asked : Settings) (p : Program) : Type 0 where
-  pub by-step : (r q : Program) → step asked r ≡ some q → (i : Placeℕ) → position q i ≤ position r i
-  pub at-end : (i : Placeℕ) → position (optimized asked p).program i ≤ position p i
+  pub by_step : (r q : Program) → step asked r ≡ some q → (i : Placeℕ) → position q i ≤ position r i
+  pub at_end : (i : Placeℕ) → position (optimized asked p).program i ≤ position p i
 
 -- so the image that is handed out is no longer than `image`, the input's
 abbrev pub NeverGrows : (asked : Settings) → Program → (image : List ℕ) → Type 0

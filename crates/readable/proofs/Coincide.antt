@@ -8,6 +8,6 @@ use Rattle.digits.specs.Leaves.{Leaves}
 use Rattle.digits.proofs.Left.{one_left}
 use Rattle.readable.specs.Readable.{readable}
 
-pub one-readable : (listing room : List ℕ) (r s : Answer) (x y : List ℕ)
+pub one_readable : (listing room : List ℕ) (r s : Answer) (x y : List ℕ)
     → Leaves (readable listing (length room)) r room x → Leaves (readable listing (length room)) s room y → (r ≡ s) × (x ≡ y)
-one-readable listing room r s x y a b = one_left (readable listing (length room)) room r s x y a b
+one_readable listing room r s x y a b = one_left (readable listing (length room)) room r s x y a b

@@ -9,7 +9,7 @@ use Rattle.rules.specs.declared.Refusal.{Refusal}
 use Rattle.rules.specs.declared.Refusal.TheVariants.{Room}
 use Rattle.rules.specs.Answers.{Judged, ok, no, ◌>>=◌, require}
 use Rattle.rules.specs.Programs.{Program}
-use Rattle.rules.specs.Listing.{readListing}
+use Rattle.rules.specs.Listing.{read_listing}
 use Rattle.listing.specs.declared.Listed.{Listed}
 use Rattle.listing.specs.declared.Listed.TheVariants.{Read, Refused as Unread}
 use Rattle.listing.specs.Tables.{input_of, Held, Holds, ListedAs}
@@ -19,31 +19,31 @@ pub no_room : (p : Program) (room : ℕ) → room < length (text_of p) → withi
 unfolding within require
 no_room p room h = rw (lt-leb (length (text_of p)) room h)
 
-pub all-fits : (p : Program) (room : ℕ) → length (text_of p) ≤ room → within p room ≡ ok (text_of p)
+pub all_fits : (p : Program) (room : ℕ) → length (text_of p) ≤ room → within p room ≡ ok (text_of p)
 unfolding within require
-all-fits p room h = rw (le-leb (length (text_of p)) room h)
+all_fits p room h = rw (le-leb (length (text_of p)) room h)
 
-pub read_ok : (listing : List ℕ) (p : Program) (room : ℕ) → readListing listing ≡ ok p → readable listing room ≡ within p room
+pub read_ok : (listing : List ℕ) (p : Program) (room : ℕ) → read_listing listing ≡ ok p → readable listing room ≡ within p room
 unfolding readable ◌>>=◌
 read_ok listing p room e = rw e
 
 -- ---- what was read into the tables
 
 module _ (listing frames starts : List ℕ) (room : ℕ) where
-  pub read : (count : ℕ) (r : Listed) → r ≡ Read count → ListedAs frames starts r (readListing listing)
+  pub read : (count : ℕ) (r : Listed) → r ≡ Read count → ListedAs frames starts r (read_listing listing)
       → Held frames starts count × (readable listing room ≡ within (input_of frames starts count) room)
   unfolding readable ◌>>=◌
-  read count r e h = on (readListing listing) refl h
+  read count r e h = on (read_listing listing) refl h
     where
-      on : (x : Judged Program) → readListing listing ≡ x → ListedAs frames starts r x
+      on : (x : Judged Program) → read_listing listing ≡ x → ListedAs frames starts r x
           → Held frames starts count × (readable listing room ≡ within (input_of frames starts count) room)
       on (ok p) z h = let g : Holds frames starts count p = rw e at h in (g.held, rw z (ap (λ (q : Program). within q room) (sym g.input)))
       on (no q) z h = absurd (rw e at h)
 
-  pub unread : (q : Refusal) (r : Listed) → r ≡ Unread q → ListedAs frames starts r (readListing listing) → readable listing room ≡ no q
+  pub unread : (q : Refusal) (r : Listed) → r ≡ Unread q → ListedAs frames starts r (read_listing listing) → readable listing room ≡ no q
   unfolding readable ◌>>=◌
-  unread q r e h = on (readListing listing) refl h
+  unread q r e h = on (read_listing listing) refl h
     where
-      on : (x : Judged Program) → readListing listing ≡ x → ListedAs frames starts r x → readable listing room ≡ no q
+      on : (x : Judged Program) → read_listing listing ≡ x → ListedAs frames starts r x → readable listing room ≡ no q
       on (ok p) z h = absurd (rw e at h)
       on (no s) z h = let k : q ≡ s = rw e at h in rw z (sym (ap no k))

@@ -7,36 +7,36 @@ use lib.Dec.{T, eqb}
 use lib.ListN.{length}
 use Rattle.laws.specs.Lists.{each, same, every}
 use Rattle.rules.specs.Answers.{Judged, ok, no, require, ◌>>=◌}
-use Rattle.rules.specs.Refusals.{faultOf}
-use Rattle.rules.specs.Expressions.{oneMore, twoMore, thenSecond, by_tag, parse, readExpr}
-use Rattle.rules.specs.Forms.{formAt}
-use Rattle.rules.specs.Listing.{lines_of, unhex, takeByte, takePair, takeExpr, takeRegister, takeValue, takeOperands, takeExprs, takeItems, readInstr, readLabel, readVariable, readOrg, readBytes, readWords, readPad, readFrame, withinLimits, wellFormed, readLines, readListing}
+use Rattle.rules.specs.Refusals.{fault_of}
+use Rattle.rules.specs.Expressions.{one_more, two_more, then_second, by_tag, parse, read_expr}
+use Rattle.rules.specs.Forms.{form_at}
+use Rattle.rules.specs.Listing.{lines_of, unhex, take_byte, take_pair, take_expr, take_register, take_value, take_operands, take_exprs, take_items, read_instr, read_label, read_variable, read_org, read_bytes, read_words, read_pad, read_frame, within_limits, well_formed, read_lines, read_listing}
 use Rattle.rules.proofs.Computed.{chars, lines, all}
-use Rattle.text.specs.Text.{digitsOf, five, exprText, mnemonic, argsText, itemsText, lineText}
+use Rattle.text.specs.Text.{digits_of, five, expr_text, mnemonic, args_text, items_text, line_text}
 use Rattle.readable.specs.Readable.{text_of, within, readable}
 
 -- ---- what a run comes to
 
-abbrev textIs : List ℕ → Judged (List ℕ) → Bool
-textIs t (ok x) = same x t
-textIs t (no r) = false
+abbrev text_is : List ℕ → Judged (List ℕ) → Bool
+text_is t (ok x) = same x t
+text_is t (no r) = false
 
-abbrev faultIs : (number place : ℕ) → Judged (List ℕ) → Bool
-faultIs n i (ok x) = false
-faultIs n i (no r) = eqb (faultOf r).number n && eqb (faultOf r).place i
+abbrev fault_is : (number place : ℕ) → Judged (List ℕ) → Bool
+fault_is n i (ok x) = false
+fault_is n i (no r) = eqb (fault_of r).number n && eqb (fault_of r).place i
 
 unfoldable answer : (listing : List ℕ) (room : ℕ) → Judged (List ℕ)
-unfolding each every same require ◌>>=◌ oneMore twoMore thenSecond by_tag parse readExpr formAt lines_of unhex takeByte takePair takeExpr takeRegister takeValue takeOperands takeExprs takeItems readInstr readLabel readVariable readOrg readBytes readWords readPad readFrame withinLimits wellFormed readLines readListing digitsOf five exprText mnemonic argsText itemsText lineText text_of within readable
+unfolding each every same require ◌>>=◌ one_more two_more then_second by_tag parse read_expr form_at lines_of unhex take_byte take_pair take_expr take_register take_value take_operands take_exprs take_items read_instr read_label read_variable read_org read_bytes read_words read_pad read_frame within_limits well_formed read_lines read_listing digits_of five expr_text mnemonic args_text items_text line_text text_of within readable
 answer listing room = readable listing room
 
 -- this listing, its lines parted by spaces, is this line
 unfoldable writes : (listing text : String) → Bool
 unfolding answer same
-writes listing text = textIs (chars text ++ (10 ∷ [])) (answer (lines listing) 1024)
+writes listing text = text_is (chars text ++ (10 ∷ [])) (answer (lines listing) 1024)
 
 unfoldable refuses : (listing : List ℕ) (room number place : ℕ) → Bool
 unfolding answer
-refuses listing room n i = faultIs n i (answer listing room)
+refuses listing room n i = fault_is n i (answer listing room)
 
 runs : List Bool
 runs =
@@ -81,8 +81,8 @@ runs =
     writes "04" ".comment" ∷
     writes "0400AF" ".comment 00AF" ∷
     -- no statement, and the line that marks the new form: neither has a line; source lines are left out
-    textIs [] (answer [] 0) ∷
-    textIs [] (answer (lines "7D02") 0) ∷
+    text_is [] (answer [] 0) ∷
+    text_is [] (answer (lines "7D02") 0) ∷
     writes "7D02 010000000543" "nop" ∷
     -- 1 and 2 as for any listing, at their place, before 12
     refuses (lines "0143 0146") 0 1 1 ∷
@@ -90,10 +90,10 @@ runs =
     refuses (chars "0143") 0 1 0 ∷
     refuses (lines "012A2020202020202020202020202020202020202020202020202020202020202020") 0 2 0 ∷
     -- the room: `nop` and `g00000:` with their line feeds are twelve bytes; 12 gives the statement count
-    textIs (lines "nop g00000:") (answer (lines "0143 020000") 12) ∷
+    text_is (lines "nop g00000:") (answer (lines "0143 020000") 12) ∷
     refuses (lines "0143 020000") 11 12 2 ∷
     []
 
-runs-hold : T (all runs)
+runs_hold : T (all runs)
 unfolding all runs writes refuses answer same
-runs-hold = tt
+runs_hold = tt

@@ -5,10 +5,10 @@ use Prim.Native.Nat.{ℕ}
 use lib.ListN.{length}
 use Rattle.rules.specs.declared.Answer.{Answer}
 use Rattle.digits.proofs.Left.{one_left}
-use Rattle.readback.specs.ReadBack.{readBack}
+use Rattle.readback.specs.ReadBack.{read_back}
 use Rattle.readback.specs.Entry.{Leaves}
 
-pub one-read-back : (image : List ℕ) (start : ℕ) (room : List ℕ) (r s : Answer) (x y : List ℕ)
-    → Leaves (readBack image start (length room)) r room x
-    → Leaves (readBack image start (length room)) s room y → (r ≡ s) × (x ≡ y)
-one-read-back image start room r s x y a b = one_left (readBack image start (length room)) room r s x y a b
+pub one_read_back : (image : List ℕ) (start : ℕ) (room : List ℕ) (r s : Answer) (x y : List ℕ)
+    → Leaves (read_back image start (length room)) r room x
+    → Leaves (read_back image start (length room)) s room y → (r ≡ s) × (x ≡ y)
+one_read_back image start room r s x y a b = one_left (read_back image start (length room)) room r s x y a b

@@ -10,16 +10,16 @@ use Rattle.rules.specs.declared.Sizes.{Sizes}
 use Rattle.rules.specs.declared.Refusal.{Refusal}
 use Rattle.rules.specs.Answers.{Judged, ok, no}
 use Rattle.promises.proofs.RoundTrip.{AllBytes}
-use Rattle.readback.specs.ReadBack.{readBack}
+use Rattle.readback.specs.ReadBack.{read_back}
 use Rattle.readback.specs.Promise.{SameBytes}
 use Rattle.readback.specs.Entry.{Leaves, Accepted}
 use Rattle.readback.proofs.SameBytes.{same_bytes}
 
-pub on-acceptance : (image : List ℕ) (start : ℕ) (room : List ℕ) (sizes : Sizes) (after : List ℕ) → AllBytes image
-    → Leaves (readBack image start (length room)) (Done sizes) room after → Accepted image start room sizes after
-on-acceptance image start room sizes after h a = on (readBack image start (length room)) refl a
+pub on_acceptance : (image : List ℕ) (start : ℕ) (room : List ℕ) (sizes : Sizes) (after : List ℕ) → AllBytes image
+    → Leaves (read_back image start (length room)) (Done sizes) room after → Accepted image start room sizes after
+on_acceptance image start room sizes after h a = on (read_back image start (length room)) refl a
   where
-    on : (x : Judged (List ℕ)) → readBack image start (length room) ≡ x → Leaves x (Done sizes) room after
+    on : (x : Judged (List ℕ)) → read_back image start (length room) ≡ x → Leaves x (Done sizes) room after
         → Accepted image start room sizes after
     on (ok l) e a =
         let n : sizes.listing ≡ length l = cc a.answer in
@@ -32,10 +32,10 @@ on-acceptance image start room sizes after h a = on (readBack image start (lengt
         }
     on (no r) e a = clash (cc a.answer)
 
-pub on-refusal : (image : List ℕ) (start : ℕ) (room : List ℕ) (r : Refusal) (after : List ℕ)
-    → Leaves (readBack image start (length room)) (Refused r) room after
-    → (readBack image start (length room) ≡ no r) × (after ≡ room)
-on-refusal image start room r after a = on (readBack image start (length room)) a
+pub on_refusal : (image : List ℕ) (start : ℕ) (room : List ℕ) (r : Refusal) (after : List ℕ)
+    → Leaves (read_back image start (length room)) (Refused r) room after
+    → (read_back image start (length room) ≡ no r) × (after ≡ room)
+on_refusal image start room r after a = on (read_back image start (length room)) a
   where
     on : (x : Judged (List ℕ)) → Leaves x (Refused r) room after → (x ≡ no r) × (after ≡ room)
     on (ok l) a = clash (cc a.answer)

@@ -12,28 +12,28 @@ use Rattle.rules.specs.declared.Kind.{Kind}
 use Rattle.rules.specs.Expressions.{bytes_of}
 use Rattle.rules.specs.Output.{frame_of}
 use Rattle.digits.specs.Digits.{laid}
-use Rattle.digits.proofs.Rooms.{length-laid, laid_more, laid_one, laid-two}
+use Rattle.digits.proofs.Rooms.{length_laid, laid_more, laid_one, laid_two}
 use Rattle.decoding.specs.Operands.{plain}
 use Rattle.readback.specs.ReadBack.{data_of}
-use Rattle.readback.specs.Frames.{is_register, valueBytes}
+use Rattle.readback.specs.Frames.{is_register, value_bytes}
 
 -- one more element behind a piece
 pub laid_next : (d x : List ℕ) (a b v : ℕ) → a + length x ≡ b → b < length d → set (laid d a x) b v ≡ laid d a (x ++ (v ∷ []))
 laid_next d x a b v e h =
-    let n = length-laid d a x (omega arith) in
+    let n = length_laid d a x (omega arith) in
     laid_one (laid d a x) b v (omega arith) ∙ laid_more d x (v ∷ []) a b e (omega arith)
 
-pub laid-five : (d : List ℕ) (a v0 v1 v2 v3 v4 : ℕ) → a + 5 ≤ length d
+pub laid_five : (d : List ℕ) (a v0 v1 v2 v3 v4 : ℕ) → a + 5 ≤ length d
     → set (set (set (set (set d a v0) (a + 1) v1) (a + 2) v2) (a + 3) v3) (a + 4) v4 ≡ laid d a (v0 ∷ v1 ∷ v2 ∷ v3 ∷ v4 ∷ [])
-laid-five d a v0 v1 v2 v3 v4 h =
-    ap (λ l. set (set (set l (a + 2) v2) (a + 3) v3) (a + 4) v4) (laid-two d a v0 v1 (omega arith))
+laid_five d a v0 v1 v2 v3 v4 h =
+    ap (λ l. set (set (set l (a + 2) v2) (a + 3) v3) (a + 4) v4) (laid_two d a v0 v1 (omega arith))
     ∙ ap (λ l. set (set l (a + 3) v3) (a + 4) v4) (laid_next d (v0 ∷ v1 ∷ []) a (a + 2) v2 refl (omega arith))
     ∙ ap (λ l. set l (a + 4) v4) (laid_next d (v0 ∷ v1 ∷ v2 ∷ []) a (a + 3) v3 refl (omega arith))
     ∙ laid_next d (v0 ∷ v1 ∷ v2 ∷ v3 ∷ []) a (a + 4) v4 refl (omega arith)
 
-pub number-bytes : (v : ℕ) → v < 65536 → bytes_of (plain v) ≡ 0 ∷ 0 ∷ 0 ∷ v / 256 ∷ v % 256 ∷ []
+pub number_bytes : (v : ℕ) → v < 65536 → bytes_of (plain v) ≡ 0 ∷ 0 ∷ 0 ∷ v / 256 ∷ v % 256 ∷ []
 unfolding bytes_of
-number-bytes v h =
+number_bytes v h =
     let a : v / 16777216 ≡ 0 = omega arith in
     let b : v / 65536 % 256 ≡ 0 = omega arith in
     let c : v / 256 % 256 ≡ v / 256 = omega arith in
@@ -41,54 +41,54 @@ number-bytes v h =
 
 -- ---- what stands at the front of a room
 
-pub two-front : (d : List ℕ) (a b : ℕ) → 2 ≤ length d → take 2 (set (set d 0 a) 1 b) ≡ a ∷ b ∷ []
-two-front [] a b h = absurd (omega arith)
-two-front (x ∷ []) a b h = absurd (omega arith)
-two-front (x ∷ y ∷ d) a b h = refl
+pub two_front : (d : List ℕ) (a b : ℕ) → 2 ≤ length d → take 2 (set (set d 0 a) 1 b) ≡ a ∷ b ∷ []
+two_front [] a b h = absurd (omega arith)
+two_front (x ∷ []) a b h = absurd (omega arith)
+two_front (x ∷ y ∷ d) a b h = refl
 
 -- a piece stored behind what stands there
-pub front-more : (d x : List ℕ) (a : ℕ) → a ≤ length d → take (a + length x) (laid d a x) ≡ take a d ++ x
+pub front_more : (d x : List ℕ) (a : ℕ) → a ≤ length d → take (a + length x) (laid d a x) ≡ take a d ++ x
 unfolding laid
-front-more d x a h =
+front_more d x a h =
     let n : length (take a d ++ x) ≡ a + length x = omega (arith, length-append (take a d) x, length-take-le a d h) in
     ap (take (a + length x)) (sym (append_assoc (take a d) x (drop (a + length x) d)))
     ∙ take_at (take a d ++ x) (drop (a + length x) d) (a + length x) n
 
 -- ---- bytes as data
 
-abbrev pub dataItems : List ℕ → List ℕ
-dataItems s = each (λ b. bytes_of (plain b)) s
+abbrev pub data_items : List ℕ → List ℕ
+data_items s = each (λ b. bytes_of (plain b)) s
 
-items-each : (s : List ℕ) → each (λ e. bytes_of e) (map (λ b. plain b) s) ≡ dataItems s
+items_each : (s : List ℕ) → each (λ e. bytes_of e) (map (λ b. plain b) s) ≡ data_items s
 unfolding each
-items-each [] = refl
-items-each (b ∷ s) = ap (λ t. bytes_of (plain b) ++ t) (items-each s)
+items_each [] = refl
+items_each (b ∷ s) = ap (λ t. bytes_of (plain b) ++ t) (items_each s)
 
-pub data-frame : (s : List ℕ) → frame_of (data_of s) ≡ 6 ∷ length s ∷ dataItems s
+pub data_frame : (s : List ℕ) → frame_of (data_of s) ≡ 6 ∷ length s ∷ data_items s
 unfolding frame_of
-data-frame s = rw (length-map s (λ b. plain b), items-each s)
+data_frame s = rw (length-map s (λ b. plain b), items_each s)
 
-pub items-length : (s : List ℕ) → length (dataItems s) ≡ 5 * length s
+pub items_length : (s : List ℕ) → length (data_items s) ≡ 5 * length s
 unfolding each bytes_of
-items-length [] = refl
-items-length (b ∷ s) = omega (arith, items-length s)
+items_length [] = refl
+items_length (b ∷ s) = omega (arith, items_length s)
 
 -- one byte more
-pub data-more : (s d : List ℕ) (n k : ℕ) → k < length s → 7 + 5 * k ≤ length d → take (2 + 5 * k) d ≡ 6 ∷ n ∷ dataItems (take k s)
-    → take (2 + 5 * (k + 1)) (laid d (2 + 5 * k) (bytes_of (plain (get_or s k 0)))) ≡ 6 ∷ n ∷ dataItems (take (k + 1) s)
+pub data_more : (s d : List ℕ) (n k : ℕ) → k < length s → 7 + 5 * k ≤ length d → take (2 + 5 * k) d ≡ 6 ∷ n ∷ data_items (take k s)
+    → take (2 + 5 * (k + 1)) (laid d (2 + 5 * k) (bytes_of (plain (get_or s k 0)))) ≡ 6 ∷ n ∷ data_items (take (k + 1) s)
 unfolding bytes_of
-data-more s d n k h l e =
+data_more s d n k h l e =
     let x : List ℕ = bytes_of (plain (get_or s k 0)) in
     let m : 2 + 5 * (k + 1) ≡ 2 + 5 * k + length x = omega arith in
-    ap (λ (z : ℕ). take z (laid d (2 + 5 * k) x)) m ∙ front-more d x (2 + 5 * k) (omega arith) ∙ ap (λ (t : List ℕ). t ++ x) e
+    ap (λ (z : ℕ). take z (laid d (2 + 5 * k) x)) m ∙ front_more d x (2 + 5 * k) (omega arith) ∙ ap (λ (t : List ℕ). t ++ x) e
     ∙ ap (λ (t : List ℕ). 6 ∷ n ∷ t) (sym (each_more (λ b. bytes_of (plain b)) s k 0 h))
 
 -- ---- an argument
 
-pub as-register : (d : Kind) (v : ℕ) → is_register d ≡ true → valueBytes d v ≡ v ∷ []
-as-register d v e = rw e
+pub as_register : (d : Kind) (v : ℕ) → is_register d ≡ true → value_bytes d v ≡ v ∷ []
+as_register d v e = rw e
 
-pub as_number : (d : Kind) (v : ℕ) → is_register d ≡ false → valueBytes d v ≡ bytes_of (plain v)
+pub as_number : (d : Kind) (v : ℕ) → is_register d ≡ false → value_bytes d v ≡ bytes_of (plain v)
 as_number d v e = rw e
 
 pub five : (v : ℕ) → length (bytes_of (plain v)) ≡ 5

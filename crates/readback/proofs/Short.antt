@@ -9,140 +9,140 @@ use lib.Dec.{ltb, leb}
 use lib.ListN.{length, get_or, take, length-append, length-map}
 use borrow.Author.Tests.{ltb-true, lt-ltb, le-ltb, le-leb}
 use Rattle.laws.specs.Lists.{each, total}
-use Rattle.laws.proofs.Tests.{and_both, clash, lt-or-le}
+use Rattle.laws.proofs.Tests.{and_both, clash, lt_or_le}
 use Rattle.rules.specs.declared.Kind.{Kind}
 use Rattle.rules.specs.declared.Kind.TheVariants.{Reg, I8, D9, Bit, Rel8, A12, A16, Rel16}
 use Rattle.rules.specs.declared.Refusal.TheVariants.{Limit}
 use Rattle.rules.specs.Answers.{at_place, ok, no, require}
 use Rattle.rules.specs.Expressions.{bytes_of}
-use Rattle.rules.specs.Forms.{size_at, operandsAt}
+use Rattle.rules.specs.Forms.{size_at, operands_at}
 use Rattle.rules.specs.Programs.{Placeℕ, Addressℕ, Stmt, Program}
-use Rattle.rules.specs.Listing.{oldForm, withinLimits, widest, mostCharacters}
-use Rattle.rules.specs.Output.{operandBytes, frame_of, hexByte}
-use Rattle.promises.specs.Room.{frameBytes}
-use Rattle.promises.proofs.OutputRoom.{digits-length}
-use Rattle.instruction.proofs.Numbers.{size-bound, few-operands}
-use Rattle.decoding.specs.Opcodes.{formOfByte}
-use Rattle.decoding.specs.Operands.{width, heldIn, plain, operandOf, operandsFrom, noneOutside}
-use Rattle.readback.specs.ReadBack.{data_of, instructionOf, ofForm, readOne, readFrom, keepsLimits}
+use Rattle.rules.specs.Listing.{old_form, within_limits, widest, most_characters}
+use Rattle.rules.specs.Output.{operand_bytes, frame_of, hex_byte}
+use Rattle.promises.specs.Room.{frame_bytes}
+use Rattle.promises.proofs.OutputRoom.{digits_length}
+use Rattle.instruction.proofs.Numbers.{size_bound, few_operands}
+use Rattle.decoding.specs.Opcodes.{form_of_byte}
+use Rattle.decoding.specs.Operands.{width, held_in, plain, operand_of, operands_from, none_outside}
+use Rattle.readback.specs.ReadBack.{data_of, instruction_of, of_form, read_one, read_from, keeps_limits}
 
 -- ---- a frame
 
-pub data-width : (s : List ℕ) → length (each (λ e. bytes_of e) (map (λ b. plain b) s)) ≡ 5 * length s
+pub data_width : (s : List ℕ) → length (each (λ e. bytes_of e) (map (λ b. plain b) s)) ≡ 5 * length s
 unfolding each bytes_of
-data-width [] = refl
-data-width (b ∷ s) = omega (arith, data-width s)
+data_width [] = refl
+data_width (b ∷ s) = omega (arith, data_width s)
 
-pub operand-few : (n : Addressℕ) (d : Kind) (v : ℕ) → length (operandBytes (operandOf n d v)) ≤ 5
+pub operand_few : (n : Addressℕ) (d : Kind) (v : ℕ) → length (operand_bytes (operand_of n d v)) ≤ 5
 unfolding bytes_of
-operand-few n Reg v = omega arith
-operand-few n I8 v = omega arith
-operand-few n D9 v = omega arith
-operand-few n Bit v = omega arith
-operand-few n Rel8 v = omega arith
-operand-few n A12 v = omega arith
-operand-few n A16 v = omega arith
-operand-few n Rel16 v = omega arith
+operand_few n Reg v = omega arith
+operand_few n I8 v = omega arith
+operand_few n D9 v = omega arith
+operand_few n Bit v = omega arith
+operand_few n Rel8 v = omega arith
+operand_few n A12 v = omega arith
+operand_few n A16 v = omega arith
+operand_few n Rel16 v = omega arith
 
-pub operands-few : (f : ℕ) (s : List ℕ) (n : Addressℕ) (j : ℕ) (ds : List Kind)
-    → length (each (λ x. operandBytes x) (operandsFrom f s n j ds)) ≤ 5 * length ds
-unfolding operandsFrom each
-operands-few f s n j [] = omega arith
-operands-few f s n j (d ∷ ds) =
-    let v : ℕ = heldIn f s j (width d) in
-    let x = operandBytes (operandOf n d v) in
+pub operands_few : (f : ℕ) (s : List ℕ) (n : Addressℕ) (j : ℕ) (ds : List Kind)
+    → length (each (λ x. operand_bytes x) (operands_from f s n j ds)) ≤ 5 * length ds
+unfolding operands_from each
+operands_few f s n j [] = omega arith
+operands_few f s n j (d ∷ ds) =
+    let v : ℕ = held_in f s j (width d) in
+    let x = operand_bytes (operand_of n d v) in
     omega (
       arith,
-      operand-few n d v,
-      operands-few f s n (suc j) ds,
+      operand_few n d v,
+      operands_few f s n (suc j) ds,
       length-append x
-          (each (λ x. operandBytes x) (operandsFrom f s n (suc j) ds)),
+          (each (λ x. operand_bytes x) (operands_from f s n (suc j) ds)),
     )
 
-data-short : (s : List ℕ) → length s ≤ 3 → frameBytes (data_of s) ≤ 17
+data_short : (s : List ℕ) → length s ≤ 3 → frame_bytes (data_of s) ≤ 17
 unfolding frame_of
-data-short s h = omega (arith, data-width s, length-map s (λ b. plain b))
+data_short s h = omega (arith, data_width s, length-map s (λ b. plain b))
 
 take_short : (s : List ℕ) → length (take 1 s) ≤ 3
 take_short [] = omega arith
 take_short (b ∷ s) = omega arith
 
-instr-short : (i : Placeℕ) (q : Addressℕ) (s : List ℕ) (f : ℕ) → frameBytes (instructionOf i q s f) ≤ 17
+instr_short : (i : Placeℕ) (q : Addressℕ) (s : List ℕ) (f : ℕ) → frame_bytes (instruction_of i q s f) ≤ 17
 unfolding frame_of
-instr-short i q s f = omega (arith, operands-few f s (q + size_at f) 0 (operandsAt f), few-operands f)
+instr_short i q s f = omega (arith, operands_few f s (q + size_at f) 0 (operands_at f), few_operands f)
 
-form-short : (i : Placeℕ) (q : Addressℕ) (s : List ℕ) (f : ℕ) → frameBytes (ofForm i q s f) ≤ 17
-form-short i q s f = on (ltb (length s) (size_at f)) (noneOutside f s (q + size_at f) 0 (operandsAt f)) refl
+form_short : (i : Placeℕ) (q : Addressℕ) (s : List ℕ) (f : ℕ) → frame_bytes (of_form i q s f) ≤ 17
+form_short i q s f = on (ltb (length s) (size_at f)) (none_outside f s (q + size_at f) 0 (operands_at f)) refl
   where
     on : (cut inside : Bool) → ltb (length s) (size_at f) ≡ cut
-        → frameBytes (cond cut (data_of s) (cond inside (instructionOf i q s f) (data_of (take 1 s)))) ≤ 17
-    on true b e = data-short s (omega (arith, ltb-true (length s) (size_at f) e, size-bound f))
-    on false true e = instr-short i q s f
-    on false false e = data-short (take 1 s) (take_short s)
+        → frame_bytes (cond cut (data_of s) (cond inside (instruction_of i q s f) (data_of (take 1 s)))) ≤ 17
+    on true b e = data_short s (omega (arith, ltb-true (length s) (size_at f) e, size_bound f))
+    on false true e = instr_short i q s f
+    on false false e = data_short (take 1 s) (take_short s)
 
-pub one-short : (i : Placeℕ) (q : Addressℕ) (s : List ℕ) → frameBytes (readOne i q s) ≤ 17
-unfolding readOne
-one-short i q s = form-short i q s (formOfByte (get_or s 0 0))
+pub one_short : (i : Placeℕ) (q : Addressℕ) (s : List ℕ) → frame_bytes (read_one i q s) ≤ 17
+unfolding read_one
+one_short i q s = form_short i q s (form_of_byte (get_or s 0 0))
 
 -- ---- and all of them
 
 abbrev pub AllShort : Program → Type 0
 AllShort [] = Unit
-AllShort (x ∷ p) = (frameBytes x ≤ 17) × AllShort p
+AllShort (x ∷ p) = (frame_bytes x ≤ 17) × AllShort p
 
-pub from-short : (k : ℕ) (i : Placeℕ) (q : Addressℕ) (s : List ℕ) → AllShort (readFrom k i q s)
-unfolding readFrom
-from-short k i q [] = tt
-from-short zero i q (b ∷ s) = (one-short i q (b ∷ s), from-short _ _ _ s)
-from-short (suc k) i q (b ∷ s) = from-short k i q s
+pub from_short : (k : ℕ) (i : Placeℕ) (q : Addressℕ) (s : List ℕ) → AllShort (read_from k i q s)
+unfolding read_from
+from_short k i q [] = tt
+from_short zero i q (b ∷ s) = (one_short i q (b ∷ s), from_short _ _ _ s)
+from_short (suc k) i q (b ∷ s) = from_short k i q s
 
-pub short-total : (p : Program) → AllShort p → total frameBytes p ≤ 17 * length p
+pub short_total : (p : Program) → AllShort p → total frame_bytes p ≤ 17 * length p
 unfolding total
-short-total [] h = omega arith
-short-total (x ∷ p) h = omega (arith, h.0, short-total p h.1)
+short_total [] h = omega arith
+short_total (x ∷ p) h = omega (arith, h.0, short_total p h.1)
 
 -- ---- the limits, from place i on, where the statements before had as short frames
 
-within : (i sum : ℕ) (s : List ℕ) → i < 1024 → sum ≤ 34 * i → length s ≤ 34 → withinLimits oldForm i sum s ≡ true
-unfolding withinLimits
+within : (i sum : ℕ) (s : List ℕ) → i < 1024 → sum ≤ 34 * i → length s ≤ 34 → within_limits old_form i sum s ≡ true
+unfolding within_limits
 within i sum s h k l =
     and_both (ltb i 1024) _ (lt-ltb i 1024 h)
-    (and_both (leb (length s) (widest oldForm)) (leb (sum + length s) (mostCharacters oldForm))
-    (le-leb (length s) (widest oldForm) (omega arith))
-    (le-leb (sum + length s) (mostCharacters oldForm) (omega arith)))
+    (and_both (leb (length s) (widest old_form)) (leb (sum + length s) (most_characters old_form))
+    (le-leb (length s) (widest old_form) (omega arith))
+    (le-leb (sum + length s) (most_characters old_form) (omega arith)))
 
-beyond : (i sum : ℕ) (s : List ℕ) → 1024 ≤ i → withinLimits oldForm i sum s ≡ false
-unfolding withinLimits
+beyond : (i sum : ℕ) (s : List ℕ) → 1024 ≤ i → within_limits old_form i sum s ≡ false
+unfolding within_limits
 beyond i sum s h = rw (le-ltb i 1024 h)
 
-abbrev charsOf : Stmt → List ℕ
-charsOf x = each (λ b. hexByte b) (frame_of x)
+abbrev chars_of : Stmt → List ℕ
+chars_of x = each (λ b. hex_byte b) (frame_of x)
 
-pub limits-kept : (i sum : ℕ) (p : Program) → AllShort p → sum ≤ 34 * i → i + length p ≤ 1024 → keepsLimits i sum p ≡ ok tt
-unfolding keepsLimits require
-limits-kept i sum [] h k l = refl
-limits-kept i sum (x ∷ p) h k l =
-    let n = digits-length (frame_of x) in
-    rw (within i sum (charsOf x) (omega arith) k (omega (arith, h.0)))
-    (limits-kept (suc i) (sum + length (charsOf x)) p h.1 (omega (arith, h.0)) (omega arith))
+pub limits_kept : (i sum : ℕ) (p : Program) → AllShort p → sum ≤ 34 * i → i + length p ≤ 1024 → keeps_limits i sum p ≡ ok tt
+unfolding keeps_limits require
+limits_kept i sum [] h k l = refl
+limits_kept i sum (x ∷ p) h k l =
+    let n = digits_length (frame_of x) in
+    rw (within i sum (chars_of x) (omega arith) k (omega (arith, h.0)))
+    (limits_kept (suc i) (sum + length (chars_of x)) p h.1 (omega (arith, h.0)) (omega arith))
 
-pub limits-passed : (i sum : ℕ) (p : Program) → AllShort p → sum ≤ 34 * i → i ≤ 1024 → 1024 < i + length p
-    → keepsLimits i sum p ≡ no (Limit (at_place 1024))
-unfolding keepsLimits require
-limits-passed i sum [] h k m l = absurd (omega arith)
-limits-passed i sum (x ∷ p) h k m l = ⊎_elim (before (limits-passed (suc i) (sum + length (charsOf x)) p h.1)) here (lt-or-le i 1024)
+pub limits_passed : (i sum : ℕ) (p : Program) → AllShort p → sum ≤ 34 * i → i ≤ 1024 → 1024 < i + length p
+    → keeps_limits i sum p ≡ no (Limit (at_place 1024))
+unfolding keeps_limits require
+limits_passed i sum [] h k m l = absurd (omega arith)
+limits_passed i sum (x ∷ p) h k m l = ⊎_elim (before (limits_passed (suc i) (sum + length (chars_of x)) p h.1)) here (lt_or_le i 1024)
   where
-    here : 1024 ≤ i → keepsLimits i sum (x ∷ p) ≡ no (Limit (at_place 1024))
-    here e = let z : i ≡ 1024 = omega arith in rw (beyond i sum (charsOf x) e, z)
+    here : 1024 ≤ i → keeps_limits i sum (x ∷ p) ≡ no (Limit (at_place 1024))
+    here e = let z : i ≡ 1024 = omega arith in rw (beyond i sum (chars_of x) e, z)
 
-    before : (sum + length (charsOf x) ≤ 34 * suc i → suc i ≤ 1024 → 1024 < suc i + length p
-        → keepsLimits (suc i) (sum + length (charsOf x)) p ≡ no (Limit (at_place 1024)))
-        → i < 1024 → keepsLimits i sum (x ∷ p) ≡ no (Limit (at_place 1024))
+    before : (sum + length (chars_of x) ≤ 34 * suc i → suc i ≤ 1024 → 1024 < suc i + length p
+        → keeps_limits (suc i) (sum + length (chars_of x)) p ≡ no (Limit (at_place 1024)))
+        → i < 1024 → keeps_limits i sum (x ∷ p) ≡ no (Limit (at_place 1024))
     before more e =
-        let n = digits-length (frame_of x) in
-        rw (within i sum (charsOf x) e k (omega (arith, h.0))) (more (omega (arith, h.0)) (omega arith) (omega arith))
+        let n = digits_length (frame_of x) in
+        rw (within i sum (chars_of x) e k (omega (arith, h.0))) (more (omega (arith, h.0)) (omega arith) (omega arith))
 
 -- so what keeps them has 1,024 statements at most
-pub limits-say : (p : Program) → AllShort p → keepsLimits 0 0 p ≡ ok tt → length p ≤ 1024
-limits-say p h e = ⊎_elim (λ l. clash (let t = limits-passed 0 0 p h (omega arith) (omega arith) (omega arith) in cc)) (λ l. l)
-    (lt-or-le 1024 (length p))
+pub limits_say : (p : Program) → AllShort p → keeps_limits 0 0 p ≡ ok tt → length p ≤ 1024
+limits_say p h e = ⊎_elim (λ l. clash (let t = limits_passed 0 0 p h (omega arith) (omega arith) (omega arith) in cc)) (λ l. l)
+    (lt_or_le 1024 (length p))

@@ -4,57 +4,57 @@ use Rattle.laws.specs.Lists.{each}
 use Rattle.rules.specs.declared.Kind.{Kind}
 use Rattle.rules.specs.declared.Kind.TheVariants.{Reg}
 use Rattle.rules.specs.Expressions.{bytes_of}
-use Rattle.rules.specs.Forms.{operandsAt}
+use Rattle.rules.specs.Forms.{operands_at}
 use Rattle.rules.specs.Values.{below}
 use Rattle.rules.specs.Programs.{Placeℕ, Addressℕ, Operand, byte_count}
 use Rattle.rules.specs.Layout.{after}
-use Rattle.rules.specs.Output.{operandBytes, frame_of}
+use Rattle.rules.specs.Output.{operand_bytes, frame_of}
 use Rattle.digits.specs.Digits.{laid}
-use Rattle.decoding.specs.Operands.{width, heldIn, reads, plain, operandOf, operandsFrom, noneOutside}
+use Rattle.decoding.specs.Operands.{width, held_in, reads, plain, operand_of, operands_from, none_outside}
 use Rattle.readback.specs.declared.frames.Written.{Written}
 use Rattle.readback.specs.declared.frames.Written.TheVariants.{To, Outside}
 use Rattle.readback.specs.declared.frames.Step.{Step}
-use Rattle.readback.specs.ReadBack.{readOne}
+use Rattle.readback.specs.ReadBack.{read_one}
 
 -- argument j of form f with the bytes s, of which n is the address after: its kind, and what is held
 abbrev pub kind_at : (f j : ℕ) → Kind
-kind_at f j = get_or (operandsAt f) j Reg
+kind_at f j = get_or (operands_at f) j Reg
 
 abbrev pub held_at : (f : ℕ) (s : List ℕ) (j : ℕ) → ℕ
-held_at f s j = heldIn f s j (width (kind_at f j))
+held_at f s j = held_in f s j (width (kind_at f j))
 
 abbrev pub operand_at : (f : ℕ) (s : List ℕ) (n : Addressℕ) (j : ℕ) → Operand
-operand_at f s n j = operandOf n (kind_at f j) (held_at f s j)
+operand_at f s n j = operand_of n (kind_at f j) (held_at f s j)
 
 -- a register, which alone has two bits
 abbrev pub is_register : Kind → Bool
 is_register d = eqb (width d) 2
 
 -- the bytes of an argument whose number is v
-abbrev pub valueBytes : Kind → (v : ℕ) → List ℕ
-valueBytes d v = cond (is_register d) (v ∷ []) (bytes_of (plain v))
+abbrev pub value_bytes : Kind → (v : ℕ) → List ℕ
+value_bytes d v = cond (is_register d) (v ∷ []) (bytes_of (plain v))
 
 -- that argument, stored from `at` on, or outside 0..65,535
 abbrev pub Argument : (f : ℕ) (s : List ℕ) (n : Addressℕ) (j : ℕ) (room : List ℕ) (at : ℕ) → Written → (after : List ℕ) → Type 0
 Argument f s n j room at (To end) x =
     (below 65536 (reads n (kind_at f j) (held_at f s j)) ≡ true)
-    × (x ≡ laid room at (operandBytes (operand_at f s n j)))
-    × (end ≡ at + length (operandBytes (operand_at f s n j)))
+    × (x ≡ laid room at (operand_bytes (operand_at f s n j)))
+    × (end ≡ at + length (operand_bytes (operand_at f s n j)))
 Argument f s n j room at Outside x = below 65536 (reads n (kind_at f j) (held_at f s j)) ≡ false
 
 -- an instruction's frame at the front of a room, or an argument outside
-abbrev pub instrFrame : (f : ℕ) (s : List ℕ) (n : Addressℕ) → List ℕ
-instrFrame f s n = 1 ∷ f ∷ each (λ x. operandBytes x) (operandsFrom f s n 0 (operandsAt f))
+abbrev pub instr_frame : (f : ℕ) (s : List ℕ) (n : Addressℕ) → List ℕ
+instr_frame f s n = 1 ∷ f ∷ each (λ x. operand_bytes x) (operands_from f s n 0 (operands_at f))
 
 abbrev pub Instruction : (f : ℕ) (s : List ℕ) (n : Addressℕ) → Written → (room : List ℕ) → Type 0
-Instruction f s n (To end) x = (noneOutside f s n 0 (operandsAt f) ≡ true) × (take end x ≡ instrFrame f s n) × (end ≤ 17)
-Instruction f s n Outside x = noneOutside f s n 0 (operandsAt f) ≡ false
+Instruction f s n (To end) x = (none_outside f s n 0 (operands_at f) ≡ true) × (take end x ≡ instr_frame f s n) × (end ≤ 17)
+Instruction f s n Outside x = none_outside f s n 0 (operands_at f) ≡ false
 
 -- the statement that the bytes s at q begin with, at whatever place: how many bytes it takes, and its frame at the front of the room
 pub record FrameOf (q : Addressℕ) (s : List ℕ) (r : Step) (room : List ℕ) : Type 0 where
-  pub takes : (i : Placeℕ) → byte_count q (readOne i q s) ≡ r.0
-  pub goes_on : (i : Placeℕ) → after q (readOne i q s) ≡ q + r.0
+  pub takes : (i : Placeℕ) → byte_count q (read_one i q s) ≡ r.0
+  pub goes_on : (i : Placeℕ) → after q (read_one i q s) ≡ q + r.0
   pub some : 1 ≤ r.0
   pub there : r.0 ≤ length s
-  pub frame : (i : Placeℕ) → take r.1 room ≡ frame_of (readOne i q s)
+  pub frame : (i : Placeℕ) → take r.1 room ≡ frame_of (read_one i q s)
   pub short : r.1 ≤ 17

@@ -2,19 +2,19 @@
 use Rattle.std.specs.Prelude.{◌≡◌, List, Bool, true, false, ℕ, ◌≤◌, length, drop}
 use Rattle.laws.specs.Lists.{every}
 use Rattle.rules.specs.Answers.{ok}
-use Rattle.rules.specs.Programs.{Addressℕ, Stmt, Program, onInstr}
-use Rattle.rules.specs.Listing.{readListing, oldForm, besideOf}
+use Rattle.rules.specs.Programs.{Addressℕ, Stmt, Program, on_instr}
+use Rattle.rules.specs.Listing.{read_listing, old_form, beside_of}
 use Rattle.rules.specs.Layout.{gap}
 use Rattle.rules.specs.Judging.{judge}
-use Rattle.decoding.specs.Promise.{isPlainOperand}
-use Rattle.readback.specs.ReadBack.{statementsOf, listingOf, readBack}
+use Rattle.decoding.specs.Promise.{is_plain_operand}
+use Rattle.readback.specs.ReadBack.{statements_of, listing_of, read_back}
 
 -- "Assembling any accepted result gives the same bytes from that start on": the listing keeps document 01's rules, reads as the program, and
 -- assembles to zero bytes before the start and the image's own from there on; a start at the end leaves no byte at all
 pub record SameBytes (image : List ℕ) (start : Addressℕ) (listing : List ℕ) : Type 0 where
   pub program : Program
-  pub reads : readListing listing ≡ ok program
-  pub form : (besideOf listing).form ≡ oldForm
+  pub reads : read_listing listing ≡ ok program
+  pub form : (beside_of listing).form ≡ old_form
   pub assembles : judge program ≡ ok (gap start (drop start image))
   -- so no more than 3,072 bytes are ever read back: 1,024 statements of three bytes
   pub few : length (drop start image) ≤ 3072
@@ -22,13 +22,13 @@ pub record SameBytes (image : List ℕ) (start : Addressℕ) (listing : List ℕ
 -- ---- and the other way: an image that was assembled from instructions with plain numbers gives these instructions again
 
 -- an instruction whose arguments are registers and plain numbers
-abbrev pub isPlainInstr : Stmt → Bool
-isPlainInstr s = onInstr false (λ x. every isPlainOperand x.args) s
+abbrev pub is_plain_instr : Stmt → Bool
+is_plain_instr s = on_instr false (λ x. every is_plain_operand x.args) s
 
 abbrev pub PlainInstrs : Program → Type 0
-PlainInstrs p = every isPlainInstr p ≡ true
+PlainInstrs p = every is_plain_instr p ≡ true
 
 -- from the start on, in enough room, the listing's own statements come out, and their text in the old form
 pub record SameListing (image : List ℕ) (start : Addressℕ) (p : Program) : Type 0 where
-  pub statements : statementsOf image start ≡ p
-  pub answers : (room : ℕ) → length (listingOf p) ≤ room → readBack image start room ≡ ok (listingOf p)
+  pub statements : statements_of image start ≡ p
+  pub answers : (room : ℕ) → length (listing_of p) ≤ room → read_back image start room ≡ ok (listing_of p)

@@ -3,7 +3,7 @@ ghost use Rattle.std.specs.Prelude.{◌≡◌, ◌&&◌, ◌<◌, ◌≤◌, ◌
 ghost use Rattle.rules.specs.Programs.{org};
 ghost use Rattle.rules.specs.Output.{frame_of, line_of};
 ghost use Rattle.digits.specs.Digits.{laid};
-ghost use Rattle.readback.specs.ReadBack.{statementsOf, listingOf, readBack};
+ghost use Rattle.readback.specs.ReadBack.{statements_of, listing_of, read_back};
 ghost use Rattle.readback.specs.Walks.{ExtentOf};
 ghost use Rattle.readback.specs.Entry.{Leaves};
 
@@ -41,7 +41,7 @@ fn write_org(start: Address, out: &mut [u8])
 // All statements: how many, and how many characters.
 fn extent(image: &[u8], start: Address) -> Extent
     requires { (start.0 ≤ length image.now) × (length image.now ≤ 65536) }
-    ensures { ExtentOf (statementsOf image.now start.0) result }
+    ensures { ExtentOf (statements_of image.now start.0) result }
 {
     let rest = measure(image, start);
     if has_org(image, start) {
@@ -53,8 +53,8 @@ fn extent(image: &[u8], start: Address) -> Extent
 // The whole listing at the front of the room.
 fn write_all(image: &[u8], start: Address, listing: &mut [u8])
     requires { (start.0 ≤ length image.now) × (length image.now ≤ 65536)
-        × (length (listingOf (statementsOf image.now start.0)) ≤ length listing.old) }
-    ensures { listing.new ≡ laid listing.old 0 (listingOf (statementsOf image.now start.0)) }
+        × (length (listing_of (statements_of image.now start.0)) ≤ length listing.old) }
+    ensures { listing.new ≡ laid listing.old 0 (listing_of (statements_of image.now start.0)) }
 {
     if has_org(image, start) {
         write_org(start, listing);
@@ -67,7 +67,7 @@ fn write_all(image: &[u8], start: Address, listing: &mut [u8])
 // From an image that is not too long, and a start within it.
 fn write_back(image: &[u8], start: Address, listing: &mut [u8]) -> Answer
     requires { (start.0 ≤ length image.now) × (length image.now ≤ 65536) }
-    ensures { let x = readBack image.now start.0 (length listing.old) in
+    ensures { let x = read_back image.now start.0 (length listing.old) in
         Leaves x result listing.old listing.new }
 {
     let whole = extent(image, start);
@@ -89,7 +89,7 @@ fn write_back(image: &[u8], start: Address, listing: &mut [u8]) -> Answer
 
 // Reads an image back from a start address on. On refusal no lent byte changes.
 pub fn read_back(image: &[u8], start: usize, listing: &mut [u8]) -> Answer
-    ensures { let x = readBack image.now start (length listing.old) in
+    ensures { let x = read_back image.now start (length listing.old) in
         Leaves x result listing.old listing.new }
 {
     if image.len() < start {

@@ -1,12 +1,12 @@
 // The frame of one statement that is read back, laid in a room of seventeen bytes.
 ghost use Rattle.std.specs.Prelude.{◌≡◌, true, ◌+◌, ◌*◌, ◌<◌, ◌≤◌, length, get_or, take};
-ghost use Rattle.rules.specs.Forms.{operandsAt};
+ghost use Rattle.rules.specs.Forms.{operands_at};
 ghost use Rattle.rules.specs.Expressions.{bytes_of};
 ghost use Rattle.rules.specs.Output.{frame_of};
 ghost use Rattle.digits.specs.Digits.{laid};
 ghost use Rattle.decoding.specs.Operands.{plain};
 ghost use Rattle.readback.specs.ReadBack.{data_of};
-ghost use Rattle.readback.specs.Frames.{is_register, valueBytes, Argument, Instruction, FrameOf};
+ghost use Rattle.readback.specs.Frames.{is_register, value_bytes, Argument, Instruction, FrameOf};
 
 use decoding::opcodes::decode;
 use decoding::operands::{Number, held, read_as};
@@ -62,7 +62,7 @@ fn is_register(kind: Kind) -> bool
 // An argument: a register is one byte, any other a plain number.
 fn put_value(frame: &mut [u8], at: usize, kind: Kind, v: usize) -> usize
     requires { (at + 5 ≤ length frame.old) × (v < 65536) × (is_register kind ≡ true → v < 256) }
-    ensures { (frame.new ≡ laid frame.old at (valueBytes kind v)) × (result ≡ at + length (valueBytes kind v)) }
+    ensures { (frame.new ≡ laid frame.old at (value_bytes kind v)) × (result ≡ at + length (value_bytes kind v)) }
 {
     if is_register(kind) {
         frame[at] = v as u8;
@@ -89,7 +89,7 @@ fn put_data(s: &[u8], n: usize, frame: &mut [u8]) -> usize
 
 // Argument j of the instruction of this form and these bytes, with n the address after it.
 fn put_argument(s: &[u8], form: u8, j: usize, n: Address, frame: &mut [u8], at: usize) -> Written
-    requires { (form < 70) × (j < length (operandsAt form)) × (n.0 ≤ 65536) × (at + 5 ≤ length frame.old) }
+    requires { (form < 70) × (j < length (operands_at form)) × (n.0 ≤ 65536) × (at + 5 ≤ length frame.old) }
     ensures { Argument form s.now n.0 j frame.old at result frame.new }
 {
     let Operand::Is(kind) = operand_kind(form, j) else {

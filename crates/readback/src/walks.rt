@@ -2,8 +2,8 @@
 ghost use Rattle.std.specs.Prelude.{◌≡◌, ◌+◌, ◌<◌, ◌≤◌, length};
 ghost use Rattle.rules.specs.Output.{frame_of, line_of};
 ghost use Rattle.digits.specs.Digits.{laid};
-ghost use Rattle.readback.specs.ReadBack.{listingOf};
-ghost use Rattle.readback.specs.Walks.{firstOn, allOn, StepAt, ExtentOf};
+ghost use Rattle.readback.specs.ReadBack.{listing_of};
+ghost use Rattle.readback.specs.Walks.{first_on, all_on, StepAt, ExtentOf};
 
 use crate::frames::{Step, frame_at};
 use digits::put_line;
@@ -26,9 +26,9 @@ fn step_at(image: &[u8], q: Address) -> Step
 // The same, with its line stored from `at` on.
 fn write_at(image: &[u8], q: Address, out: &mut [u8], at: usize) -> Step
     requires { (q.0 < length image.now) × (length image.now ≤ 65536)
-        × (at + length (line_of (frame_of (firstOn image.now q.0))) ≤ length out.old) }
+        × (at + length (line_of (frame_of (first_on image.now q.0))) ≤ length out.old) }
     ensures { StepAt image.now q.0 result
-        × (out.new ≡ laid out.old at (line_of (frame_of (firstOn image.now q.0)))) }
+        × (out.new ≡ laid out.old at (line_of (frame_of (first_on image.now q.0)))) }
 {
     let mut frame = [0u8; 17];
     let from = q.0;
@@ -41,7 +41,7 @@ fn write_at(image: &[u8], q: Address, out: &mut [u8], at: usize) -> Step
 // The statements from start on.
 pub fn measure(image: &[u8], start: Address) -> Extent
     requires { (start.0 ≤ length image.now) × (length image.now ≤ 65536) }
-    ensures { ExtentOf (allOn image.now start.0) result × (result.0 ≤ 65536) × (result.1 ≤ 2293760) }
+    ensures { ExtentOf (all_on image.now start.0) result × (result.0 ≤ 65536) × (result.1 ≤ 2293760) }
 {
     let mut q = start.0;
     let mut count = 0;
@@ -58,8 +58,8 @@ pub fn measure(image: &[u8], start: Address) -> Extent
 // Their lines, from `at` on.
 pub fn write_from(image: &[u8], start: Address, out: &mut [u8], at: usize)
     requires { (start.0 ≤ length image.now) × (length image.now ≤ 65536)
-        × (at + length (listingOf (allOn image.now start.0)) ≤ length out.old) }
-    ensures { out.new ≡ laid out.old at (listingOf (allOn image.now start.0)) }
+        × (at + length (listing_of (all_on image.now start.0)) ≤ length out.old) }
+    ensures { out.new ≡ laid out.old at (listing_of (all_on image.now start.0)) }
 {
     let mut q = start.0;
     let mut a = at;

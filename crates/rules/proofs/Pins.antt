@@ -4,7 +4,7 @@ use mathlib.Core.List.{List, [], ◌∷◌}
 use mathlib.Core.Bool.{Bool, true, false, not}
 use lib.Dec.{T}
 use lib.IntN.{pos}
-use Rattle.rules.proofs.Computed.{turns, keeps, turnsWith, stemsByDefault, withinByDefault, encodes, refuses, faults, refers, allows, allowsNew, computed}
+use Rattle.rules.proofs.Computed.{turns, keeps, turns_with, stems_by_default, within_by_default, encodes, refuses, faults, refers, allows, allows_new, computed}
 
 -- text to image
 assembling : List Bool
@@ -25,13 +25,13 @@ assembling =
     -- 49,152 characters in the old form, 57,344 in the new
     allows 1023 48912 240 ∷
     not (allows 1023 48914 240) ∷
-    allowsNew 1023 57096 248 ∷
-    not (allowsNew 1023 57098 248) ∷
+    allows_new 1023 57096 248 ∷
+    not (allows_new 1023 57098 248) ∷
     []
 
-assembling-holds : T (computed assembling)
+assembling_holds : T (computed assembling)
 unfolding computed assembling
-assembling-holds = tt
+assembling_holds = tt
 
 -- program to program, and back to text
 rewriting : List Bool
@@ -39,7 +39,7 @@ rewriting =
     -- Br before Jmp
     turns "012B0000000000" "012C0000000000 7F0001000002" ∷
     -- whether Callf shrinks says nothing of Jmpf
-    turnsWith true false true "012B0000000000" "012C0000000000 7F0001000002" ∷
+    turns_with true false true "012B0000000000" "012C0000000000 7F0001000002" ∷
     -- another Jmp would cross a 4,096-byte edge
     keeps "0340010000001345 050FFB 012B0000000FFB 012A014001" "7F0000001000" ∷
     -- a change jump's number stays
@@ -57,11 +57,11 @@ rewriting =
     refers "012C018001 0602018001018001 0701018001 030001018001 028001" 0 0x8001 5 ∷
     -- comments that are asked for stay; by default they go, and are no stems
     keeps "04 0143" "7F0000000001" ∷
-    stemsByDefault "04 0143" (1 ∷ []) ∷
+    stems_by_default "04 0143" (1 ∷ []) ∷
     -- 12 has the input's count
-    withinByDefault 4 1 "04AA 0143" "7E0C00020000000000" ∷
+    within_by_default 4 1 "04AA 0143" "7E0C00020000000000" ∷
     []
 
-rewriting-holds : T (computed rewriting)
+rewriting_holds : T (computed rewriting)
 unfolding computed rewriting
-rewriting-holds = tt
+rewriting_holds = tt

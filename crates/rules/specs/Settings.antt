@@ -4,9 +4,9 @@ use Rattle.std.specs.Prelude.{true, false}
 use Rattle.rules.specs.declared.Settings.{Settings}
 
 -- C-18: "By default, drop them from the output after all rewriting"
-abbrev pub byDefault : Settings
-byDefault = record { comments = false; callf = true; folds = true }
+abbrev pub by_default : Settings
+by_default = record { comments = false; callf = true; folds = true }
 
 -- "the old behaviour is asked for by name": document 01's own
-abbrev pub asDocument01 : Settings
-asDocument01 = record { comments = true; callf = true; folds = true }
+abbrev pub as_document01 : Settings
+as_document01 = record { comments = true; callf = true; folds = true }

@@ -3,7 +3,7 @@
 use mathlib.Core.List.{List, [], ◌∷◌}
 use mathlib.Core.Bool.{Bool}
 use lib.Dec.{T}
-use Rattle.rules.proofs.Computed.{turns, keeps, encodes, refuses, stemsFromPlaces, states, computed}
+use Rattle.rules.proofs.Computed.{turns, keeps, encodes, refuses, stems_from_places, states, computed}
 
 -- the frame: an add byte and a multiple of 1 to 256
 frames : List Bool
@@ -22,9 +22,9 @@ frames =
     refuses "09000004" 1 0 ∷
     []
 
-frames-hold : T (computed frames)
+frames_hold : T (computed frames)
 unfolding computed frames
-frames-hold = tt
+frames_hold = tt
 
 -- positions, the image, 5 and 6
 positions : List Bool
@@ -59,9 +59,9 @@ positions =
     keeps "050010 08000010" "7F0000000000" ∷
     []
 
-positions-hold : T (computed positions)
+positions_hold : T (computed positions)
 unfolding computed positions
-positions-hold = tt
+positions_hold = tt
 
 -- what the rewriting makes of a pad
 rewriting : List Bool
@@ -92,9 +92,9 @@ rewriting =
     turns "012B0000000000 012C010001 08000083 020001" "012C0000000000 012C010001 08000083 020001 7F0001000083" ∷
     -- a shrink that a pad refuses counts after another one: the first jump's, once the second has become Br
     turns "012B010002 08010084 012B010002 012C000000000A 020002" "012A010002 08010084 012C010002 012C0000000009 020002 7F0002000089" ∷
-    stemsFromPlaces "012B010001 08000004 020001" (0 ∷ 1 ∷ 2 ∷ []) ∷
+    stems_from_places "012B010001 08000004 020001" (0 ∷ 1 ∷ 2 ∷ []) ∷
     []
 
-rewriting-hold : T (computed rewriting)
+rewriting_hold : T (computed rewriting)
 unfolding computed rewriting
-rewriting-hold = tt
+rewriting_hold = tt

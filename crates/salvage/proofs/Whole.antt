@@ -8,104 +8,104 @@ use lib.Dec.{leb}
 use lib.ListN.{length, drop, length-append}
 use borrow.Author.Tests.{le-leb, lt-leb}
 use Rattle.laws.specs.Lists.{each}
-use Rattle.laws.proofs.Tests.{first-false, second-false, and_both}
+use Rattle.laws.proofs.Tests.{first_false, second_false, and_both}
 use Rattle.rules.specs.declared.Refusal.{Refusal}
 use Rattle.rules.specs.declared.Refusal.TheVariants.{Room}
 use Rattle.rules.specs.Answers.{Judged, ok, no, require}
 use Rattle.rules.specs.Listing.{Line, lines_of, ListingForm}
 use Rattle.rules.specs.Output.{line_of, mark_of}
-use Rattle.listing.specs.Form.{form_of, isMarked, afterMark}
-use Rattle.listing.proofs.Forms.{mark-form, mark-lines, marked-long}
+use Rattle.listing.specs.Form.{form_of, is_marked, after_mark}
+use Rattle.listing.proofs.Forms.{mark_form, mark_lines, marked_long}
 use Rattle.digits.specs.Digits.{laid}
-use Rattle.digits.proofs.Rooms.{laid-front}
+use Rattle.digits.proofs.Rooms.{laid_front}
 use Rattle.salvage.specs.declared.Saved.TheVariants.{Done, Refused}
 use Rattle.salvage.specs.declared.walks.Extent.{Extent}
-use Rattle.salvage.specs.Salvage.{Salvaged, behindMark, salvageFrom, salvaged, salvage}
-use Rattle.salvage.specs.Entry.{extentOf, Leaves}
-use Rattle.salvage.specs.Turns.{fromOn, markLength}
+use Rattle.salvage.specs.Salvage.{Salvaged, behind_mark, salvage_from, salvaged, salvage}
+use Rattle.salvage.specs.Entry.{extent_of, Leaves}
+use Rattle.salvage.specs.Turns.{from_on, mark_length}
 
-pub mark-size : (m : Bool) → length (mark_of (form_of m)) ≡ markLength m
+pub mark_size : (m : Bool) → length (mark_of (form_of m)) ≡ mark_length m
 unfolding line_of each
-mark-size true = refl
-mark-size false = refl
+mark_size true = refl
+mark_size false = refl
 
-pub mark-few : (m : Bool) → markLength m ≤ 5
-mark-few true = omega arith
-mark-few false = omega arith
+pub mark_few : (m : Bool) → mark_length m ≤ 5
+mark_few true = omega arith
+mark_few false = omega arith
 
-module _ (text : List ℕ) (m : Bool) (e : m ≡ isMarked text) where
-  pub mark-there : markLength m ≤ length text
-  mark-there = on m e
+module _ (text : List ℕ) (m : Bool) (e : m ≡ is_marked text) where
+  pub mark_there : mark_length m ≤ length text
+  mark_there = on m e
     where
-      on : (b : Bool) → b ≡ isMarked text → markLength b ≤ length text
-      on true e = marked-long text (sym e)
+      on : (b : Bool) → b ≡ is_marked text → mark_length b ≤ length text
+      on true e = marked_long text (sym e)
       on false e = omega arith
 
-  behind : afterMark text ≡ drop (markLength m) text
-  unfolding afterMark
+  behind : after_mark text ≡ drop (mark_length m) text
+  unfolding after_mark
   behind = rw (← e) (on m)
     where
-      on : (b : Bool) → cond b (drop 5 text) text ≡ drop (markLength b) text
+      on : (b : Bool) → cond b (drop 5 text) text ≡ drop (mark_length b) text
       on true = refl
       on false = refl
 
   abbrev rest : Salvaged
-  rest = fromOn (form_of m) text (markLength m) 0 0
+  rest = from_on (form_of m) text (mark_length m) 0 0
 
-  pub whole_is : salvaged text ≡ behindMark (form_of m) rest
+  pub whole_is : salvaged text ≡ behind_mark (form_of m) rest
   unfolding salvaged
   whole_is =
-      ap₂ (λ (w : ListingForm) (ls : List Line). behindMark w (salvageFrom w 0 0 ls)) (mark-form text ∙ ap form_of (sym e))
-      (mark-lines text ∙ ap lines_of behind)
+      ap₂ (λ (w : ListingForm) (ls : List Line). behind_mark w (salvage_from w 0 0 ls)) (mark_form text ∙ ap form_of (sym e))
+      (mark_lines text ∙ ap lines_of behind)
 
-  pub whole-listing : (salvaged text).listing ≡ mark_of (form_of m) ++ rest.listing
-  whole-listing = ap (λ (x : Salvaged). x.listing) whole_is
+  pub whole_listing : (salvaged text).listing ≡ mark_of (form_of m) ++ rest.listing
+  whole_listing = ap (λ (x : Salvaged). x.listing) whole_is
 
-  pub whole_length : length (salvaged text).listing ≡ markLength m + length rest.listing
-  whole_length = omega (arith, ap length whole-listing, length-append (mark_of (form_of m)) rest.listing, mark-size m)
+  pub whole_length : length (salvaged text).listing ≡ mark_length m + length rest.listing
+  whole_length = omega (arith, ap length whole_listing, length-append (mark_of (form_of m)) rest.listing, mark_size m)
 
-  pub whole-count : (salvaged text).count ≡ rest.count
-  whole-count = ap (λ (x : Salvaged). x.count) whole_is
+  pub whole_count : (salvaged text).count ≡ rest.count
+  whole_count = ap (λ (x : Salvaged). x.count) whole_is
 
-  pub whole-report : (salvaged text).report ≡ rest.report
-  whole-report = ap (λ (x : Salvaged). x.report) whole_is
+  pub whole_report : (salvaged text).report ≡ rest.report
+  whole_report = ap (λ (x : Salvaged). x.report) whole_is
 
 -- ---- 12 for either room
 module _ (text listing report : List ℕ) where
   abbrev answer : Judged Salvaged
   answer = salvage text (length listing) (length report)
 
-  abbrev listingFits : Bool
-  listingFits = leb (length (salvaged text).listing) (length listing)
+  abbrev listing_fits : Bool
+  listing_fits = leb (length (salvaged text).listing) (length listing)
 
-  abbrev reportFits : Bool
-  reportFits = leb (length (salvaged text).report) (length report)
+  abbrev report_fits : Bool
+  report_fits = leb (length (salvaged text).report) (length report)
 
-  short-room : listingFits && reportFits ≡ false
+  short_room : listing_fits && report_fits ≡ false
       → answer ≡ no (Room (salvaged text).count)
   unfolding salvage require
-  short-room h = rw h
+  short_room h = rw h
 
   refused : (n : ℕ) → n ≡ (salvaged text).count
       → answer ≡ no (Room (salvaged text).count) → Leaves answer (Refused (Room n)) listing report listing report
-  refused n z e = rw (e, z) (record { answer = refl; listing-is = refl; report-is = refl })
+  refused n z e = rw (e, z) (record { answer = refl; listing_is = refl; report_is = refl })
 
-  pub no-listing-room : (n : ℕ) → n ≡ (salvaged text).count → length listing < length (salvaged text).listing
+  pub no_listing_room : (n : ℕ) → n ≡ (salvaged text).count → length listing < length (salvaged text).listing
       → Leaves answer (Refused (Room n)) listing report listing report
-  no-listing-room n z h = refused n z (short-room (first-false listingFits reportFits (lt-leb (length (salvaged text).listing) (length listing) h)))
+  no_listing_room n z h = refused n z (short_room (first_false listing_fits report_fits (lt-leb (length (salvaged text).listing) (length listing) h)))
 
-  pub no-report-room : (n : ℕ) → n ≡ (salvaged text).count → length report < length (salvaged text).report
+  pub no_report_room : (n : ℕ) → n ≡ (salvaged text).count → length report < length (salvaged text).report
       → Leaves answer (Refused (Room n)) listing report listing report
-  no-report-room n z h = refused n z (short-room (second-false listingFits reportFits (lt-leb (length (salvaged text).report) (length report) h)))
+  no_report_room n z h = refused n z (short_room (second_false listing_fits report_fits (lt-leb (length (salvaged text).report) (length report) h)))
 
   enough : length (salvaged text).listing ≤ length listing → length (salvaged text).report ≤ length report → answer ≡ ok (salvaged text)
   unfolding salvage require
-  enough h k = rw (and_both listingFits reportFits (le-leb (length (salvaged text).listing) (length listing) h)
+  enough h k = rw (and_both listing_fits report_fits (le-leb (length (salvaged text).listing) (length listing) h)
       (le-leb (length (salvaged text).report) (length report) k))
 
   pub written : (e : Extent) (listing' report' : List ℕ) → length (salvaged text).listing ≤ length listing
-      → length (salvaged text).report ≤ length report → e ≡ extentOf (salvaged text)
+      → length (salvaged text).report ≤ length report → e ≡ extent_of (salvaged text)
       → listing' ≡ laid listing 0 (salvaged text).listing → report' ≡ laid report 0 (salvaged text).report
       → Leaves answer (Done e) listing report listing' report'
   written e listing' report' h k z a b =
-      rw (enough h k, z) (record { answer = refl; listing-is = a ∙ laid-front listing _; report-is = b ∙ laid-front report _ })
+      rw (enough h k, z) (record { answer = refl; listing_is = a ∙ laid_front listing _; report_is = b ∙ laid_front report _ })

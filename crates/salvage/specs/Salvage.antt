@@ -4,9 +4,9 @@ use Rattle.std.specs.Prelude.{List, [], ◌∷◌, ◌++◌, Bool, ◌&&◌, con
 use Rattle.rules.specs.declared.Refusal.TheVariants.{Room}
 use Rattle.rules.specs.Answers.{Judged, ok, require}
 use Rattle.rules.specs.Programs.{Placeℕ}
-use Rattle.rules.specs.Listing.{Line, lines_of, ListingForm, formIn, statementLines, mostCharacters}
+use Rattle.rules.specs.Listing.{Line, lines_of, ListingForm, form_in, statement_lines, most_characters}
 use Rattle.rules.specs.Output.{mark_of}
-use Rattle.lines.specs.Alone.{byItself, standing, told, leftFrom}
+use Rattle.lines.specs.Alone.{by_itself, standing, told, left_from}
 
 -- the listing that comes out, how many statements it has, and the report
 pub record Salvaged : Type 0 where
@@ -18,36 +18,36 @@ abbrev pub nothing : Salvaged
 nothing = record { listing = []; count = 0; report = [] }
 
 -- "all are left off, and the report says from which"
-abbrev pub leftOff : (i : Placeℕ) → Salvaged
-leftOff i = record { listing = []; count = 0; report = leftFrom i }
+abbrev pub left_off : (i : Placeℕ) → Salvaged
+left_off i = record { listing = []; count = 0; report = left_from i }
 
 -- a line's characters and what is told of it, in front
-abbrev pub inFront : (chars telling : List ℕ) → Salvaged → Salvaged
-inFront chars telling x = record { listing = chars ++ (10 ∷ x.listing); count = suc x.count; report = telling ++ x.report }
+abbrev pub in_front : (chars telling : List ℕ) → Salvaged → Salvaged
+in_front chars telling x = record { listing = chars ++ (10 ∷ x.listing); count = suc x.count; report = telling ++ x.report }
 
 -- the statement limit and the total, of what comes out
-abbrev pub keepsLimits : ListingForm → (i : Placeℕ) (sum len : ℕ) → Bool
-keepsLimits w i sum len = ltb i 1024 && leb (sum + len) (mostCharacters w)
+abbrev pub keeps_limits : ListingForm → (i : Placeℕ) (sum len : ℕ) → Bool
+keeps_limits w i sum len = ltb i 1024 && leb (sum + len) (most_characters w)
 
 -- the lines from place i on, `sum` characters having come out before: "From the first line that would pass the statement or total limit on, all
 -- are left off"
-unfoldable pub salvageFrom : ListingForm → (i : Placeℕ) (sum : ℕ) → List Line → Salvaged
-salvageFrom w i sum [] = nothing
-salvageFrom w i sum (l ∷ ls) =
+unfoldable pub salvage_from : ListingForm → (i : Placeℕ) (sum : ℕ) → List Line → Salvaged
+salvage_from w i sum [] = nothing
+salvage_from w i sum (l ∷ ls) =
     let out : List ℕ = standing w l in
-    cond (keepsLimits w i sum (length out)) (inFront out (told i (byItself w l)) (salvageFrom w (suc i) (sum + length out) ls)) (leftOff i)
+    cond (keeps_limits w i sum (length out)) (in_front out (told i (by_itself w l)) (salvage_from w (suc i) (sum + length out) ls)) (left_off i)
 
 -- the first line `7D02` is no statement, and stands in front of what comes out
-abbrev pub behindMark : ListingForm → Salvaged → Salvaged
-behindMark w x = record { listing = mark_of w ++ x.listing; count = x.count; report = x.report }
+abbrev pub behind_mark : ListingForm → Salvaged → Salvaged
+behind_mark w x = record { listing = mark_of w ++ x.listing; count = x.count; report = x.report }
 
 unfoldable pub salvaged : (text : List ℕ) → Salvaged
 salvaged text =
-    let w : ListingForm = formIn (lines_of text) in
-    behindMark w (salvageFrom w 0 0 (statementLines (lines_of text)))
+    let w : ListingForm = form_in (lines_of text) in
+    behind_mark w (salvage_from w 0 0 (statement_lines (lines_of text)))
 
 -- "Refusals: 12 only, for the listing or the report": with the count of statements that would come out
-unfoldable pub salvage : (text : List ℕ) (listingRoom reportRoom : ℕ) → Judged Salvaged
-salvage text listingRoom reportRoom =
+unfoldable pub salvage : (text : List ℕ) (listing_room report_room : ℕ) → Judged Salvaged
+salvage text listing_room report_room =
     let x : Salvaged = salvaged text in
-    require (leb (length x.listing) listingRoom && leb (length x.report) reportRoom) (Room x.count) (ok x)
+    require (leb (length x.listing) listing_room && leb (length x.report) report_room) (Room x.count) (ok x)

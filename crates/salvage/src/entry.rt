@@ -5,7 +5,7 @@ ghost use Rattle.listing.specs.Form.{form_of};
 ghost use Rattle.digits.specs.Digits.{laid};
 ghost use Rattle.salvage.specs.Salvage.{salvage as answer};
 ghost use Rattle.salvage.specs.Entry.{Leaves};
-ghost use Rattle.salvage.specs.Turns.{markLength};
+ghost use Rattle.salvage.specs.Turns.{mark_length};
 
 use crate::Saved;
 use crate::walks::{Extent, measure, write_from};
@@ -15,7 +15,7 @@ use rules::Refusal;
 
 // How many bytes the first line 7D02 has, with its line feed.
 fn mark_length(marked: bool) -> usize
-    ensures { result ≡ markLength marked }
+    ensures { result ≡ mark_length marked }
 {
     if marked {
         return 5;
@@ -25,7 +25,7 @@ fn mark_length(marked: bool) -> usize
 
 // That line, at the front of the room.
 fn put_mark(marked: bool, listing: &mut [u8])
-    requires { markLength marked ≤ length listing.old }
+    requires { mark_length marked ≤ length listing.old }
     ensures { listing.new ≡ laid listing.old 0 (mark_of (form_of marked)) }
 {
     if marked {

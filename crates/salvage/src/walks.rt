@@ -2,9 +2,9 @@
 ghost use Rattle.std.specs.Prelude.{◌≡◌, ◌+◌, ◌*◌, ◌<◌, ◌≤◌, length};
 ghost use Rattle.listing.specs.Form.{form_of};
 ghost use Rattle.digits.specs.Digits.{laid};
-ghost use Rattle.salvage.specs.Salvage.{keepsLimits};
-ghost use Rattle.salvage.specs.Entry.{extentOf};
-ghost use Rattle.salvage.specs.Turns.{fromOn, toldLength, toldOf};
+ghost use Rattle.salvage.specs.Salvage.{keeps_limits};
+ghost use Rattle.salvage.specs.Entry.{extent_of};
+ghost use Rattle.salvage.specs.Turns.{from_on, told_length, told_of};
 
 use lines::{put_left, put_replaced, put_standing, take_turn};
 use listing::line_bytes;
@@ -21,7 +21,7 @@ pub struct Extent {
 // Whether `length` more characters keep the statement limit and the total.
 fn keeps_limits(marked: bool, i: usize, sum: usize, length: usize) -> bool
     requires { (sum ≤ 65536) × (length ≤ 248) }
-    ensures { result ≡ keepsLimits (form_of marked) i sum length }
+    ensures { result ≡ keeps_limits (form_of marked) i sum length }
 {
     if 1024 <= i {
         return false;
@@ -31,7 +31,7 @@ fn keeps_limits(marked: bool, i: usize, sum: usize, length: usize) -> bool
 
 // How many characters are told of a line.
 fn told_length(number: u8) -> usize
-    ensures { (result ≡ toldLength number) × (result ≤ 9) }
+    ensures { (result ≡ told_length number) × (result ≤ 9) }
 {
     if number == 0 {
         return 0;
@@ -41,8 +41,8 @@ fn told_length(number: u8) -> usize
 
 // What is told of a line, from `at` on, and where that ends.
 fn put_told(report: &mut [u8], at: usize, number: u8, place: Place) -> usize
-    requires { (at + toldLength number ≤ length report.old) × (place.0 < 65536) }
-    ensures { (report.new ≡ laid report.old at (toldOf number place.0)) × (result ≡ at + toldLength number) }
+    requires { (at + told_length number ≤ length report.old) × (place.0 < 65536) }
+    ensures { (report.new ≡ laid report.old at (told_of number place.0)) × (result ≡ at + told_length number) }
 {
     if number == 0 {
         return at;
@@ -54,7 +54,7 @@ fn put_told(report: &mut [u8], at: usize, number: u8, place: Place) -> usize
 // What comes out of the lines from byte `start` on, which are the first statements.
 pub fn measure(text: &[u8], marked: bool, start: usize) -> Extent
     requires { start ≤ length text.now }
-    ensures { (result ≡ extentOf (fromOn (form_of marked) text.now start 0 0)) × (result.listing ≤ 58368) }
+    ensures { (result ≡ extent_of (from_on (form_of marked) text.now start 0 0)) × (result.listing ≤ 58368) }
 {
     let mut q = start;
     let mut i = 0;
@@ -84,9 +84,9 @@ pub fn measure(text: &[u8], marked: bool, start: usize) -> Extent
 // Their lines, behind the mark's `start` characters, and the report.
 pub fn write_from(text: &[u8], marked: bool, start: usize, listing: &mut [u8], report: &mut [u8])
     requires { (start ≤ length text.now)
-        × (start + length (fromOn (form_of marked) text.now start 0 0).listing ≤ length listing.old)
-        × (length (fromOn (form_of marked) text.now start 0 0).report ≤ length report.old) }
-    ensures { let x = fromOn (form_of marked) text.now start 0 0 in
+        × (start + length (from_on (form_of marked) text.now start 0 0).listing ≤ length listing.old)
+        × (length (from_on (form_of marked) text.now start 0 0).report ≤ length report.old) }
+    ensures { let x = from_on (form_of marked) text.now start 0 0 in
         (listing.new ≡ laid listing.old start x.listing)
         × (report.new ≡ laid report.old 0 x.report) }
 {

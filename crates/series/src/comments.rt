@@ -1,6 +1,6 @@
 // `.comment`: "comment bytes are upper-case hexadecimal".
 ghost use Rattle.std.specs.Prelude.{◌≡◌, true, ℕ, ◌+◌, ◌≤◌, ◌<◌, length, drop};
-ghost use Rattle.rules.specs.Listing.{isDigit, digit};
+ghost use Rattle.rules.specs.Listing.{is_digit, digit};
 ghost use Rattle.plans.specs.Plans.{finish};
 ghost use Rattle.plans.specs.Finals.{comments};
 ghost use Rattle.laying.specs.Speaking.{Spoken};
@@ -8,7 +8,7 @@ ghost use Rattle.laying.specs.Speaking.{Spoken};
 use laying::{Told, put};
 
 fn is_hex(c: u8) -> bool
-    ensures { result ≡ isDigit c }
+    ensures { result ≡ is_digit c }
 {
     if c < 48 {
         return false;
@@ -20,7 +20,7 @@ fn is_hex(c: u8) -> bool
 }
 
 fn hex(c: u8) -> u8
-    requires { isDigit c ≡ true }
+    requires { is_digit c ≡ true }
     ensures { (result ≡ digit c) × (result ≤ 15) }
 {
     if c < 58 { c - 48 } else { c - 55 }

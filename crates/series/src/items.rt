@@ -2,7 +2,7 @@
 ghost use Rattle.std.specs.Prelude.{◌≡◌, List, [], ℕ, ◌+◌, ◌≤◌, ◌<◌, length, drop};
 ghost use Rattle.rules.specs.Expressions.{Expr};
 ghost use Rattle.rules.specs.Programs.{Stmt, bytes, words};
-ghost use Rattle.plans.specs.Lines.{itemsPlan};
+ghost use Rattle.plans.specs.Lines.{items_plan};
 ghost use Rattle.laying.specs.Speaking.{Spoken, Listed, ItemsEnd};
 
 use laying::{Told, put, term};
@@ -53,14 +53,14 @@ fn items(s: &[u8], k: usize, kind: u8, out: &mut [u8; 120]) -> Told
 
 pub fn bytes_line(s: &[u8], k: usize, out: &mut [u8; 120]) -> Told
     requires { (k ≤ length s.now) × (length out.old ≡ 120) }
-    ensures { Spoken (itemsPlan bytes 15 []) s.now k out.new result }
+    ensures { Spoken (items_plan bytes 15 []) s.now k out.new result }
 {
     items(s, k, 6, out)
 }
 
 pub fn words_line(s: &[u8], k: usize, out: &mut [u8; 120]) -> Told
     requires { (k ≤ length s.now) × (length out.old ≡ 120) }
-    ensures { Spoken (itemsPlan words 15 []) s.now k out.new result }
+    ensures { Spoken (items_plan words 15 []) s.now k out.new result }
 {
     items(s, k, 7, out)
 }

@@ -6,36 +6,36 @@ use lib.ListN.{take}
 use Rattle.rules.specs.declared.Refusal.{Refusal}
 use Rattle.rules.specs.Answers.{Judged, ok, no, ◌>>=◌}
 use Rattle.rules.specs.Programs.{Program}
-use Rattle.rules.specs.Listing.{Line, lines_of, formIn, statementLines, readLines, readListing}
+use Rattle.rules.specs.Listing.{Line, lines_of, form_in, statement_lines, read_lines, read_listing}
 use Rattle.listing.specs.declared.Listed.{Listed}
 use Rattle.listing.specs.declared.Listed.TheVariants.{Read, Refused as Unread}
 use Rattle.listing.specs.Tables.{input_of, Held, Holds, ListedAs}
-use Rattle.sits.specs.Before.{lengthBefore}
-use Rattle.sits.specs.Sits.{readBefore, sitsAmong, sits}
-use Rattle.sits.proofs.LinesBefore.{before-part}
+use Rattle.sits.specs.Before.{length_before}
+use Rattle.sits.specs.Sits.{read_before, sits_among, sits}
+use Rattle.sits.proofs.LinesBefore.{before_part}
 
 -- the part before n, as a listing of its own
-part-read : (text : List ℕ) (n : ℕ) → readBefore n (lines_of text) ≡ readListing (take (lengthBefore n text) text)
-unfolding readBefore readListing
-part-read text n = ap (λ (ls : List Line). readLines (formIn ls) 0 0 (statementLines ls)) (sym (before-part n text))
+part_read : (text : List ℕ) (n : ℕ) → read_before n (lines_of text) ≡ read_listing (take (length_before n text) text)
+unfolding read_before read_listing
+part_read text n = ap (λ (ls : List Line). read_lines (form_in ls) 0 0 (statement_lines ls)) (sym (before_part n text))
 
 module _ (text : List ℕ) (n : ℕ) (frames starts : List ℕ) where
   -- the tables hold the statements before n
-  pub sits-read : (count : ℕ) (r : Listed) → r ≡ Read count → ListedAs frames starts r (readListing (take (lengthBefore n text) text))
-      → Held frames starts count × (sits text n ≡ sitsAmong n (input_of frames starts count))
+  pub sits_read : (count : ℕ) (r : Listed) → r ≡ Read count → ListedAs frames starts r (read_listing (take (length_before n text) text))
+      → Held frames starts count × (sits text n ≡ sits_among n (input_of frames starts count))
   unfolding sits ◌>>=◌
-  sits-read count r e h = on (readListing (take (lengthBefore n text) text)) (part-read text n) h
+  sits_read count r e h = on (read_listing (take (length_before n text) text)) (part_read text n) h
     where
-      on : (x : Judged Program) → readBefore n (lines_of text) ≡ x → ListedAs frames starts r x
-          → Held frames starts count × (sits text n ≡ sitsAmong n (input_of frames starts count))
-      on (ok p) z h = let g : Holds frames starts count p = rw e at h in (g.held, rw z (ap (sitsAmong n) (sym g.input)))
+      on : (x : Judged Program) → read_before n (lines_of text) ≡ x → ListedAs frames starts r x
+          → Held frames starts count × (sits text n ≡ sits_among n (input_of frames starts count))
+      on (ok p) z h = let g : Holds frames starts count p = rw e at h in (g.held, rw z (ap (sits_among n) (sym g.input)))
       on (no q) z h = absurd (rw e at h)
 
-  pub sits-unread : (q : Refusal) (r : Listed) → r ≡ Unread q → ListedAs frames starts r (readListing (take (lengthBefore n text) text))
+  pub sits_unread : (q : Refusal) (r : Listed) → r ≡ Unread q → ListedAs frames starts r (read_listing (take (length_before n text) text))
       → sits text n ≡ no q
   unfolding sits ◌>>=◌
-  sits-unread q r e h = on (readListing (take (lengthBefore n text) text)) (part-read text n) h
+  sits_unread q r e h = on (read_listing (take (length_before n text) text)) (part_read text n) h
     where
-      on : (x : Judged Program) → readBefore n (lines_of text) ≡ x → ListedAs frames starts r x → sits text n ≡ no q
+      on : (x : Judged Program) → read_before n (lines_of text) ≡ x → ListedAs frames starts r x → sits text n ≡ no q
       on (ok p) z h = absurd (rw e at h)
       on (no s) z h = let k : q ≡ s = rw e at h in rw z (sym (ap no k))

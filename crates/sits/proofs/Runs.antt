@@ -5,22 +5,22 @@ use Prim.Native.Nat.{ℕ, zero, suc}
 use Prim.Native.String.{String}
 use lib.Dec.{T, eqb}
 use lib.ListN.{replicate}
-use Rattle.rules.specs.Refusals.{faultOf}
+use Rattle.rules.specs.Refusals.{fault_of}
 use Rattle.rules.specs.Answers.{Judged, ok, no}
 use Rattle.rules.proofs.Computed.{chars, lines, all, freely}
-use Rattle.sits.specs.Sits.{linesBefore, readBefore, sitsAmong, sits}
+use Rattle.sits.specs.Sits.{lines_before, read_before, sits_among, sits}
 
 unfoldable answer : (text : List ℕ) (n : ℕ) → Judged ℕ
-unfolding freely linesBefore readBefore sitsAmong sits
+unfolding freely lines_before read_before sits_among sits
 answer text n = sits text n
 
 abbrev is_at : ℕ → Judged ℕ → Bool
 is_at a (ok x) = eqb x a
 is_at a (no r) = false
 
-abbrev faultIs : (number place : ℕ) → Judged ℕ → Bool
-faultIs m i (ok x) = false
-faultIs m i (no r) = eqb (faultOf r).number m && eqb (faultOf r).place i
+abbrev fault_is : (number place : ℕ) → Judged ℕ → Bool
+fault_is m i (ok x) = false
+fault_is m i (no r) = eqb (fault_of r).number m && eqb (fault_of r).place i
 
 -- statement n of these lines sits at a; it is refused so; and the same of a text as it is
 unfoldable lies : String → (n a : ℕ) → Bool
@@ -29,15 +29,15 @@ lies text n a = is_at a (answer (lines text) n)
 
 unfoldable refuses : String → (n number place : ℕ) → Bool
 unfolding answer
-refuses text n m i = faultIs m i (answer (lines text) n)
+refuses text n m i = fault_is m i (answer (lines text) n)
 
-unfoldable liesIn : List ℕ → (n a : ℕ) → Bool
+unfoldable lies_in : List ℕ → (n a : ℕ) → Bool
 unfolding answer
-liesIn text n a = is_at a (answer text n)
+lies_in text n a = is_at a (answer text n)
 
-unfoldable refusesIn : List ℕ → (n number place : ℕ) → Bool
+unfoldable refuses_in : List ℕ → (n number place : ℕ) → Bool
 unfolding answer
-refusesIn text n m i = faultIs m i (answer text n)
+refuses_in text n m i = fault_is m i (answer text n)
 
 -- k comment lines of w characters and two more
 unfoldable wide : (w k : ℕ) → List ℕ
@@ -48,7 +48,7 @@ abbrev marked : List ℕ → List ℕ
 marked text = chars "7D02\n" ++ text
 
 unfoldable computed : List Bool → Bool
-unfolding all lies refuses liesIn refusesIn wide
+unfolding all lies refuses lies_in refuses_in wide
 computed table = all table
 
 -- where statements sit, and 14
@@ -81,9 +81,9 @@ places =
     lies "020001 0300020000000001 04AA 060200000000010000000001 07010000000001 0143" 6 5 ∷
     []
 
-places-hold : T (computed places)
+places_hold : T (computed places)
 unfolding computed places
-places-hold = tt
+places_hold = tt
 
 -- what is judged before n, in which order, and that nothing else is
 refusals : List Bool
@@ -94,10 +94,10 @@ refusals =
     refuses "99 0143" 1 1 0 ∷
     lies "99 0143" 0 0 ∷
     -- without its line feed
-    liesIn (chars "0143\n0143") 1 1 ∷
-    refusesIn (chars "0143\n0143") 2 1 1 ∷
-    liesIn (chars "0143\n") 1 1 ∷
-    refusesIn (chars "0143\n") 2 14 0 ∷
+    lies_in (chars "0143\n0143") 1 1 ∷
+    refuses_in (chars "0143\n0143") 2 1 1 ∷
+    lies_in (chars "0143\n") 1 1 ∷
+    refuses_in (chars "0143\n") 2 14 0 ∷
     -- an org below the position at n, and before it
     lies "0143 050000 0143" 1 1 ∷
     refuses "0143 050000 0143" 2 5 1 ∷
@@ -120,35 +120,35 @@ refusals =
     lies "012C0000000082" 1 2 ∷
     []
 
-refusals-hold : T (computed refusals)
+refusals_hold : T (computed refusals)
 unfolding computed refusals
-refusals-hold = tt
+refusals_hold = tt
 
 -- the limits count what comes before n only
 limits : List Bool
 limits =
     -- statement 1,025
-    liesIn (wide 0 1025) 1024 0 ∷
-    refusesIn (wide 0 1025) 1025 2 1024 ∷
-    refusesIn (wide 0 1024) 1025 14 0 ∷
+    lies_in (wide 0 1025) 1024 0 ∷
+    refuses_in (wide 0 1025) 1025 2 1024 ∷
+    refuses_in (wide 0 1024) 1025 14 0 ∷
     -- a line of 240 characters, and of 242; of 248 and 250 in the new form
-    liesIn (wide 238 1) 1 0 ∷
-    refusesIn (wide 240 1) 1 2 0 ∷
-    liesIn (wide 240 1) 0 0 ∷
-    liesIn (marked (wide 246 1)) 1 0 ∷
-    refusesIn (marked (wide 248 1)) 1 2 0 ∷
+    lies_in (wide 238 1) 1 0 ∷
+    refuses_in (wide 240 1) 1 2 0 ∷
+    lies_in (wide 240 1) 0 0 ∷
+    lies_in (marked (wide 246 1)) 1 0 ∷
+    refuses_in (marked (wide 248 1)) 1 2 0 ∷
     -- 49,152 characters in all, and two more; 57,344 in the new form
-    liesIn (wide 238 204 ++ wide 190 1) 205 0 ∷
-    refusesIn (wide 238 204 ++ wide 192 1) 205 2 204 ∷
-    liesIn (wide 238 204 ++ wide 192 1) 204 0 ∷
-    liesIn (marked (wide 246 231 ++ wide 54 1)) 232 0 ∷
-    refusesIn (marked (wide 246 231 ++ wide 56 1)) 232 2 231 ∷
-    liesIn (marked (wide 246 231 ++ wide 56 1)) 231 0 ∷
+    lies_in (wide 238 204 ++ wide 190 1) 205 0 ∷
+    refuses_in (wide 238 204 ++ wide 192 1) 205 2 204 ∷
+    lies_in (wide 238 204 ++ wide 192 1) 204 0 ∷
+    lies_in (marked (wide 246 231 ++ wide 54 1)) 232 0 ∷
+    refuses_in (marked (wide 246 231 ++ wide 56 1)) 232 2 231 ∷
+    lies_in (marked (wide 246 231 ++ wide 56 1)) 231 0 ∷
     []
 
-limits-hold : T (computed limits)
+limits_hold : T (computed limits)
 unfolding computed limits
-limits-hold = tt
+limits_hold = tt
 
 -- C-20: the new form
 forms : List Bool
@@ -167,8 +167,8 @@ forms =
     refuses "0143 7D02 0143" 2 1 1 ∷
     refuses "7D02 7D02" 1 1 0 ∷
     -- unended it is a bad line at place 0
-    refusesIn (chars "7D02") 1 1 0 ∷
-    liesIn (chars "7D02") 0 0 ∷
+    refuses_in (chars "7D02") 1 1 0 ∷
+    lies_in (chars "7D02") 0 0 ∷
     -- orgs and pads
     lies "7D02 010000000143 05000000020010 010000000343" 1 1 ∷
     lies "7D02 010000000143 05000000020010 010000000343" 2 16 ∷
@@ -177,6 +177,6 @@ forms =
     refuses "7D02 010000000143 05000000020000 010000000343" 2 5 1 ∷
     []
 
-forms-hold : T (computed forms)
+forms_hold : T (computed forms)
 unfolding computed forms
-forms-hold = tt
+forms_hold = tt

@@ -1,6 +1,6 @@
 // Where every statement of a listing sits, found in one reading.
 ghost use Rattle.listing.specs.Tables.{input_of, Held};
-ghost use Rattle.sits.specs.All.{fitting, laidOut, Places};
+ghost use Rattle.sits.specs.All.{fitting, laid_out, Places};
 
 use asm::start_state;
 use env::lay_out;
@@ -36,7 +36,7 @@ fn lay_all(frames: &[u8], starts: &Starts, count: usize, table: [u32; 1025]) -> 
 // A table with the position of each statement of a listing, and of the end behind them. What lies behind is as it was handed over, and on
 // refusal all of it.
 pub fn all_sit(listing: &[u8], table: [u32; 1025]) -> Laid
-    ensures { Places (laidOut listing.now) result.answer table result.positions }
+    ensures { Places (laid_out listing.now) result.answer table result.positions }
 {
     let mut frames = [0u8; 28672];
     let mut starts = [0u16; 4100];

@@ -1,12 +1,12 @@
 // The part of a text that comes before statement n.
 ghost use Rattle.std.specs.Prelude.{◌≡◌, ◌≤◌, length};
-ghost use Rattle.sits.specs.Before.{linesLength, lengthBefore};
+ghost use Rattle.sits.specs.Before.{lines_length, length_before};
 
 use listing::new_form;
 
 // How many bytes the first n lines have: all of them where there are fewer.
 fn lines_length(text: &[u8], n: usize) -> usize
-    ensures { result ≡ linesLength n text.now }
+    ensures { result ≡ lines_length n text.now }
 {
     let mut passed = 0;
     let mut i = 0;
@@ -24,7 +24,7 @@ fn lines_length(text: &[u8], n: usize) -> usize
 
 // How many bytes come before statement n: the lines before it, and the line that marks their form. Where n is 0 not even the mark is looked at.
 pub fn bytes_before(text: &[u8], n: usize) -> usize
-    ensures { (result ≡ lengthBefore n text.now) × (result ≤ length text.now) }
+    ensures { (result ≡ length_before n text.now) × (result ≤ length text.now) }
 {
     if n == 0 {
         return 0;

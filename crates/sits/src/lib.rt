@@ -1,7 +1,7 @@
 // C-17: where statement n sits, answered from the frames before n alone.
 ghost use Rattle.std.specs.Prelude.{◌≡◌};
 ghost use Rattle.listing.specs.Tables.{input_of, Held};
-ghost use Rattle.sits.specs.Sits.{sitsAmong, sits, sitsAs};
+ghost use Rattle.sits.specs.Sits.{sits_among, sits, sits_as};
 
 use asm::{address_of, start_state};
 use env::lay_out;
@@ -24,7 +24,7 @@ pub enum Sits {
 // Where statement n sits behind the `count` statements before it that were read: 5 and 6, then 14.
 fn sits_behind(frames: &[u8], starts: &Starts, count: usize, n: usize) -> Sits
     requires { Held frames.now starts.now count }
-    ensures { result ≡ sitsAs (sitsAmong n (input_of frames.now starts.now count)) }
+    ensures { result ≡ sits_as (sits_among n (input_of frames.now starts.now count)) }
 {
     let mut positions = [0u32; 1025];
     let state = start_state(starts, count);
@@ -40,7 +40,7 @@ fn sits_behind(frames: &[u8], starts: &Starts, count: usize, n: usize) -> Sits
 
 // Where statement n of a listing sits. Nothing at n or behind it is looked at.
 pub fn where_sits(listing: &[u8], n: usize) -> Sits
-    ensures { result ≡ sitsAs (sits listing.now n) }
+    ensures { result ≡ sits_as (sits listing.now n) }
 {
     let mut frames = [0u8; 28672];
     let mut starts = [0u16; 4100];

@@ -7,23 +7,23 @@ use native.Mathlib.Numerals.{add-one}
 use native.Mathlib.Omega.{arith}
 use lib.IntN.{ℤ}
 use lib.ListN.{length, get_or, take, drop, length-take, length-drop}
-use Rattle.laws.proofs.Counts.{getD-tab}
-use Rattle.laws.proofs.Stores.{rest-is}
+use Rattle.laws.proofs.Counts.{get_or_tab}
+use Rattle.laws.proofs.Stores.{rest_is}
 use Rattle.rules.specs.declared.Outcome.{Outcome}
 use Rattle.rules.specs.Programs.{Placeℕ}
-use Rattle.rules.specs.Names.{contextAt}
+use Rattle.rules.specs.Names.{context_at}
 use Rattle.expression.specs.Linked.{Linked}
 use Rattle.expression.specs.Naming.{Referred}
-use Rattle.expression.proofs.Links.{linked-drop}
-use Rattle.expression.proofs.Tallies.{referred-drop}
+use Rattle.expression.proofs.Links.{linked_drop}
+use Rattle.expression.proofs.Tallies.{referred_drop}
 use Rattle.listing.specs.Tables.{frame_at, input_at, input_of, Held}
 use Rattle.slots.specs.Slots.{Slots, slot_at}
-use Rattle.slots.specs.Links.{nameIn, namesRead, contextsRead, namesNow, Spans}
-use Rattle.slots.proofs.Tables.{bounds, length-frame}
+use Rattle.slots.specs.Links.{name_in, names_read, contexts_read, names_now, Spans}
+use Rattle.slots.proofs.Tables.{bounds, length_frame}
 
 module _ (links starts : List ℕ) (i : Placeℕ) where
-  pub part-ends : Spans starts i (length links) → (a e : ℕ) → a ≡ get_or starts i 0 → e ≡ get_or starts (i + 1) 0 → (a ≤ e) × (e ≤ length links)
-  part-ends h a e p q =
+  pub part_ends : Spans starts i (length links) → (a e : ℕ) → a ≡ get_or starts i 0 → e ≡ get_or starts (i + 1) 0 → (a ≤ e) × (e ≤ length links)
+  part_ends h a e p q =
       let r : e ≡ get_or starts (suc i) 0 = q ∙ ap (λ k. get_or starts k 0) (add-one i) in
       (omega (arith, h.1), omega (arith, h.2))
 
@@ -35,37 +35,37 @@ module _ (frames starts : List ℕ) (n : ℕ) (h : Held frames starts n) (links 
   pub spans : Spans starts i (length links)
   spans = let b = bounds frames starts n h i l in (omega (arith, b.few), omega (arith, b.some), omega (arith, b.within))
 
-  own-length : length (frame_at links starts i) ≡ get_or starts (suc i) 0 - get_or starts i 0
+  own_length : length (frame_at links starts i) ≡ get_or starts (suc i) 0 - get_or starts i 0
   unfolding frame_at
-  own-length = let b = bounds frames starts n h i l in simp (length-take, length-drop) (omega (arith, b.some, b.within))
+  own_length = let b = bounds frames starts n h i l in simp (length-take, length-drop) (omega (arith, b.some, b.within))
 
   -- as many links as bytes
-  pub length-beside : length (frame_at links starts i) ≡ length (frame_at frames starts i)
-  length-beside = own-length ∙ sym (length-frame frames starts n h i l)
+  pub length_beside : length (frame_at links starts i) ≡ length (frame_at frames starts i)
+  length_beside = own_length ∙ sym (length_frame frames starts n h i l)
 
 -- ---- from a byte of the frame on
 
-pub part-linked : (env : ℕ → Outcome) (f b : List ℕ) (values : List ℤ) (limit a : ℕ) → Linked env f b values limit
+pub part_linked : (env : ℕ → Outcome) (f b : List ℕ) (values : List ℤ) (limit a : ℕ) → Linked env f b values limit
     → Linked env (take (length f - a) (drop a f)) (take (length b - a) (drop a b)) values limit
-part-linked env f b values limit a h = rw (rest-is a f, rest-is a b) (linked-drop f b values limit env a h)
+part_linked env f b values limit a h = rw (rest_is a f, rest_is a b) (linked_drop f b values limit env a h)
 
-pub part-referred : (g : ℕ → Bool) (f b : List ℕ) (place a : ℕ) → Referred g f b place
+pub part_referred : (g : ℕ → Bool) (f b : List ℕ) (place a : ℕ) → Referred g f b place
     → Referred g (take (length f - a) (drop a f)) (take (length b - a) (drop a b)) place
-part-referred g f b place a h = rw (rest-is a f, rest-is a b) (referred-drop f b place g a h)
+part_referred g f b place a h = rw (rest_is a f, rest_is a b) (referred_drop f b place g a h)
 
-pub part-lengths : (f b : List ℕ) (a : ℕ) → length b ≡ length f → length (take (length f - a) (drop a f)) ≤ length (take (length b - a) (drop a b))
-part-lengths f b a e = rw (rest-is a f, rest-is a b) (omega (arith, length-drop a f, length-drop a b))
+pub part_lengths : (f b : List ℕ) (a : ℕ) → length b ≡ length f → length (take (length f - a) (drop a f)) ≤ length (take (length b - a) (drop a b))
+part_lengths f b a e = rw (rest_is a f, rest_is a b) (omega (arith, length-drop a f, length-drop a b))
 
 -- ---- the tables by place
 
-pub name-read : (frames starts : List ℕ) (n : ℕ) (i : Placeℕ) → i < n → get_or (namesRead frames starts n) i 0 ≡ nameIn (input_at frames starts i)
-unfolding namesRead
-name-read frames starts n i l = getD-tab (λ j. nameIn (input_at frames starts j)) n i 0 l
+pub name_read : (frames starts : List ℕ) (n : ℕ) (i : Placeℕ) → i < n → get_or (names_read frames starts n) i 0 ≡ name_in (input_at frames starts i)
+unfolding names_read
+name_read frames starts n i l = get_or_tab (λ j. name_in (input_at frames starts j)) n i 0 l
 
-pub context-read : (frames starts : List ℕ) (n : ℕ) (i : Placeℕ) → i < n → get_or (contextsRead frames starts n) i 0 ≡ contextAt (input_of frames starts n) i
-unfolding contextsRead
-context-read frames starts n i l = getD-tab (contextAt (input_of frames starts n)) n i 0 l
+pub context_read : (frames starts : List ℕ) (n : ℕ) (i : Placeℕ) → i < n → get_or (contexts_read frames starts n) i 0 ≡ context_at (input_of frames starts n) i
+unfolding contexts_read
+context_read frames starts n i l = get_or_tab (context_at (input_of frames starts n)) n i 0 l
 
-pub name-now : (t : Slots) (i : Placeℕ) → i < t.count → get_or (namesNow t) i 0 ≡ nameIn (slot_at t i)
-unfolding namesNow
-name-now t i l = getD-tab (λ j. nameIn (slot_at t j)) t.count i 0 l
+pub name_now : (t : Slots) (i : Placeℕ) → i < t.count → get_or (names_now t) i 0 ≡ name_in (slot_at t i)
+unfolding names_now
+name_now t i l = get_or_tab (λ j. name_in (slot_at t j)) t.count i 0 l

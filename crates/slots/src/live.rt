@@ -2,11 +2,11 @@
 ghost use Rattle.std.specs.Prelude.{◌≡◌, List, ℕ, ◌<◌, get_or};
 ghost use Rattle.rules.specs.Instructions.{form_of};
 ghost use Rattle.rules.specs.Programs.{kind_of};
-ghost use Rattle.rules.specs.Statements.{statementOf};
+ghost use Rattle.rules.specs.Statements.{statement_of};
 ghost use Rattle.listing.specs.Tables.{Held};
-ghost use Rattle.slots.specs.Slots.{Slots, slots, goneForm, slot_at};
-ghost use Rattle.slots.specs.State.{startsIn, formsIn};
-ghost use Rattle.slots.specs.Meaning.{OtherIn, meantBy, Agrees, Stands};
+ghost use Rattle.slots.specs.Slots.{Slots, slots, gone_form, slot_at};
+ghost use Rattle.slots.specs.State.{starts_in, forms_in};
+ghost use Rattle.slots.specs.Meaning.{OtherIn, meant_by, Agrees, Stands};
 
 use crate::{GONE, SECOND, Slot, State, THIRD, form_in, frame_at, half, items_in, pair_in, wide};
 use instruction::forms::{Made, make};
@@ -15,7 +15,7 @@ use rules::{Arg, Instr, Place, Statement};
 // The statement of a frame that is no instruction's.
 fn other_in(frame: &[u8]) -> Statement
     requires { (i : ℕ) × OtherIn i frame.now }
-    ensures { result ≡ statementOf frame.now }
+    ensures { result ≡ statement_of frame.now }
 {
     match frame[0] {
         2 => Statement::Label(pair_in(frame)),
@@ -30,9 +30,9 @@ fn other_in(frame: &[u8]) -> Statement
 
 // What stands in the slot at a place.
 pub fn slot_at(frames: &[u8], state: &State, count: usize, at: Place) -> Slot
-    requires { Held frames.now (startsIn state.now) count × (at.0 < count) }
+    requires { Held frames.now (starts_in state.now) count × (at.0 < count) }
     ensures { (carry owners offsets : List ℕ) →
-        (let t : Slots = slots frames.now (startsIn state.now) count (formsIn
+        (let t : Slots = slots frames.now (starts_in state.now) count (forms_in
         state.now) carry owners offsets in
         Stands t at.0 result) }
 {
@@ -49,12 +49,12 @@ pub fn slot_at(frames: &[u8], state: &State, count: usize, at: Place) -> Slot
 
 // The instruction at a place, its arguments where reading found them.
 pub fn instr_at(state: &State, at: Place) -> Instr
-    requires { (at.0 < 1024) × (get_or (formsIn state.now) at.0 0 < goneForm) }
-    ensures form { form_of result ≡ get_or (formsIn state.now) at.0 0 }
+    requires { (at.0 < 1024) × (get_or (forms_in state.now) at.0 0 < gone_form) }
+    ensures form { form_of result ≡ get_or (forms_in state.now) at.0 0 }
     ensures means { (frames : List ℕ) (count : ℕ) (carry owners offsets : List ℕ) →
-        (let t : Slots = slots frames (startsIn state.now) count (formsIn state.now) carry owners offsets in
-        Held frames (startsIn state.now) count → at.0 < count → kind_of (slot_at t at.0) ≡ 1 → Agrees t at.0
-        → slot_at t at.0 ≡ meantBy t at.0 (Statement.Instr result)) }
+        (let t : Slots = slots frames (starts_in state.now) count (forms_in state.now) carry owners offsets in
+        Held frames (starts_in state.now) count → at.0 < count → kind_of (slot_at t at.0) ≡ 1 → Agrees t at.0
+        → slot_at t at.0 ≡ meant_by t at.0 (Statement.Instr result)) }
 {
     let i = at.0;
     let second = Arg(wide(state[SECOND][i]));

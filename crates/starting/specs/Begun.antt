@@ -2,7 +2,7 @@
 use Rattle.std.specs.Prelude.{◌≡◌, List, true, ℕ}
 use Rattle.rules.specs.Answers.{Judged, ok, no, ◌>>=◌, ◌>>◌}
 use Rattle.rules.specs.Programs.{Program}
-use Rattle.rules.specs.Listing.{readListing}
+use Rattle.rules.specs.Listing.{read_listing}
 use Rattle.rules.specs.Judging.{judge, assembles}
 use Rattle.rules.specs.Rewriting.{anchor}
 use Rattle.promises.specs.Demand2.{Input}
@@ -11,7 +11,7 @@ use Rattle.slots.specs.Links.{Beside}
 use Rattle.listing.specs.Tables.{input_of}
 use Rattle.asm.specs.declared.Verdict.{Verdict}
 use Rattle.asm.specs.declared.Verdict.TheVariants.{Good, Refused as Bad}
-use Rattle.asm.specs.Verdicts.{verdictAs}
+use Rattle.asm.specs.Verdicts.{verdict_as}
 use Rattle.attempts.specs.Standing.{Standing}
 use Rattle.starting.specs.declared.Begun.{Begun}
 use Rattle.starting.specs.declared.Begun.TheVariants.{Read, Refused}
@@ -19,7 +19,7 @@ use Rattle.starting.specs.declared.Begun.TheVariants.{Read, Refused}
 -- the statements of a listing that keeps the listing rules and assembles as given; the refusals are those of a run, but for 12
 unfoldable pub accepted : (text : List ℕ) → Judged Program
 accepted text = do
-  p ← readListing text
+  p ← read_listing text
   judge p
   ok p
 
@@ -32,7 +32,7 @@ pub record Starts (p : Program) (t : Slots) (links : List ℕ) : Type 0 where
 
 -- the verdict on p, and what the tables hold where it is good
 pub record AnchoredAs (p : Program) (r : Verdict) (t : Slots) (links : List ℕ) : Type 0 where
-  pub answer : r ≡ verdictAs (judge p)
+  pub answer : r ≡ verdict_as (judge p)
   pub starts : r ≡ Good → Starts p t links
 
 -- and the statements as they were read

@@ -3,7 +3,7 @@ ghost use Rattle.std.specs.Prelude.{◌≡◌, ℕ, length};
 ghost use Rattle.listing.specs.Tables.{input_of, Held};
 ghost use Rattle.env.specs.Tables.{Any};
 ghost use Rattle.slots.specs.Slots.{Slots, program_of, Sound};
-ghost use Rattle.slots.specs.State.{startsIn, formsIn, table_of};
+ghost use Rattle.slots.specs.State.{starts_in, forms_in, table_of};
 ghost use Rattle.asm.specs.Assembling.{Placed, Whole};
 ghost use Rattle.anchors.specs.Anchored.{AsRead};
 ghost use Rattle.entries.specs.Optimizing.{Full};
@@ -33,11 +33,11 @@ fn judge_and_anchor(
 ) -> Verdict
     requires { let t : Slots = table_of frames.now state.old count in
         Sound t × AsRead t × Full state.old × (length links.old ≡ 28672)
-        × Any frames.now (startsIn state.old) count (formsIn state.old) (λ u. Placed u contexts.now × Whole u) }
+        × Any frames.now (starts_in state.old) count (forms_in state.old) (λ u. Placed u contexts.now × Whole u) }
     ensures { let t : Slots = table_of frames.now state.old count in
         let u : Slots = table_of frames.now state.new count in
         AnchoredAs (program_of t) result u links.new
-        × (startsIn state.new ≡ startsIn state.old) }
+        × (starts_in state.new ≡ starts_in state.old) }
 {
     let mut positions = [0u32; 1025];
     let mut values = [0i64; 1024];
@@ -67,7 +67,7 @@ fn place_slots(frames: &[u8], state: &mut State, count: usize, links: &mut [u16;
     ensures { let t : Slots = table_of frames.now state.old count in
         let u : Slots = table_of frames.now state.new count in
         AnchoredAs (program_of t) result u links.new
-        × (startsIn state.new ≡ startsIn state.old) }
+        × (starts_in state.new ≡ starts_in state.old) }
 {
     let mut contexts = [0u16; 1024];
     fill_contexts(frames, state, count, &mut contexts);
@@ -85,7 +85,7 @@ fn start_slots(
     requires { Held frames.now starts.now count × (length links.old ≡ 28672) }
     ensures { let t : Slots = table_of frames.now state.new count in
         AnchoredAs (input_of frames.now starts.now count) result t links.new
-        × (startsIn state.new ≡ starts.now) }
+        × (starts_in state.new ≡ starts.now) }
 {
     *state = start_state(starts, count);
     place_slots(frames, state, count, links)

@@ -8,26 +8,26 @@ use lib.Dec.{T}
 use Rattle.laws.specs.Lists.{same}
 use Rattle.laws.specs.Counts.{tab}
 use Rattle.rules.specs.declared.Settings.{Settings}
-use Rattle.rules.specs.Settings.{byDefault}
+use Rattle.rules.specs.Settings.{by_default}
 use Rattle.rules.specs.Answers.{Judged, ok, no, ◌>>=◌}
 use Rattle.rules.specs.Programs.{Program}
-use Rattle.rules.specs.Listing.{readListing}
+use Rattle.rules.specs.Listing.{read_listing}
 use Rattle.rules.specs.Rewriting.{optimized}
 use Rattle.rules.proofs.Computed.{lines, all, freely}
-use Rattle.patterns.specs.Shapes.{invertedShape, trampolineShape}
-use Rattle.staying.specs.Reasons.{reasonOf, foldReason, shrinkReason, attemptAt, attemptedAt, whysIn, whys}
-use Rattle.staying.specs.Lines.{whyLine, whyLines}
-use Rattle.staying.specs.Promise.{allStay}
+use Rattle.patterns.specs.Shapes.{inverted_shape, trampoline_shape}
+use Rattle.staying.specs.Reasons.{reason_of, fold_reason, shrink_reason, attempt_at, attempted_at, whys_in, whys}
+use Rattle.staying.specs.Lines.{why_line, why_lines}
+use Rattle.staying.specs.Promise.{all_stay}
 
 unfoldable told : Settings → Judged Program → List ℕ
-unfolding freely tab invertedShape trampolineShape reasonOf foldReason shrinkReason attemptAt attemptedAt whysIn whys whyLine whyLines
-told asked (ok p) = whyLines (whys asked (optimized asked p).program)
+unfolding freely tab inverted_shape trampoline_shape reason_of fold_reason shrink_reason attempt_at attempted_at whys_in whys why_line why_lines
+told asked (ok p) = why_lines (whys asked (optimized asked p).program)
 told asked (no r) = []
 
 -- the lines of a listing's end form
 unfoldable tells : (callf folds : Bool) → String → String → Bool
 unfolding told same
-tells callf folds text expected = same (told (record { comments = true; callf = callf; folds = folds }) (readListing (lines text))) (lines expected)
+tells callf folds text expected = same (told (record { comments = true; callf = callf; folds = folds }) (read_listing (lines text))) (lines expected)
 
 unfoldable computed : List Bool → Bool
 unfolding all tells
@@ -79,6 +79,6 @@ reasons =
     tells true true "012E018001 012C018002 028001 012B010001 028002 012C0000000002 050200 020001" "75800000030000000000000000 758A0000030000000000000000" ∷
     []
 
-reasons-hold : T (computed reasons)
+reasons_hold : T (computed reasons)
 unfolding computed reasons
-reasons-hold = tt
+reasons_hold = tt

@@ -8,20 +8,20 @@ use lib.Dec.{eqb}
 use lib.ListN.{length, get_or}
 use borrow.Author.Tests.{eq-eqb, ne_eqb}
 use Rattle.laws.specs.Counts.{scan}
-use Rattle.laws.proofs.Tests.{first-false}
-use Rattle.laws.proofs.Counts.{scan-starts, scan-hit, scan-miss, scan-end}
+use Rattle.laws.proofs.Tests.{first_false}
+use Rattle.laws.proofs.Counts.{scan_starts, scan_hit, scan_miss, scan_end}
 use Rattle.rules.specs.Forms.{jmpf, callf}
 use Rattle.rules.specs.Programs.{Placeℕ, Stmt, Program, kind_of, at}
 use Rattle.rules.specs.Output.{line_of}
-use Rattle.rules.proofs.Laws.{by-instr, other}
+use Rattle.rules.proofs.Laws.{by_instr, other}
 use Rattle.listing.specs.Tables.{Held}
 use Rattle.slots.specs.Slots.{Slots, slot_at, program_of}
-use Rattle.env.proofs.Programs.{length-program}
-use Rattle.patterns.proofs.Programs.{at-program, past-program}
+use Rattle.env.proofs.Programs.{length_program}
+use Rattle.patterns.proofs.Programs.{at_program, past_program}
 use Rattle.patterns.proofs.Instructions.{slot_is}
-use Rattle.digits.proofs.Rooms.{length-line}
+use Rattle.digits.proofs.Rooms.{length_line}
 use Rattle.steps.specs.declared.Seat.{Seat}
-use Rattle.steps.specs.Steps.{seatOf, isChanged, changedAt, changed, ruleOf, bouncing, shrinking, inverting, ruleByte, rewriteAt, rewriteOf, Rewrite, stepLine}
+use Rattle.steps.specs.Steps.{seat_of, is_changed, changed_at, changed, rule_of, bouncing, shrinking, inverting, rule_byte, rewrite_at, rewrite_of, Rewrite, step_line}
 
 -- ---- a slot
 abbrev none : Seat
@@ -29,77 +29,77 @@ none = record { form = 70; carried = 0 }
 
 module _ (t : Slots) (i : Placeℕ) where
   -- behind the last
-  pub seat-past : t.count ≤ i → none ≡ seatOf (at (program_of t) i)
-  seat-past l = sym (ap seatOf (past-program t i l))
+  pub seat_past : t.count ≤ i → none ≡ seat_of (at (program_of t) i)
+  seat_past l = sym (ap seat_of (past_program t i l))
 
-  plain : (s : Stmt) → (kind_of s ≡ 1 → ⊥) → seatOf s ≡ none
-  plain = by-instr (λ s. (kind_of s ≡ 1 → ⊥) → seatOf s ≡ none) (λ f xs c n. absurd (n refl)) (λ s e n. other none _ s e)
+  plain : (s : Stmt) → (kind_of s ≡ 1 → ⊥) → seat_of s ≡ none
+  plain = by_instr (λ s. (kind_of s ≡ 1 → ⊥) → seat_of s ≡ none) (λ f xs c n. absurd (n refl)) (λ s e n. other none _ s e)
 
   -- no instruction
-  pub seat-plain : i < t.count → (kind_of (slot_at t i) ≡ 1 → ⊥) → none ≡ seatOf (at (program_of t) i)
-  seat-plain l n = sym (ap seatOf (at-program t i l) ∙ plain (slot_at t i) n)
+  pub seat_plain : i < t.count → (kind_of (slot_at t i) ≡ 1 → ⊥) → none ≡ seat_of (at (program_of t) i)
+  seat_plain l n = sym (ap seat_of (at_program t i l) ∙ plain (slot_at t i) n)
 
   -- an instruction
-  pub seat-instr : Held t.frames t.starts t.count → i < t.count → kind_of (slot_at t i) ≡ 1
-      → record { form = get_or t.forms i 0; carried = get_or t.carry i 0 } ≡ seatOf (at (program_of t) i)
-  seat-instr h l k = sym (ap seatOf (at-program t i l) ∙ ap seatOf (slot_is t h i l k))
+  pub seat_instr : Held t.frames t.starts t.count → i < t.count → kind_of (slot_at t i) ≡ 1
+      → record { form = get_or t.forms i 0; carried = get_or t.carry i 0 } ≡ seat_of (at (program_of t) i)
+  seat_instr h l k = sym (ap seat_of (at_program t i l) ∙ ap seat_of (slot_is t h i l k))
 
 -- ---- a test of two
-pub changed-not : (a b : Seat) → a.form ≡ 70 → isChanged a b ≡ false
-changed-not a b e = first-false (not (eqb a.form 70)) _ (ap not (eq-eqb a.form 70 e))
+pub changed_not : (a b : Seat) → a.form ≡ 70 → is_changed a b ≡ false
+changed_not a b e = first_false (not (eqb a.form 70)) _ (ap not (eq-eqb a.form 70 e))
 
-pub changed-target : (a b : Seat) → (a.form ≡ 70 → ⊥) → a.form ≡ b.form → isChanged a b ≡ not (eqb a.carried b.carried)
-changed-target a b n e = rw (ne_eqb a.form 70 n, eq-eqb a.form b.form e)
+pub changed_target : (a b : Seat) → (a.form ≡ 70 → ⊥) → a.form ≡ b.form → is_changed a b ≡ not (eqb a.carried b.carried)
+changed_target a b n e = rw (ne_eqb a.form 70 n, eq-eqb a.form b.form e)
 
 -- ---- the search that stands at i
 abbrev pub Searches : (t u : Slots) (i : ℕ) → Type 0
-Searches t u i = changed (program_of t) (program_of u) ≡ scan (changedAt (program_of t) (program_of u)) (t.count - i) i
+Searches t u i = changed (program_of t) (program_of u) ≡ scan (changed_at (program_of t) (program_of u)) (t.count - i) i
 
 module _ (t u : Slots) where
-  pub search-starts : Searches t u 0
+  pub search_starts : Searches t u 0
   unfolding changed
-  search-starts =
-      let P = changedAt (program_of t) (program_of u) in
-      ap (λ (k : ℕ). scan P k 0) (length-program t) ∙ scan-starts P t.count
+  search_starts =
+      let P = changed_at (program_of t) (program_of u) in
+      ap (λ (k : ℕ). scan P k 0) (length_program t) ∙ scan_starts P t.count
 
   module _ (i : ℕ) (h : Searches t u i) where
-    pub search-ends : t.count ≤ i → i ≡ changed (program_of t) (program_of u)
-    search-ends l = sym (h ∙ scan-end _ t.count i l)
+    pub search_ends : t.count ≤ i → i ≡ changed (program_of t) (program_of u)
+    search_ends l = sym (h ∙ scan_end _ t.count i l)
 
-    module _ (l : i < t.count) (a b : Seat) (r : Bool) (e : r ≡ isChanged a b) (old : a ≡ seatOf (at (program_of t) i)) (new : b ≡ seatOf (at (program_of u) i)) where
-      tested : changedAt (program_of t) (program_of u) i ≡ r
-      tested = sym (e ∙ ap₂ isChanged old new)
+    module _ (l : i < t.count) (a b : Seat) (r : Bool) (e : r ≡ is_changed a b) (old : a ≡ seat_of (at (program_of t) i)) (new : b ≡ seat_of (at (program_of u) i)) where
+      tested : changed_at (program_of t) (program_of u) i ≡ r
+      tested = sym (e ∙ ap₂ is_changed old new)
 
-      pub search-hits : r ≡ true → i ≡ changed (program_of t) (program_of u)
-      search-hits z = sym (h ∙ scan-hit _ t.count i l (tested ∙ z))
+      pub search_hits : r ≡ true → i ≡ changed (program_of t) (program_of u)
+      search_hits z = sym (h ∙ scan_hit _ t.count i l (tested ∙ z))
 
-      pub search-misses : r ≡ false → Searches t u (i + 1)
-      search-misses z = h ∙ scan-miss _ t.count i l (tested ∙ z)
+      pub search_misses : r ≡ false → Searches t u (i + 1)
+      search_misses z = h ∙ scan_miss _ t.count i l (tested ∙ z)
 
 -- ---- the rule's byte
-pub rule-is : (old new : ℕ) (a b c : Bool) → eqb old new ≡ a → eqb old jmpf ≡ b → eqb old callf ≡ c → ruleOf old new ≡ cond a bouncing (cond (b || c) shrinking inverting)
-unfolding ruleOf
-rule-is old new a b c d e f = rw (d, e, f)
+pub rule_is : (old new : ℕ) (a b c : Bool) → eqb old new ≡ a → eqb old jmpf ≡ b → eqb old callf ≡ c → rule_of old new ≡ cond a bouncing (cond (b || c) shrinking inverting)
+unfolding rule_of
+rule_is old new a b c d e f = rw (d, e, f)
 
 -- ---- the line
 low : (n a b : ℕ) → n < 65536 → a ≡ n / 256 % 256 → b ≡ n % 256 → (a ≡ n / 256) × (b ≡ n % 256)
 low n a b h e f = (omega arith, f)
 
-pub line-is : (i r h l : ℕ) (old new : Seat) (a b c d x y : ℕ) → i < 65536 → r ≡ ruleByte (ruleOf old.form new.form) → h ≡ i / 256 % 256 → l ≡ i % 256
+pub line_is : (i r h l : ℕ) (old new : Seat) (a b c d x y : ℕ) → i < 65536 → r ≡ rule_byte (rule_of old.form new.form) → h ≡ i / 256 % 256 → l ≡ i % 256
     → (a ≡ old.carried) × (a < 65536) → (b ≡ new.carried) × (b < 65536) → c ≡ a / 256 % 256 → d ≡ a % 256 → x ≡ b / 256 % 256 → y ≡ b % 256
-    → line_of (0x76 ∷ r ∷ h ∷ l ∷ old.form ∷ c ∷ d ∷ new.form ∷ x ∷ y ∷ []) ≡ stepLine (rewriteAt i old new)
-unfolding stepLine
-line-is i r h l old new a b c d x y k er eh el ea eb ec ed ex ey =
+    → line_of (0x76 ∷ r ∷ h ∷ l ∷ old.form ∷ c ∷ d ∷ new.form ∷ x ∷ y ∷ []) ≡ step_line (rewrite_at i old new)
+unfolding step_line
+line_is i r h l old new a b c d x y k er eh el ea eb ec ed ex ey =
     let z = low i h l k eh el in
     let u = low a c d ea.1 ec ed in
     let v = low b x y eb.1 ex ey in
     rw (er, z.0, z.1, u.0, u.1, v.0, v.1, ea.0, eb.0)
 
-pub length-step : (r : Rewrite) → length (stepLine r) ≡ 21
-unfolding stepLine
-length-step r = length-line _
+pub length_step : (r : Rewrite) → length (step_line r) ≡ 21
+unfolding step_line
+length_step r = length_line _
 
 -- ---- the rewrite that leads from p to q, by what the tables have
-pub rewrite-told : (p q : Program) (i : Placeℕ) (a b : Seat) → i ≡ changed p q → a ≡ seatOf (at p i) → b ≡ seatOf (at q i) → rewriteAt i a b ≡ rewriteOf p q
-unfolding rewriteOf
-rewrite-told p q i a b e x y = ap₂ (rewriteAt i) x y ∙ ap (λ (k : ℕ). rewriteAt k (seatOf (at p k)) (seatOf (at q k))) e
+pub rewrite_told : (p q : Program) (i : Placeℕ) (a b : Seat) → i ≡ changed p q → a ≡ seat_of (at p i) → b ≡ seat_of (at q i) → rewrite_at i a b ≡ rewrite_of p q
+unfolding rewrite_of
+rewrite_told p q i a b e x y = ap₂ (rewrite_at i) x y ∙ ap (λ (k : ℕ). rewrite_at k (seat_of (at p k)) (seat_of (at q k))) e

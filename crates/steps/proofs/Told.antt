@@ -15,39 +15,39 @@ use Rattle.rules.specs.declared.Refusal.{Refusal}
 use Rattle.rules.specs.declared.Refusal.TheVariants.{Room}
 use Rattle.rules.specs.Answers.{Judged, ok, no, ◌>>=◌, require}
 use Rattle.rules.specs.Programs.{Program}
-use Rattle.rules.specs.Rewriting.{Chain, anchor, chain, instrBytes}
-use Rattle.promises.proofs.Anchors.{instrBytes-anchor, length-anchor}
+use Rattle.rules.specs.Rewriting.{Chain, anchor, chain, instr_bytes}
+use Rattle.promises.proofs.Anchors.{instr_bytes_anchor, length_anchor}
 use Rattle.slots.specs.Slots.{Slots, program_of}
-use Rattle.env.proofs.Programs.{length-program}
+use Rattle.env.proofs.Programs.{length_program}
 use Rattle.optimize.specs.Optimized.{Optimized}
 use Rattle.starting.specs.Begun.{accepted}
 use Rattle.digits.specs.Digits.{laid}
-use Rattle.digits.proofs.Rooms.{laid-front}
+use Rattle.digits.proofs.Rooms.{laid_front}
 use Rattle.steps.specs.declared.entry.Counted.{Counted}
 use Rattle.steps.specs.declared.entry.Counted.TheVariants.{Of, Refused as Uncounted}
-use Rattle.steps.specs.Steps.{Rewrite, stepsIn, steps, stepLines}
-use Rattle.steps.specs.Entry.{told, answerAs, roomAs, Leaves, countedAs, linesFor}
-use Rattle.steps.proofs.Done.{counted-in}
-use Rattle.steps.proofs.Walks.{length-lines}
+use Rattle.steps.specs.Steps.{Rewrite, steps_in, steps, step_lines}
+use Rattle.steps.specs.Entry.{told, answer_as, room_as, Leaves, counted_as, lines_for}
+use Rattle.steps.proofs.Done.{counted_in}
+use Rattle.steps.proofs.Walks.{length_lines}
 
 -- ---- tables that hold the anchored program
 module _ (asked : Settings) (t : Slots) (p : Program) (e : program_of t ≡ anchor p) where
   -- their rewrites are the listing's
-  pub same-steps : stepsIn asked (total instrBytes (program_of t)) (program_of t) ≡ steps asked p
+  pub same_steps : steps_in asked (total instr_bytes (program_of t)) (program_of t) ≡ steps asked p
   unfolding steps
-  same-steps = ap (λ (q : Program). stepsIn asked (total instrBytes q) q) e ∙ ap (λ (n : ℕ). stepsIn asked n (anchor p)) (instrBytes-anchor p)
+  same_steps = ap (λ (q : Program). steps_in asked (total instr_bytes q) q) e ∙ ap (λ (n : ℕ). steps_in asked n (anchor p)) (instr_bytes_anchor p)
 
   pub same_count : t.count ≡ length p
-  same_count = sym (length-program t) ∙ ap length e ∙ length-anchor p
+  same_count = sym (length_program t) ∙ ap length e ∙ length_anchor p
 
   -- and so is their number
-  pub counted-steps : (u : Slots) (r : ℕ) → Optimized asked t u r → r ≡ length (steps asked p)
-  counted-steps u r h =
-      ap (λ (c : Chain). c.count) (sym (h.chain-is (total instrBytes (program_of t)) (omega arith)))
-      ∙ sym (counted-in asked (total instrBytes (program_of t)) (program_of t)) ∙ ap length same-steps
+  pub counted_steps : (u : Slots) (r : ℕ) → Optimized asked t u r → r ≡ length (steps asked p)
+  counted_steps u r h =
+      ap (λ (c : Chain). c.count) (sym (h.chain_is (total instr_bytes (program_of t)) (omega arith)))
+      ∙ sym (counted_in asked (total instr_bytes (program_of t)) (program_of t)) ∙ ap length same_steps
 
 -- ---- the count taken apart
-pub counted_of : (asked : Settings) (x : Judged Program) (r : Counted) (n k : ℕ) → r ≡ Of n k → r ≡ countedAs asked x
+pub counted_of : (asked : Settings) (x : Judged Program) (r : Counted) (n k : ℕ) → r ≡ Of n k → r ≡ counted_as asked x
     → (p : Program) × (x ≡ ok p) × (n ≡ length p) × (k ≡ length (steps asked p))
 counted_of asked (ok p) r n k e h =
     let z : Of n k ≡ Of (length p) (length (steps asked p)) = sym e ∙ h in
@@ -56,43 +56,43 @@ counted_of asked (ok p) r n k e h =
     (p, refl, a, b)
 counted_of asked (no q) r n k e h = let z : Of n k ≡ Uncounted q = sym e ∙ h in clash (cc)
 
-pub counted-no : (asked : Settings) (x : Judged Program) (r : Counted) (q : Refusal) → r ≡ Uncounted q → r ≡ countedAs asked x → x ≡ no q
-counted-no asked (ok p) r q e h = let z : Uncounted q ≡ Of (length p) (length (steps asked p)) = sym e ∙ h in clash (cc)
-counted-no asked (no s) r q e h = let z : Uncounted q ≡ Uncounted s = sym e ∙ h in let y : s ≡ q = cc in ap no y
+pub counted_no : (asked : Settings) (x : Judged Program) (r : Counted) (q : Refusal) → r ≡ Uncounted q → r ≡ counted_as asked x → x ≡ no q
+counted_no asked (ok p) r q e h = let z : Uncounted q ≡ Of (length p) (length (steps asked p)) = sym e ∙ h in clash (cc)
+counted_no asked (no s) r q e h = let z : Uncounted q ≡ Uncounted s = sym e ∙ h in let y : s ≡ q = cc in ap no y
 
 -- ---- the answer
 module _ (asked : Settings) (text room : List ℕ) where
-  pub told-refused : (q : Refusal) → accepted text ≡ no q → Leaves (told asked text (length room)) (Refused q) room room
+  pub told_refused : (q : Refusal) → accepted text ≡ no q → Leaves (told asked text (length room)) (Refused q) room room
   unfolding told ◌>>=◌
-  told-refused q e = rw e (record { answer = refl; room = refl })
+  told_refused q e = rw e (record { answer = refl; room = refl })
 
   module _ (p : Program) (e : accepted text ≡ ok p) (k : ℕ) (c : k ≡ length (steps asked p)) where
-    size : length (stepLines (steps asked p)) ≡ 21 * k
-    size = omega (arith, length-lines (steps asked p))
+    size : length (step_lines (steps asked p)) ≡ 21 * k
+    size = omega (arith, length_lines (steps asked p))
 
-    is-short : length room < 21 * k → told asked text (length room) ≡ no (Room (length p))
+    is_short : length room < 21 * k → told asked text (length room) ≡ no (Room (length p))
     unfolding told ◌>>=◌ require
-    is-short h = rw (e, lt-leb (length (stepLines (steps asked p))) (length room) (omega (arith, size)))
+    is_short h = rw (e, lt-leb (length (step_lines (steps asked p))) (length room) (omega (arith, size)))
 
     is_whole : 21 * k ≤ length room → told asked text (length room) ≡ ok (steps asked p)
     unfolding told ◌>>=◌ require
-    is_whole h = rw (e, le-leb (length (stepLines (steps asked p))) (length room) (omega (arith, size)))
+    is_whole h = rw (e, le-leb (length (step_lines (steps asked p))) (length room) (omega (arith, size)))
 
-    pub told-short : (n : ℕ) → n ≡ length p → length room < 21 * k → Leaves (told asked text (length room)) (Refused (Room n)) room room
-    told-short n d h =
-        let z = is-short h in
-        record { answer = ap (λ (m : ℕ). Refused (Room m)) d ∙ sym (ap answerAs z); room = sym (ap (λ x. roomAs x room) z) }
+    pub told_short : (n : ℕ) → n ≡ length p → length room < 21 * k → Leaves (told asked text (length room)) (Refused (Room n)) room room
+    told_short n d h =
+        let z = is_short h in
+        record { answer = ap (λ (m : ℕ). Refused (Room m)) d ∙ sym (ap answer_as z); room = sym (ap (λ x. room_as x room) z) }
 
-    pub lines_fit : 21 * k ≤ length room → length (linesFor asked (accepted text)) ≤ length room
-    lines_fit h = omega (arith, ap (λ x. length (linesFor asked x)) e, size)
+    pub lines_fit : 21 * k ≤ length room → length (lines_for asked (accepted text)) ≤ length room
+    lines_fit h = omega (arith, ap (λ x. length (lines_for asked x)) e, size)
 
-    pub told-whole : (out : List ℕ) → 21 * k ≤ length room → out ≡ laid room 0 (linesFor asked (accepted text))
+    pub told_whole : (out : List ℕ) → 21 * k ≤ length room → out ≡ laid room 0 (lines_for asked (accepted text))
         → Leaves (told asked text (length room)) (Done (record { listing = 21 * k; rewrites = k; image = 0 })) room out
-    told-whole out h o =
+    told_whole out h o =
         let z = is_whole h in
         record {
-          answer = ap₂ (λ (a b : ℕ). Done (record { listing = a; rewrites = b; image = 0 })) (sym size) c ∙ sym (ap answerAs z);
-          room = o ∙ ap (λ x. laid room 0 (linesFor asked x)) e ∙ laid-front room (stepLines (steps asked p)) ∙ sym (ap (λ x. roomAs x room) z);
+          answer = ap₂ (λ (a b : ℕ). Done (record { listing = a; rewrites = b; image = 0 })) (sym size) c ∙ sym (ap answer_as z);
+          room = o ∙ ap (λ x. laid room 0 (lines_for asked x)) e ∙ laid_front room (step_lines (steps asked p)) ∙ sym (ap (λ x. room_as x room) z);
         }
 
 -- "Show that any two results allowed by the contract coincide": `steps`

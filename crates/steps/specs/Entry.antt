@@ -10,35 +10,35 @@ use Rattle.rules.specs.Run.{front}
 use Rattle.starting.specs.Begun.{accepted}
 use Rattle.steps.specs.declared.entry.Counted.{Counted}
 use Rattle.steps.specs.declared.entry.Counted.TheVariants.{Of, Refused as Uncounted}
-use Rattle.steps.specs.Steps.{Rewrite, steps, stepLines}
+use Rattle.steps.specs.Steps.{Rewrite, steps, step_lines}
 
 -- the rewrites, or the listing's refusal; 12 where the room is too short for their lines, with the statement count
 unfoldable pub told : Settings → (text : List ℕ) (room : ℕ) → Judged (List Rewrite)
 told asked text room = do
   p ← accepted text
-  require (leb (length (stepLines (steps asked p))) room) (Room (length p)) (ok (steps asked p))
+  require (leb (length (step_lines (steps asked p))) room) (Room (length p)) (ok (steps asked p))
 
-abbrev pub answerAs : Judged (List Rewrite) → Answer
-answerAs (ok rs) = Done (record { listing = length (stepLines rs); rewrites = length rs; image = 0 })
-answerAs (no r) = Refused r
+abbrev pub answer_as : Judged (List Rewrite) → Answer
+answer_as (ok rs) = Done (record { listing = length (step_lines rs); rewrites = length rs; image = 0 })
+answer_as (no r) = Refused r
 
 -- "No lent byte changes" on refusal; "On acceptance, room beyond the result is unchanged."
-abbrev pub roomAs : Judged (List Rewrite) → (room : List ℕ) → List ℕ
-roomAs (ok rs) room = front (stepLines rs) room
-roomAs (no r) room = room
+abbrev pub room_as : Judged (List Rewrite) → (room : List ℕ) → List ℕ
+room_as (ok rs) room = front (step_lines rs) room
+room_as (no r) room = room
 
 pub record Leaves (x : Judged (List Rewrite)) (r : Answer) (before after : List ℕ) : Type 0 where
-  pub answer : r ≡ answerAs x
-  pub room : after ≡ roomAs x before
+  pub answer : r ≡ answer_as x
+  pub room : after ≡ room_as x before
 
 -- ---- words of the code's contracts
 
 -- how many statements and rewrites there are
-abbrev pub countedAs : Settings → Judged Program → Counted
-countedAs asked (ok p) = Of (length p) (length (steps asked p))
-countedAs asked (no r) = Uncounted r
+abbrev pub counted_as : Settings → Judged Program → Counted
+counted_as asked (ok p) = Of (length p) (length (steps asked p))
+counted_as asked (no r) = Uncounted r
 
 -- the lines of an accepted listing
-abbrev pub linesFor : Settings → Judged Program → List ℕ
-linesFor asked (ok p) = stepLines (steps asked p)
-linesFor asked (no r) = []
+abbrev pub lines_for : Settings → Judged Program → List ℕ
+lines_for asked (ok p) = step_lines (steps asked p)
+lines_for asked (no r) = []

@@ -2,7 +2,7 @@
 ghost use Rattle.std.specs.Prelude.{◌≡◌, ◌≤◌, length};
 ghost use Rattle.starting.specs.Begun.{accepted};
 ghost use Rattle.digits.specs.Digits.{laid};
-ghost use Rattle.steps.specs.Entry.{told, Leaves, countedAs, linesFor};
+ghost use Rattle.steps.specs.Entry.{told, Leaves, counted_as, lines_for};
 
 use crate::walking::write_steps;
 use optimize::optimize;
@@ -18,7 +18,7 @@ enum Counted {
 
 // Rewrites a listing only for the count.
 fn count_steps(asked: Settings, listing: &[u8]) -> Counted
-    ensures { result ≡ countedAs asked (accepted listing.now) }
+    ensures { result ≡ counted_as asked (accepted listing.now) }
 {
     let mut frames = [0u8; 28672];
     let mut state = [[0u16; 1025]; 8];
@@ -34,8 +34,8 @@ fn count_steps(asked: Settings, listing: &[u8]) -> Counted
 
 // Rewrites it once more, and writes the lines. Nothing is written of a listing that is refused.
 fn write_all(asked: Settings, listing: &[u8], out: &mut [u8])
-    requires { length (linesFor asked (accepted listing.now)) ≤ length out.old }
-    ensures { out.new ≡ laid out.old 0 (linesFor asked (accepted listing.now)) }
+    requires { length (lines_for asked (accepted listing.now)) ≤ length out.old }
+    ensures { out.new ≡ laid out.old 0 (lines_for asked (accepted listing.now)) }
 {
     let mut frames = [0u8; 28672];
     let mut state = [[0u16; 1025]; 8];

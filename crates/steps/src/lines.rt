@@ -2,9 +2,9 @@
 ghost use Rattle.std.specs.Prelude.{◌≡◌, ◌+◌, ◌%◌, ◌≤◌, ◌<◌, length};
 ghost use Rattle.listing.specs.Tables.{Held};
 ghost use Rattle.slots.specs.Slots.{program_of};
-ghost use Rattle.slots.specs.State.{startsIn, table_of};
+ghost use Rattle.slots.specs.State.{starts_in, table_of};
 ghost use Rattle.digits.specs.Digits.{laid};
-ghost use Rattle.steps.specs.Steps.{ruleOf, ruleByte, rewriteAt, rewriteOf, stepLine};
+ghost use Rattle.steps.specs.Steps.{rule_of, rule_byte, rewrite_at, rewrite_of, step_line};
 
 use crate::Seat;
 use crate::seats::{first_change, seat_at};
@@ -27,7 +27,7 @@ fn low_byte(x: usize) -> u8
 
 // 1 an inverted fold, 2 a trampoline, 3 a shrink.
 fn rule_byte(old: u8, new: u8) -> u8
-    ensures { result ≡ ruleByte (ruleOf old new) }
+    ensures { result ≡ rule_byte (rule_of old new) }
 {
     if old == new {
         return 2;
@@ -44,7 +44,7 @@ fn rule_byte(old: u8, new: u8) -> u8
 // The line of a rewrite: 21 characters, from `at` on.
 fn put_step(out: &mut [u8], at: usize, place: Place, old: Seat, new: Seat)
     requires { (at + 21 ≤ length out.old) × (place.0 < 65536) }
-    ensures { out.new ≡ laid out.old at (stepLine (rewriteAt place.0 old new)) }
+    ensures { out.new ≡ laid out.old at (step_line (rewrite_at place.0 old new)) }
 {
     let i = place.0;
     let a = wide(old.carried);
@@ -73,11 +73,11 @@ pub fn put_change(
     out: &mut [u8],
     at: usize,
 )
-    requires { Held frames.now (startsIn before.now) count × Held frames.now (startsIn state.now) count
+    requires { Held frames.now (starts_in before.now) count × Held frames.now (starts_in state.now) count
         × (at + 21 ≤ length out.old) }
     ensures { let t = table_of frames.now before.now count in
         let u = table_of frames.now state.now count in
-        out.new ≡ laid out.old at (stepLine (rewriteOf (program_of t) (program_of u))) }
+        out.new ≡ laid out.old at (step_line (rewrite_of (program_of t) (program_of u))) }
 {
     let place = first_change(frames, before, state, count);
     let old = seat_at(frames, before, count, place);

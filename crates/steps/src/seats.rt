@@ -3,8 +3,8 @@ ghost use Rattle.std.specs.Prelude.{◌≡◌, ◌≤◌};
 ghost use Rattle.rules.specs.Programs.{at};
 ghost use Rattle.listing.specs.Tables.{Held};
 ghost use Rattle.slots.specs.Slots.{program_of};
-ghost use Rattle.slots.specs.State.{startsIn, table_of};
-ghost use Rattle.steps.specs.Steps.{seatOf, isChanged, changed};
+ghost use Rattle.slots.specs.State.{starts_in, table_of};
+ghost use Rattle.steps.specs.Steps.{seat_of, is_changed, changed};
 
 use crate::Seat;
 use rules::Place;
@@ -12,8 +12,8 @@ use slots::{CARRY, GONE, Slot, State, slot_at};
 
 // What stands at a place; nothing stands behind the last.
 pub fn seat_at(frames: &[u8], state: &State, count: usize, place: Place) -> Seat
-    requires { Held frames.now (startsIn state.now) count }
-    ensures { let t = table_of frames.now state.now count in result ≡ seatOf (at (program_of t) place.0) }
+    requires { Held frames.now (starts_in state.now) count }
+    ensures { let t = table_of frames.now state.now count in result ≡ seat_of (at (program_of t) place.0) }
 {
     let i = place.0;
     if count <= i {
@@ -36,7 +36,7 @@ pub fn seat_at(frames: &[u8], state: &State, count: usize, place: Place) -> Seat
 
 // An instruction stood there, and something else does now.
 fn is_changed(old: Seat, new: Seat) -> bool
-    ensures { result ≡ isChanged old new }
+    ensures { result ≡ is_changed old new }
 {
     if old.form == GONE {
         return false;
@@ -49,7 +49,7 @@ fn is_changed(old: Seat, new: Seat) -> bool
 
 // The first place at which an instruction stood and something else does now; the count where there is none.
 pub fn first_change(frames: &[u8], before: &State, state: &State, count: usize) -> Place
-    requires { Held frames.now (startsIn before.now) count × Held frames.now (startsIn state.now) count }
+    requires { Held frames.now (starts_in before.now) count × Held frames.now (starts_in state.now) count }
     ensures { let t = table_of frames.now before.now count in
         let u = table_of frames.now state.now count in
         (result.0 ≤ count) × (result.0 ≡ changed (program_of t) (program_of u)) }

@@ -2,13 +2,13 @@
 ghost use Rattle.std.specs.Prelude.{◌≡◌, true, ◌≤◌, length};
 ghost use Rattle.laws.specs.Lists.{total};
 ghost use Rattle.rules.specs.Judging.{assembles};
-ghost use Rattle.rules.specs.Rewriting.{instrBytes};
+ghost use Rattle.rules.specs.Rewriting.{instr_bytes};
 ghost use Rattle.slots.specs.Slots.{Slots, program_of};
-ghost use Rattle.slots.specs.State.{startsIn, table_of};
+ghost use Rattle.slots.specs.State.{starts_in, table_of};
 ghost use Rattle.slots.specs.Links.{Beside};
 ghost use Rattle.attempts.specs.Standing.{Standing};
 ghost use Rattle.digits.specs.Digits.{laid};
-ghost use Rattle.steps.specs.Steps.{stepsIn, stepLines};
+ghost use Rattle.steps.specs.Steps.{steps_in, step_lines};
 
 use crate::lines::put_change;
 use optimize::rewrite;
@@ -25,10 +25,10 @@ pub fn write_steps(
     out: &mut [u8],
 )
     requires { let t : Slots = table_of frames.now state.old count in
-        Standing t × (assembles (program_of t) ≡ true) × Beside frames.now (startsIn state.old) count links.now
-        × (length (stepLines (stepsIn asked (total instrBytes (program_of t)) (program_of t))) ≤ length out.old) }
+        Standing t × (assembles (program_of t) ≡ true) × Beside frames.now (starts_in state.old) count links.now
+        × (length (step_lines (steps_in asked (total instr_bytes (program_of t)) (program_of t))) ≤ length out.old) }
     ensures { let t : Slots = table_of frames.now state.old count in
-        out.new ≡ laid out.old 0 (stepLines (stepsIn asked (total instrBytes (program_of t)) (program_of t))) }
+        out.new ≡ laid out.old 0 (step_lines (steps_in asked (total instr_bytes (program_of t)) (program_of t))) }
 {
     let mut n = 0;
     loop {

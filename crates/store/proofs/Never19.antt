@@ -11,32 +11,32 @@ use lib.ListN.{length, get_or, take, replicate, get_or-replicate}
 use lib.Seq.{get_or-take}
 use Rattle.laws.specs.Lists.{every}
 use Rattle.laws.specs.Counts.{tab}
-use Rattle.laws.proofs.Counts.{tab-ext}
-use Rattle.laws.proofs.Tests.{clash, lt-or-le}
+use Rattle.laws.proofs.Counts.{tab_ext}
+use Rattle.laws.proofs.Tests.{clash, lt_or_le}
 use Rattle.rules.specs.declared.Refusal.TheVariants.{Room, Unknown, Full, Store as BadStore}
 use Rattle.rules.specs.declared.Settings.{Settings}
 use Rattle.rules.specs.Answers.{Judged, ok, no, ◌>>◌, require}
-use Rattle.store.specs.Switches.{switchesOf}
-use Rattle.store.specs.Store.{Store, free, noneTwice, isGood, find, newest, known, get, getNewest, hasFree, add, dropOld}
-use Rattle.store.specs.Rooms.{storeBytes, settingAt, storeIn, inStore, addIn, dropIn, afterAdd, afterDrop}
+use Rattle.store.specs.Switches.{switches_of}
+use Rattle.store.specs.Store.{Store, free, none_twice, is_good, find, newest, known, get, get_newest, has_free, add, drop_old}
+use Rattle.store.specs.Rooms.{store_bytes, setting_at, store_in, in_store, add_in, drop_in, after_add, after_drop}
 use Rattle.store.specs.Promise.{Made, zeros, adding, dropping, Never19}
 use Rattle.store.proofs.OldOnesStay.{adds}
 use Rattle.store.proofs.NewestStays.{drops}
-use Rattle.store.proofs.RoomHolds.{in-store, add_ok, keeps, untouched}
-use Rattle.store.proofs.Causes.{room-short, asks}
+use Rattle.store.proofs.RoomHolds.{in_store_lem, add_ok, keeps, untouched}
+use Rattle.store.proofs.Causes.{room_short, asks}
 use Rattle.store.proofs.SwitchBits.{small}
 
 -- ---- such a store is good
 
-all-free : isGood (tab (λ k. free) 32) ≡ true
-unfolding isGood noneTwice every tab
-all-free = refl
+all_free : is_good (tab (λ k. free) 32) ≡ true
+unfolding is_good none_twice every tab
+all_free = refl
 
-module _ (room : List ℕ) (z : take storeBytes room ≡ replicate storeBytes 0) where
+module _ (room : List ℕ) (z : take store_bytes room ≡ replicate store_bytes 0) where
   byte : (i : ℕ) → i < 160 → get_or room i 0 ≡ 0
   byte i l = sym (get_or-take 160 room i 0 l) ∙ ap (λ (x : List ℕ). get_or x i 0) z ∙ get_or-replicate 160 i 0 0 l
 
-  place : (k : ℕ) → k < 32 → settingAt room k ≡ free
+  place : (k : ℕ) → k < 32 → setting_at room k ≡ free
   place k l =
       rw (
         byte (5 * k) (omega arith),
@@ -46,64 +46,64 @@ module _ (room : List ℕ) (z : take storeBytes room ≡ replicate storeBytes 0)
         byte (5 * k + 4) (omega arith),
       )
 
-  zeros-good : isGood (storeIn room) ≡ true
-  unfolding storeIn
-  zeros-good = ap isGood (tab-ext (settingAt room) (λ k. free) 32 place) ∙ all-free
+  zeros_good : is_good (store_in room) ≡ true
+  unfolding store_in
+  zeros_good = ap is_good (tab_ext (setting_at room) (λ k. free) 32 place) ∙ all_free
 
-module _ (room : List ℕ) (f : ℕ) (good : isGood (storeIn room) ≡ true) where
-  add-good : (asked : Settings) → isGood (storeIn (afterAdd room f asked)) ≡ true
-  add-good asked = on (addIn room f) refl
+module _ (room : List ℕ) (f : ℕ) (good : is_good (store_in room) ≡ true) where
+  add_good : (asked : Settings) → is_good (store_in (after_add room f asked)) ≡ true
+  add_good asked = on (add_in room f) refl
     where
-      on : (x : Judged ℕ) → addIn room f ≡ x → isGood (storeIn (afterAdd room f asked)) ≡ true
+      on : (x : Judged ℕ) → add_in room f ≡ x → is_good (store_in (after_add room f asked)) ≡ true
       on (ok e) q =
-          let t = add_ok f e (storeIn room) (in-store room (λ ss. add f ss) e q).2 in
-          rw ((keeps room f).added_is asked e q).1.store ((adds (storeIn room) f (switchesOf asked) t.0).good (small asked) good)
-      on (no r) q = rw ((untouched room f).add-refused asked r q) good
+          let t = add_ok f e (store_in room) (in_store_lem room (λ ss. add f ss) e q).2 in
+          rw ((keeps room f).added_is asked e q).1.store ((adds (store_in room) f (switches_of asked) t.0).good (small asked) good)
+      on (no r) q = rw ((untouched room f).add_refused asked r q) good
 
-  drop-good : isGood (storeIn (afterDrop room f)) ≡ true
-  drop-good = on (dropIn room f) refl
+  drop_good : is_good (store_in (after_drop room f)) ≡ true
+  drop_good = on (drop_in room f) refl
     where
-      on : (x : Judged ℕ) → dropIn room f ≡ x → isGood (storeIn (afterDrop room f)) ≡ true
-      on (ok e) q = rw ((keeps room f).dropped-is e q).1.store ((drops (storeIn room) f).good good)
-      on (no r) q = rw ((untouched room f).drop-refused r q) good
+      on : (x : Judged ℕ) → drop_in room f ≡ x → is_good (store_in (after_drop room f)) ≡ true
+      on (ok e) q = rw ((keeps room f).dropped_is e q).1.store ((drops (store_in room) f).good good)
+      on (no r) q = rw ((untouched room f).drop_refused r q) good
 
-pub made-good : {room : List ℕ} → Made room → isGood (storeIn room) ≡ true
-made-good (zeros room z) = zeros-good room z
-made-good (adding m f asked) = add-good _ f (made-good m) asked
-made-good (dropping m f) = drop-good _ f (made-good m)
+pub made_good : {room : List ℕ} → Made room → is_good (store_in room) ≡ true
+made_good (zeros room z) = zeros_good room z
+made_good (adding m f asked) = add_good _ f (made_good m) asked
+made_good (dropping m f) = drop_good _ f (made_good m)
 
 -- ---- what is asked of it refuses 17 and 18 alone
 
-get-no : (f e : ℕ) (ss : Store) → get f e ss ≡ no BadStore → ⊥
+get_no : (f e : ℕ) (ss : Store) → get f e ss ≡ no BadStore → ⊥
 unfolding get require
-get-no f e ss h = on (leb 1 e) (find f e ss) h
+get_no f e ss h = on (leb 1 e) (find f e ss) h
   where
     on : (t : Bool) (o : Option ℕ) → require t Unknown (known e o) ≡ no BadStore → ⊥
     on true none q = clash (cc)
     on true (some w) q = clash (cc)
     on false o q = clash (cc)
 
-number-no : (t : Bool) (n : ℕ) → (require t Full (ok n) ≡ no BadStore → ⊥) × (require t Unknown (ok n) ≡ no BadStore → ⊥)
+number_no : (t : Bool) (n : ℕ) → (require t Full (ok n) ≡ no BadStore → ⊥) × (require t Unknown (ok n) ≡ no BadStore → ⊥)
 unfolding require
-number-no true n = (λ q. clash (cc), λ q. clash (cc))
-number-no false n = (λ q. clash (cc), λ q. clash (cc))
+number_no true n = (λ q. clash (cc), λ q. clash (cc))
+number_no false n = (λ q. clash (cc), λ q. clash (cc))
 
-never : {A : Type 0} (room : List ℕ) (g : Store → Judged A) → isGood (storeIn room) ≡ true → (g (storeIn room) ≡ no BadStore → ⊥)
-    → inStore room g ≡ no BadStore → ⊥
+never : {A : Type 0} (room : List ℕ) (g : Store → Judged A) → is_good (store_in room) ≡ true → (g (store_in room) ≡ no BadStore → ⊥)
+    → in_store room g ≡ no BadStore → ⊥
 never {A} room g good other h =
-    ⊎_elim (λ l. not-12 (sym (room-short room g l) ∙ h)) (λ l. other (sym (asks room g l good) ∙ h)) (lt-or-le (length room) 160)
+    ⊎_elim (λ l. not_12 (sym (room_short room g l) ∙ h)) (λ l. other (sym (asks room g l good) ∙ h)) (lt_or_le (length room) 160)
   where
-    not-12 : ◌≡◌ {A = Judged A} (no (Room 0)) (no BadStore) → ⊥
-    not-12 q = clash (cc)
+    not_12 : ◌≡◌ {A = Judged A} (no (Room 0)) (no BadStore) → ⊥
+    not_12 q = clash (cc)
 
-pub never-19 : (room : List ℕ) → Made room → Never19 room
-unfolding getNewest add dropOld
-never-19 room m =
-    let good = made-good m in
-    let ss : Store = storeIn room in
+pub never_19 : (room : List ℕ) → Made room → Never19 room
+unfolding get_newest add drop_old
+never_19 room m =
+    let good = made_good m in
+    let ss : Store = store_in room in
     record {
-      get = λ f e. never room (λ ss. get f e ss) good (get-no f e ss);
-      newest = λ f. never room (λ ss. getNewest f ss) good (get-no f (newest f ss) ss);
-      add = λ f. never room (λ ss. add f ss) good (number-no (hasFree ss && ltb (newest f ss) 65535) _).0;
-      drop = λ f. never room (λ ss. dropOld f ss) good (number-no (leb 1 (newest f ss)) _).1;
+      get = λ f e. never room (λ ss. get f e ss) good (get_no f e ss);
+      newest = λ f. never room (λ ss. get_newest f ss) good (get_no f (newest f ss) ss);
+      add = λ f. never room (λ ss. add f ss) good (number_no (has_free ss && ltb (newest f ss) 65535) _).0;
+      drop = λ f. never room (λ ss. drop_old f ss) good (number_no (leb 1 (newest f ss)) _).1;
     }

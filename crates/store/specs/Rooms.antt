@@ -20,38 +20,38 @@ use Rattle.store.specs.declared.Shown.{Shown}
 use Rattle.store.specs.declared.Shown.TheVariants.{Is as IsShown, Free as IsFree, Refused as NotShown}
 use Rattle.store.specs.declared.Numbered.{Numbered}
 use Rattle.store.specs.declared.Numbered.TheVariants.{Is as IsNumbered, Refused as NotNumbered}
-use Rattle.store.specs.Switches.{switchesOf}
-use Rattle.store.specs.Store.{Store, isFree, isGood, get, getNewest, placeAt, added, add, dropped, dropOld}
+use Rattle.store.specs.Switches.{switches_of}
+use Rattle.store.specs.Store.{Store, is_free, is_good, get, get_newest, place_at, added, add, dropped, drop_old}
 
-abbrev pub placeCount : ℕ
-placeCount = 32
+abbrev pub place_count : ℕ
+place_count = 32
 
-abbrev pub storeBytes : ℕ
-storeBytes = 160
+abbrev pub store_bytes : ℕ
+store_bytes = 160
 
 -- ---- reading and writing
 
-abbrev pub settingAt : (room : List ℕ) (k : ℕ) → Setting
-settingAt room k =
+abbrev pub setting_at : (room : List ℕ) (k : ℕ) → Setting
+setting_at room k =
     record {
       family = get_or room (5 * k) 0 * 256 + get_or room (5 * k + 1) 0;
       edition = get_or room (5 * k + 2) 0 * 256 + get_or room (5 * k + 3) 0;
       switches = get_or room (5 * k + 4) 0;
     }
 
-unfoldable pub storeIn : (room : List ℕ) → Store
-storeIn room = tab (settingAt room) placeCount
+unfoldable pub store_in : (room : List ℕ) → Store
+store_in room = tab (setting_at room) place_count
 
 abbrev pub bytes_of : Setting → List ℕ
 bytes_of s = pair s.family ++ (pair s.edition ++ (s.switches ∷ []))
 
 -- place k with this setting, all other bytes as they were
-abbrev pub withPlace : (room : List ℕ) (k : ℕ) → Setting → List ℕ
-withPlace room k s = take (5 * k) room ++ bytes_of s ++ drop (5 * k + 5) room
+abbrev pub with_place : (room : List ℕ) (k : ℕ) → Setting → List ℕ
+with_place room k s = take (5 * k) room ++ bytes_of s ++ drop (5 * k + 5) room
 
 -- a store at the front of the room; what lies beyond is unchanged
-unfoldable pub roomWith : (room : List ℕ) → Store → List ℕ
-roomWith room ss = each (λ s. bytes_of s) ss ++ drop storeBytes room
+unfoldable pub room_with : (room : List ℕ) → Store → List ℕ
+room_with room ss = each (λ s. bytes_of s) ss ++ drop store_bytes room
 
 -- ---- "Refusals, before any of document 01: store room short for 32 settings 12; a setting held twice or out of range there 19; unknown
 -- family or edition 17; store full after reuse, or a family at edition 65,535, 18"
@@ -59,61 +59,61 @@ roomWith room ss = each (λ s. bytes_of s) ss ++ drop storeBytes room
 module _ (room : List ℕ) where
   -- 12 and 19; a store has no statements to count, so 12 gives 0
   unfoldable pub judged : Check
-  judged = require (leb storeBytes (length room)) (Room 0) (require (isGood (storeIn room)) BadStore (ok tt))
+  judged = require (leb store_bytes (length room)) (Room 0) (require (is_good (store_in room)) BadStore (ok tt))
 
   -- the store is judged before anything is asked of it
-  unfoldable pub inStore : {A : Type 0} → (Store → Judged A) → Judged A
-  inStore f = do
+  unfoldable pub in_store : {A : Type 0} → (Store → Judged A) → Judged A
+  in_store f = do
     judged
-    f (storeIn room)
+    f (store_in room)
 
-  abbrev pub getIn : (f e : ℕ) → Judged Edition
-  getIn f e = inStore (λ ss. get f e ss)
+  abbrev pub get_in : (f e : ℕ) → Judged Edition
+  get_in f e = in_store (λ ss. get f e ss)
 
-  abbrev pub newestIn : (f : ℕ) → Judged Edition
-  newestIn f = inStore (λ ss. getNewest f ss)
+  abbrev pub newest_in : (f : ℕ) → Judged Edition
+  newest_in f = in_store (λ ss. get_newest f ss)
 
   abbrev pub place_in : (k : ℕ) → Judged Setting
-  place_in k = inStore (λ ss. ok (placeAt k ss))
+  place_in k = in_store (λ ss. ok (place_at k ss))
 
-  abbrev pub addIn : (f : ℕ) → Judged ℕ
-  addIn f = inStore (λ ss. add f ss)
+  abbrev pub add_in : (f : ℕ) → Judged ℕ
+  add_in f = in_store (λ ss. add f ss)
 
-  abbrev pub dropIn : (f : ℕ) → Judged ℕ
-  dropIn f = inStore (λ ss. dropOld f ss)
+  abbrev pub drop_in : (f : ℕ) → Judged ℕ
+  drop_in f = in_store (λ ss. drop_old f ss)
 
   -- the room at the end; a refusal changes no byte
-  abbrev pub roomAfter : {A : Type 0} → Judged A → Store → List ℕ
-  roomAfter (ok a) ss = roomWith room ss
-  roomAfter (no r) ss = room
+  abbrev pub room_after : {A : Type 0} → Judged A → Store → List ℕ
+  room_after (ok a) ss = room_with room ss
+  room_after (no r) ss = room
 
-  abbrev pub afterAdd : (f : ℕ) → Settings → List ℕ
-  afterAdd f asked = roomAfter (addIn f) (added f (switchesOf asked) (storeIn room))
+  abbrev pub after_add : (f : ℕ) → Settings → List ℕ
+  after_add f asked = room_after (add_in f) (added f (switches_of asked) (store_in room))
 
-  abbrev pub afterDrop : (f : ℕ) → List ℕ
-  afterDrop f = roomAfter (dropIn f) (dropped f (storeIn room))
+  abbrev pub after_drop : (f : ℕ) → List ℕ
+  after_drop f = room_after (drop_in f) (dropped f (store_in room))
 
 -- ---- what the code answers
 
-abbrev pub verdictAs : Check → Verdict
-verdictAs (ok u) = Good
-verdictAs (no r) = Bad r
+abbrev pub verdict_as : Check → Verdict
+verdict_as (ok u) = Good
+verdict_as (no r) = Bad r
 
-abbrev pub heldAs : Option ℕ → Held
-heldAs none = Nothing
-heldAs (some w) = IsHeld w
+abbrev pub held_as : Option ℕ → Held
+held_as none = Nothing
+held_as (some w) = IsHeld w
 
-abbrev pub foundAs : Judged Edition → Found
-foundAs (ok e) = IsFound e
-foundAs (no r) = NotFound r
+abbrev pub found_as : Judged Edition → Found
+found_as (ok e) = IsFound e
+found_as (no r) = NotFound r
 
-abbrev pub shownOf : Setting → Shown
-shownOf s = cond (isFree s) IsFree (IsShown s)
+abbrev pub shown_of : Setting → Shown
+shown_of s = cond (is_free s) IsFree (IsShown s)
 
-abbrev pub shownAs : Judged Setting → Shown
-shownAs (ok s) = shownOf s
-shownAs (no r) = NotShown r
+abbrev pub shown_as : Judged Setting → Shown
+shown_as (ok s) = shown_of s
+shown_as (no r) = NotShown r
 
-abbrev pub numberedAs : Judged ℕ → Numbered
-numberedAs (ok n) = IsNumbered n
-numberedAs (no r) = NotNumbered r
+abbrev pub numbered_as : Judged ℕ → Numbered
+numbered_as (ok n) = IsNumbered n
+numbered_as (no r) = NotNumbered r

@@ -6,7 +6,7 @@ use Rattle.rules.specs.declared.Refusal.TheVariants.{Unknown, Full}
 use Rattle.rules.specs.Answers.{Judged, ok, no, require}
 use Rattle.store.specs.declared.Setting.{Setting}
 use Rattle.store.specs.declared.Edition.{Edition}
-use Rattle.store.specs.Switches.{settingsOf}
+use Rattle.store.specs.Switches.{settings_of}
 
 -- the 32 places of a store, free ones too: an edition is numbered "from 1 on", so that of a free place is 0
 abbrev pub Store : Type 0
@@ -15,8 +15,8 @@ Store = List Setting
 abbrev pub free : Setting
 free = record { family = 0; edition = 0; switches = 0 }
 
-abbrev pub isFree : Setting → Bool
-isFree s = eqb s.family 0 && (eqb s.edition 0 && eqb s.switches 0)
+abbrev pub is_free : Setting → Bool
+is_free s = eqb s.family 0 && (eqb s.edition 0 && eqb s.switches 0)
 
 -- the setting of this family and edition
 abbrev pub is_of : (f e : ℕ) → Setting → Bool
@@ -25,22 +25,22 @@ is_of f e s = eqb s.family f && eqb s.edition e
 -- ---- 19: "a setting held twice or out of range there"
 
 abbrev pub in_range : Setting → Bool
-in_range s = isFree s || (leb 1 s.edition && ltb s.switches 8)
+in_range s = is_free s || (leb 1 s.edition && ltb s.switches 8)
 
 -- none of these places holds this family and edition
-unfoldable pub noneHolds : (f e : ℕ) → Store → Bool
-noneHolds f e ss = every (λ x. not (is_of f e x)) ss
+unfoldable pub none_holds : (f e : ℕ) → Store → Bool
+none_holds f e ss = every (λ x. not (is_of f e x)) ss
 
 -- no later place holds the family and edition of s, unless s is free
 abbrev pub alone : Setting → Store → Bool
-alone s ss = isFree s || noneHolds s.family s.edition ss
+alone s ss = is_free s || none_holds s.family s.edition ss
 
-unfoldable pub noneTwice : Store → Bool
-noneTwice [] = true
-noneTwice (s ∷ ss) = alone s ss && noneTwice ss
+unfoldable pub none_twice : Store → Bool
+none_twice [] = true
+none_twice (s ∷ ss) = alone s ss && none_twice ss
 
-unfoldable pub isGood : Store → Bool
-isGood ss = every (λ s. in_range s) ss && noneTwice ss
+unfoldable pub is_good : Store → Bool
+is_good ss = every (λ s. in_range s) ss && none_twice ss
 
 -- ---- asking: "the newest can be asked for"
 
@@ -57,28 +57,28 @@ newest f (s ∷ ss) = cond (eqb s.family f) (max s.edition (newest f ss)) (newes
 -- 17: "unknown family or edition"
 abbrev pub known : (e : ℕ) → Option ℕ → Judged Edition
 known e none = no Unknown
-known e (some w) = ok (record { number = e; settings = settingsOf w })
+known e (some w) = ok (record { number = e; settings = settings_of w })
 
 unfoldable pub get : (f e : ℕ) → Store → Judged Edition
 get f e ss = require (leb 1 e) Unknown (known e (find f e ss))
 
-unfoldable pub getNewest : (f : ℕ) → Store → Judged Edition
-getNewest f ss = get f (newest f ss) ss
+unfoldable pub get_newest : (f : ℕ) → Store → Judged Edition
+get_newest f ss = get f (newest f ss) ss
 
 -- what stands at place k; behind the last nothing
-abbrev pub placeAt : (k : ℕ) → Store → Setting
-placeAt k ss = get_or ss k free
+abbrev pub place_at : (k : ℕ) → Store → Setting
+place_at k ss = get_or ss k free
 
 -- ---- adding: "a new edition, numbered one above the newest from 1 on"
 
-unfoldable pub hasFree : Store → Bool
-hasFree [] = false
-hasFree (s ∷ ss) = isFree s || hasFree ss
+unfoldable pub has_free : Store → Bool
+has_free [] = false
+has_free (s ∷ ss) = is_free s || has_free ss
 
 -- in the first free place
 unfoldable pub put : Setting → Store → Store
 put x [] = []
-put x (s ∷ ss) = cond (isFree s) (x ∷ ss) (s ∷ put x ss)
+put x (s ∷ ss) = cond (is_free s) (x ∷ ss) (s ∷ put x ss)
 
 abbrev pub edition : (f w : ℕ) → Store → Setting
 edition f w ss = record { family = f; edition = suc (newest f ss); switches = w }
@@ -88,19 +88,19 @@ added f w ss = put (edition f w ss) ss
 
 -- 18: "store full after reuse, or a family at edition 65,535"; the answer is the new edition's number
 unfoldable pub add : (f : ℕ) → Store → Judged ℕ
-add f ss = require (hasFree ss && ltb (newest f ss) 65535) Full (ok (suc (newest f ss)))
+add f ss = require (has_free ss && ltb (newest f ss) 65535) Full (ok (suc (newest f ss)))
 
 -- ---- "Dropping old editions of a family gives their room back, and the newest stays."
 
-abbrev pub isOld : (f top : ℕ) → Setting → Bool
-isOld f top s = eqb s.family f && (leb 1 s.edition && ltb s.edition top)
+abbrev pub is_old : (f top : ℕ) → Setting → Bool
+is_old f top s = eqb s.family f && (leb 1 s.edition && ltb s.edition top)
 
 abbrev pub cleared : (f top : ℕ) → Setting → Setting
-cleared f top s = cond (isOld f top s) free s
+cleared f top s = cond (is_old f top s) free s
 
 unfoldable pub dropped : (f : ℕ) → Store → Store
 dropped f ss = map (λ s. cleared f (newest f ss) s) ss
 
 -- the answer is the number of the edition that stays
-unfoldable pub dropOld : (f : ℕ) → Store → Judged ℕ
-dropOld f ss = require (leb 1 (newest f ss)) Unknown (ok (newest f ss))
+unfoldable pub drop_old : (f : ℕ) → Store → Judged ℕ
+drop_old f ss = require (leb 1 (newest f ss)) Unknown (ok (newest f ss))

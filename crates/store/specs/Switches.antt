@@ -6,8 +6,8 @@ use Rattle.rules.specs.declared.Settings.{Settings}
 abbrev pub switch : Bool → (worth : ℕ) → ℕ
 switch b n = cond b n 0
 
-abbrev pub switchesOf : Settings → ℕ
-switchesOf s = switch s.comments 1 + switch s.callf 2 + switch s.folds 4
+abbrev pub switches_of : Settings → ℕ
+switches_of s = switch s.comments 1 + switch s.callf 2 + switch s.folds 4
 
-abbrev pub settingsOf : ℕ → Settings
-settingsOf w = record { comments = eqb (w % 2) 1; callf = eqb (w / 2 % 2) 1; folds = eqb (w / 4 % 2) 1 }
+abbrev pub settings_of : ℕ → Settings
+settings_of w = record { comments = eqb (w % 2) 1; callf = eqb (w / 2 % 2) 1; folds = eqb (w / 4 % 2) 1 }

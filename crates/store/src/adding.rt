@@ -1,7 +1,7 @@
 // A new edition, in the first free place.
 ghost use Rattle.std.specs.Prelude.{◌≡◌, ◌<◌, ◌≤◌, length};
 ghost use Rattle.store.specs.Store.{add, added};
-ghost use Rattle.store.specs.Rooms.{storeIn, addIn, afterAdd, numberedAs};
+ghost use Rattle.store.specs.Rooms.{store_in, add_in, after_add, numbered_as};
 ghost use Rattle.store.specs.Changes.{FirstFree, Leaves};
 
 use crate::asking::newest_of;
@@ -14,7 +14,7 @@ use rules::{Refusal, Settings};
 // The first free place, 32 where there is none.
 fn first_free(room: &[u8]) -> usize
     requires { 160 ≤ length room.now }
-    ensures { FirstFree (storeIn room.now) result }
+    ensures { FirstFree (store_in room.now) result }
 {
     let mut k = 0;
     while k < 32 {
@@ -29,7 +29,7 @@ fn first_free(room: &[u8]) -> usize
 // A new edition of a good store.
 fn add_to(room: &mut [u8], family: u16, switches: u8) -> Numbered
     requires { 160 ≤ length room.old }
-    ensures { let ss = storeIn room.old in
+    ensures { let ss = store_in room.old in
         Leaves room.old (add family ss) (added family switches ss) result room.new }
 {
     let k = first_free(room);
@@ -55,8 +55,8 @@ fn add_to(room: &mut [u8], family: u16, switches: u8) -> Numbered
 
 // Adds an edition of a family, and gives its number; or refusal 12, 19 or 18, and no byte changes.
 pub fn add_edition(room: &mut [u8], family: u16, settings: Settings) -> Numbered
-    ensures value { result ≡ numberedAs (addIn room.old family) }
-    ensures room_after { room.new ≡ afterAdd room.old family settings }
+    ensures value { result ≡ numbered_as (add_in room.old family) }
+    ensures room_after { room.new ≡ after_add room.old family settings }
 {
     match judge(room) {
         Verdict::Refused(r) => Numbered::Refused(r),

@@ -1,7 +1,7 @@
 // An edition of a family, or its newest.
 ghost use Rattle.std.specs.Prelude.{◌≡◌, ◌≤◌, length};
 ghost use Rattle.store.specs.Store.{find, newest, get};
-ghost use Rattle.store.specs.Rooms.{storeIn, getIn, newestIn, heldAs, foundAs};
+ghost use Rattle.store.specs.Rooms.{store_in, get_in, newest_in, held_as, found_as};
 
 use crate::judging::judge;
 use crate::places::read_setting;
@@ -11,7 +11,7 @@ use rules::Refusal;
 
 fn find_switches(room: &[u8], family: u16, edition: u16) -> Held
     requires { 160 ≤ length room.now }
-    ensures { result ≡ heldAs (find family edition (storeIn room.now)) }
+    ensures { result ≡ held_as (find family edition (store_in room.now)) }
 {
     let mut k = 0;
     while k < 32 {
@@ -27,7 +27,7 @@ fn find_switches(room: &[u8], family: u16, edition: u16) -> Held
 // The number of the family's newest edition, 0 where it has none.
 pub fn newest_of(room: &[u8], family: u16) -> u16
     requires { 160 ≤ length room.now }
-    ensures { result ≡ newest family (storeIn room.now) }
+    ensures { result ≡ newest family (store_in room.now) }
 {
     let mut top = 0;
     let mut k = 0;
@@ -41,7 +41,7 @@ pub fn newest_of(room: &[u8], family: u16) -> u16
 // An edition of a good store.
 fn ask(room: &[u8], family: u16, edition: u16) -> Found
     requires { 160 ≤ length room.now }
-    ensures { result ≡ foundAs (get family edition (storeIn room.now)) }
+    ensures { result ≡ found_as (get family edition (store_in room.now)) }
 {
     if edition < 1 {
         return Found::Refused(Refusal::Unknown);
@@ -57,7 +57,7 @@ fn ask(room: &[u8], family: u16, edition: u16) -> Found
 
 // The settings of a family's edition, or refusal 12, 19 or 17.
 pub fn get_edition(room: &[u8], family: u16, edition: u16) -> Found
-    ensures { result ≡ foundAs (getIn room.now family edition) }
+    ensures { result ≡ found_as (get_in room.now family edition) }
 {
     match judge(room) {
         Verdict::Refused(r) => Found::Refused(r),
@@ -67,7 +67,7 @@ pub fn get_edition(room: &[u8], family: u16, edition: u16) -> Found
 
 // The number and the settings of a family's newest edition, or refusal 12, 19 or 17.
 pub fn get_newest(room: &[u8], family: u16) -> Found
-    ensures { result ≡ foundAs (newestIn room.now family) }
+    ensures { result ≡ found_as (newest_in room.now family) }
 {
     match judge(room) {
         Verdict::Refused(r) => Found::Refused(r),

@@ -1,8 +1,8 @@
 // Old editions of a family give their places back, and the newest stays.
 ghost use Rattle.std.specs.Prelude.{◌≡◌, map, ◌<◌, ◌≤◌, length};
-ghost use Rattle.store.specs.Store.{cleared, dropOld, dropped};
-ghost use Rattle.store.specs.Rooms.{storeIn, roomWith, dropIn, afterDrop, numberedAs};
-ghost use Rattle.store.specs.Changes.{clearedPlace, Leaves};
+ghost use Rattle.store.specs.Store.{cleared, drop_old, dropped};
+ghost use Rattle.store.specs.Rooms.{store_in, room_with, drop_in, after_drop, numbered_as};
+ghost use Rattle.store.specs.Changes.{cleared_place, Leaves};
 
 use crate::asking::newest_of;
 use crate::judging::judge;
@@ -14,7 +14,7 @@ use rules::Refusal;
 // Clears a place that holds an edition of the family below `top`.
 fn clear_place(room: &mut [u8], k: usize, family: u16, top: u16)
     requires { (k < 32) × (160 ≤ length room.old) }
-    ensures { room.new ≡ clearedPlace family top room.old k }
+    ensures { room.new ≡ cleared_place family top room.old k }
 {
     if is_old(read_setting(room, k), family, top) {
         put_setting(
@@ -31,8 +31,8 @@ fn clear_place(room: &mut [u8], k: usize, family: u16, top: u16)
 
 fn clear_old(room: &mut [u8], family: u16, top: u16)
     requires { 160 ≤ length room.old }
-    ensures { let ss = storeIn room.old in
-        room.new ≡ roomWith room.old (map (λ s. cleared family top s) ss) }
+    ensures { let ss = store_in room.old in
+        room.new ≡ room_with room.old (map (λ s. cleared family top s) ss) }
 {
     let mut k = 0;
     while k < 32 {
@@ -44,8 +44,8 @@ fn clear_old(room: &mut [u8], family: u16, top: u16)
 // The old editions of a good store.
 fn drop_from(room: &mut [u8], family: u16) -> Numbered
     requires { 160 ≤ length room.old }
-    ensures { let ss = storeIn room.old in
-        Leaves room.old (dropOld family ss) (dropped family ss) result room.new }
+    ensures { let ss = store_in room.old in
+        Leaves room.old (drop_old family ss) (dropped family ss) result room.new }
 {
     let top = newest_of(room, family);
     if top < 1 {
@@ -57,8 +57,8 @@ fn drop_from(room: &mut [u8], family: u16) -> Numbered
 
 // Drops the old editions of a family, and gives the number of the one that stays; or refusal 12, 19 or 17, and no byte changes.
 pub fn drop_old(room: &mut [u8], family: u16) -> Numbered
-    ensures value { result ≡ numberedAs (dropIn room.old family) }
-    ensures room_after { room.new ≡ afterDrop room.old family }
+    ensures value { result ≡ numbered_as (drop_in room.old family) }
+    ensures room_after { room.new ≡ after_drop room.old family }
 {
     match judge(room) {
         Verdict::Refused(r) => Numbered::Refused(r),

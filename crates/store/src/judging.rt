@@ -1,8 +1,8 @@
 // 12 and 19: the room holds 32 settings, each in range, none held twice.
 ghost use Rattle.std.specs.Prelude.{◌≡◌, ◌+◌, ◌<◌, ◌≤◌, length, drop};
 ghost use Rattle.laws.specs.Lists.{every};
-ghost use Rattle.store.specs.Store.{in_range, noneHolds, alone, noneTwice};
-ghost use Rattle.store.specs.Rooms.{settingAt, storeIn, judged, verdictAs};
+ghost use Rattle.store.specs.Store.{in_range, none_holds, alone, none_twice};
+ghost use Rattle.store.specs.Rooms.{setting_at, store_in, judged, verdict_as};
 
 use crate::Verdict;
 use crate::places::read_setting;
@@ -11,7 +11,7 @@ use rules::Refusal;
 
 fn all_in_range(room: &[u8]) -> bool
     requires { 160 ≤ length room.now }
-    ensures { result ≡ every (λ s. in_range s) (storeIn room.now) }
+    ensures { result ≡ every (λ s. in_range s) (store_in room.now) }
 {
     let mut k = 0;
     while k < 32 {
@@ -26,7 +26,7 @@ fn all_in_range(room: &[u8]) -> bool
 // No place from `from` on holds this family and edition.
 fn none_holds(room: &[u8], family: u16, edition: u16, from: usize) -> bool
     requires { (160 ≤ length room.now) × (from ≤ 32) }
-    ensures { result ≡ noneHolds family edition (drop from (storeIn room.now)) }
+    ensures { result ≡ none_holds family edition (drop from (store_in room.now)) }
 {
     let mut k = from;
     while k < 32 {
@@ -41,7 +41,7 @@ fn none_holds(room: &[u8], family: u16, edition: u16, from: usize) -> bool
 // No place behind k holds what it holds, unless it is free.
 fn is_alone(room: &[u8], k: usize) -> bool
     requires { (160 ≤ length room.now) × (k < 32) }
-    ensures { result ≡ alone (settingAt room.now k) (drop (k + 1) (storeIn room.now)) }
+    ensures { result ≡ alone (setting_at room.now k) (drop (k + 1) (store_in room.now)) }
 {
     let s = read_setting(room, k);
     if is_free(s) {
@@ -52,7 +52,7 @@ fn is_alone(room: &[u8], k: usize) -> bool
 
 fn none_twice(room: &[u8]) -> bool
     requires { 160 ≤ length room.now }
-    ensures { result ≡ noneTwice (storeIn room.now) }
+    ensures { result ≡ none_twice (store_in room.now) }
 {
     let mut k = 0;
     while k < 32 {
@@ -65,7 +65,7 @@ fn none_twice(room: &[u8]) -> bool
 }
 
 pub fn judge(room: &[u8]) -> Verdict
-    ensures { result ≡ verdictAs (judged room.now) }
+    ensures { result ≡ verdict_as (judged room.now) }
 {
     if room.len() < 160 {
         return Verdict::Refused(Refusal::Room(0));

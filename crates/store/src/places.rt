@@ -1,6 +1,6 @@
 // One place of the store: its five bytes as a setting, and back.
 ghost use Rattle.std.specs.Prelude.{◌≡◌, ◌+◌, ◌*◌, ◌/◌, ◌%◌, ◌<◌, ◌≤◌, length};
-ghost use Rattle.store.specs.Rooms.{settingAt, withPlace};
+ghost use Rattle.store.specs.Rooms.{setting_at, with_place};
 
 use crate::Setting;
 
@@ -12,7 +12,7 @@ fn two_bytes(high: u8, low: u8) -> u16
 
 pub fn read_setting(room: &[u8], k: usize) -> Setting
     requires { (k < 32) × (160 ≤ length room.now) }
-    ensures { result ≡ settingAt room.now k }
+    ensures { result ≡ setting_at room.now k }
 {
     let at = 5 * k;
     Setting {
@@ -36,7 +36,7 @@ fn low_byte(x: u16) -> u8
 
 pub fn put_setting(room: &mut [u8], k: usize, s: Setting)
     requires { (k < 32) × (160 ≤ length room.old) }
-    ensures { room.new ≡ withPlace room.old k s }
+    ensures { room.new ≡ with_place room.old k s }
 {
     let at = 5 * k;
     room[at] = high_byte(s.family);

@@ -1,13 +1,13 @@
 // Tests of one setting, and its switches.
 ghost use Rattle.std.specs.Prelude.{◌≡◌, cond, max, eqb};
-ghost use Rattle.store.specs.Switches.{switch, switchesOf, settingsOf};
-ghost use Rattle.store.specs.Store.{isFree, is_of, in_range, isOld};
+ghost use Rattle.store.specs.Switches.{switch, switches_of, settings_of};
+ghost use Rattle.store.specs.Store.{is_free, is_of, in_range, is_old};
 
 use crate::Setting;
 use rules::Settings;
 
 pub fn is_free(s: Setting) -> bool
-    ensures { result ≡ isFree s }
+    ensures { result ≡ is_free s }
 {
     if s.family != 0 {
         return false;
@@ -41,7 +41,7 @@ pub fn is_of(s: Setting, family: u16, edition: u16) -> bool
 
 // An edition of the family below its newest, which is `top`.
 pub fn is_old(s: Setting, family: u16, top: u16) -> bool
-    ensures { result ≡ isOld family top s }
+    ensures { result ≡ is_old family top s }
 {
     if s.family != family {
         return false;
@@ -69,13 +69,13 @@ fn switch(on: bool, worth: u8) -> u8
 }
 
 pub fn switches_of(s: Settings) -> u8
-    ensures { result ≡ switchesOf s }
+    ensures { result ≡ switches_of s }
 {
     switch(s.comments, 1) + switch(s.callf, 2) + switch(s.folds, 4)
 }
 
 pub fn settings_of(w: u8) -> Settings
-    ensures { result ≡ settingsOf w }
+    ensures { result ≡ settings_of w }
 {
     Settings {
         comments: w % 2 == 1,

@@ -3,8 +3,8 @@
 ghost use Rattle.std.specs.Prelude.{◌≡◌, ℕ, ◌+◌, ◌^◌, ◌≤◌, ◌<◌, length, drop};
 ghost use Rattle.rules.specs.declared.Op2.{Op2};
 ghost use Rattle.rules.specs.Expressions.{code2};
-ghost use Rattle.grammar.specs.Reading.{look, levelOf};
-ghost use Rattle.grammar.specs.Going.{got, skip, gap, close, alone, whole, opAt, infixOf};
+ghost use Rattle.grammar.specs.Reading.{look, level_of};
+ghost use Rattle.grammar.specs.Going.{got, skip, gap, close, alone, whole, op_at, infix_of};
 ghost use Rattle.leaves.specs.Answering.{Answered, Continued, Passed, takes, after_of, code_of};
 
 use leaves::Found;
@@ -14,7 +14,7 @@ use leaves::storing::insert;
 
 // The byte of the infix operator that a byte is; 0 where it is none.
 fn infix_of(c: u8) -> u8
-    ensures { result ≡ code_of (infixOf c) }
+    ensures { result ≡ code_of (infix_of c) }
 {
     match c {
         42 => 0x12,
@@ -30,7 +30,7 @@ fn infix_of(c: u8) -> u8
 
 // The level of the operator with a byte.
 fn level_of(code: u8) -> usize
-    ensures { (o : Op2) → code ≡ code2 o → result ≡ levelOf o }
+    ensures { (o : Op2) → code ≡ code2 o → result ≡ level_of o }
 {
     if code < 0x12 {
         return 2;
@@ -49,7 +49,7 @@ fn level_of(code: u8) -> usize
 
 // The byte of the operator of a level that a byte is; 0 where it is none.
 fn op_at(level: usize, c: u8) -> u8
-    ensures { result ≡ code_of (opAt level c) }
+    ensures { result ≡ code_of (op_at level c) }
 {
     let code = infix_of(c);
     if code < 1 {

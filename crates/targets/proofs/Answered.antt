@@ -17,83 +17,83 @@ use Rattle.rules.specs.Rewriting.{optimized}
 use Rattle.rules.specs.Run.{run}
 use Rattle.laws.proofs.Tests.{clash}
 use Rattle.starting.specs.Begun.{accepted}
-use Rattle.starting.proofs.Accepts.{accepted-run}
+use Rattle.starting.proofs.Accepts.{accepted_run}
 use Rattle.digits.specs.Digits.{laid}
-use Rattle.digits.proofs.Rooms.{laid-front}
+use Rattle.digits.proofs.Rooms.{laid_front}
 use Rattle.targets.specs.declared.Told.{Told}
 use Rattle.targets.specs.declared.Told.TheVariants.{Done, Refused}
 use Rattle.targets.specs.Targets.{Target, targets}
-use Rattle.targets.specs.Entry.{targetLines, marks, fitted, told, Leaves, targetsTo, Fits}
-use Rattle.targets.proofs.Listed.{length-lines}
+use Rattle.targets.specs.Entry.{target_lines, marks, fitted, told, Leaves, targets_to, Fits}
+use Rattle.targets.proofs.Listed.{length_lines}
 
 -- ---- of so many transfers
 module _ (ts : List Target) (k : ℕ) (c : k ≡ length ts) (room : List ℕ) where
-  size : length (targetLines ts) ≡ 45 * k
-  size = omega (arith, length-lines ts)
+  size : length (target_lines ts) ≡ 45 * k
+  size = omega (arith, length_lines ts)
 
   fitted_short : (n : ℕ) → length room < 45 * k → Leaves (fitted n (length room) ts) (Refused (Room n)) room room
   unfolding fitted require
-  fitted_short n h = rw (lt-leb (length (targetLines ts)) (length room) (omega (arith, size))) (record { answer = refl; room = refl })
+  fitted_short n h = rw (lt-leb (length (target_lines ts)) (length room) (omega (arith, size))) (record { answer = refl; room = refl })
 
-  fitted-whole : (n m : ℕ) (out : List ℕ) → 45 * k ≤ length room → out ≡ laid room 0 (targetLines ts) → m ≡ marks ts
+  fitted_whole : (n m : ℕ) (out : List ℕ) → 45 * k ≤ length room → out ≡ laid room 0 (target_lines ts) → m ≡ marks ts
       → Leaves (fitted n (length room) ts) (Done (record { bytes = 45 * k; transfers = k; marked = m })) room out
   unfolding fitted require
-  fitted-whole n m out h o e =
-      rw (le-leb (length (targetLines ts)) (length room) (omega (arith, size)))
-      (record { answer = rw (size, ← c, e); room = o ∙ laid-front room (targetLines ts) })
+  fitted_whole n m out h o e =
+      rw (le-leb (length (target_lines ts)) (length room) (omega (arith, size)))
+      (record { answer = rw (size, ← c, e); room = o ∙ laid_front room (target_lines ts) })
 
 -- ---- of an end form
-module _ (p e : Program) (count k : ℕ) (room : List ℕ) (lp : length p ≡ count) (le : length e ≡ count) (c : k ≡ length (targetsTo p e count)) where
-  to_end : length (targetsTo p e count) ≡ length (targetsTo p e (length e))
-  to_end = ap (λ (n : ℕ). length (targetsTo p e n)) (sym le)
+module _ (p e : Program) (count k : ℕ) (room : List ℕ) (lp : length p ≡ count) (le : length e ≡ count) (c : k ≡ length (targets_to p e count)) where
+  to_end : length (targets_to p e count) ≡ length (targets_to p e (length e))
+  to_end = ap (λ (n : ℕ). length (targets_to p e n)) (sym le)
 
-  pub lines_fit : 45 * k ≤ length room → length (targetLines (targetsTo p e count)) ≤ length room
-  lines_fit h = omega (arith, size (targetsTo p e count) k c room)
+  pub lines_fit : 45 * k ≤ length room → length (target_lines (targets_to p e count)) ≤ length room
+  lines_fit h = omega (arith, size (targets_to p e count) k c room)
 
-  pub fits-short : length room < 45 * k → Fits p e (Refused (Room count)) room room
-  fits-short h = rw lp (fitted_short (targetsTo p e (length e)) k (c ∙ to_end) room count h)
+  pub fits_short : length room < 45 * k → Fits p e (Refused (Room count)) room room
+  fits_short h = rw lp (fitted_short (targets_to p e (length e)) k (c ∙ to_end) room count h)
 
-  pub fits_whole : (m : ℕ) (out : List ℕ) → 45 * k ≤ length room → out ≡ laid room 0 (targetLines (targetsTo p e count)) → m ≡ marks (targetsTo p e count)
+  pub fits_whole : (m : ℕ) (out : List ℕ) → 45 * k ≤ length room → out ≡ laid room 0 (target_lines (targets_to p e count)) → m ≡ marks (targets_to p e count)
       → Fits p e (Done (record { bytes = 45 * k; transfers = k; marked = m })) room out
   fits_whole m out h o q =
-      let z : targetsTo p e count ≡ targetsTo p e (length e) = ap (targetsTo p e) (sym le) in
-      fitted-whole (targetsTo p e (length e)) k (c ∙ to_end) room (length p) m out h (o ∙ ap (λ (l : List Target). laid room 0 (targetLines l)) z) (q ∙ ap marks z)
+      let z : targets_to p e count ≡ targets_to p e (length e) = ap (targets_to p e) (sym le) in
+      fitted_whole (targets_to p e (length e)) k (c ∙ to_end) room (length p) m out h (o ∙ ap (λ (l : List Target). laid room 0 (target_lines l)) z) (q ∙ ap marks z)
 
 -- the same programs under other names
-pub fits-as : (p q e f : Program) (r : Told) (a b : List ℕ) → p ≡ q → e ≡ f → Fits p e r a b → Fits q f r a b
-fits-as p q e f r a b x y h = subst (λ (z : Program). Fits q z r a b) y (subst (λ (z : Program). Fits z e r a b) x h)
+pub fits_as : (p q e f : Program) (r : Told) (a b : List ℕ) → p ≡ q → e ≡ f → Fits p e r a b → Fits q f r a b
+fits_as p q e f r a b x y h = subst (λ (z : Program). Fits q z r a b) y (subst (λ (z : Program). Fits z e r a b) x h)
 
 pub fits_read : (asked : Settings) (p q : Program) {r : Told} {a b : List ℕ} → p ≡ q → Fits p (optimized asked p).program r a b → Fits q (optimized asked q).program r a b
 fits_read asked p q {r} {a} {b} e h = subst (λ (z : Program). Fits z (optimized asked z).program r a b) e h
 
 -- ---- of a listing
 module _ (asked : Settings) (text room : List ℕ) where
-  pub told-refused : (q : Refusal) → accepted text ≡ no q → Leaves (told asked text (length room)) (Refused q) room room
+  pub told_refused : (q : Refusal) → accepted text ≡ no q → Leaves (told asked text (length room)) (Refused q) room room
   unfolding told ◌>>=◌
-  told-refused q e = rw e (record { answer = refl; room = refl })
+  told_refused q e = rw e (record { answer = refl; room = refl })
 
-  pub told-fits : (p : Program) (r : Told) (out : List ℕ) → accepted text ≡ ok p → Fits p (optimized asked p).program r room out
+  pub told_fits : (p : Program) (r : Told) (out : List ℕ) → accepted text ≡ ok p → Fits p (optimized asked p).program r room out
       → Leaves (told asked text (length room)) r room out
-  unfolding told ◌>>=◌ targets targetsTo
-  told-fits p r out e h = rw e h
+  unfolding told ◌>>=◌ targets targets_to
+  told_fits p r out e h = rw e h
 
 -- told-refusal: a refusal is the run's, whatever rooms that is lent, or 12 with the statement count
 module _ (asked : Settings) (text : List ℕ) (room : ℕ) (r : Refusal) (h : told asked text room ≡ no r) where
   abbrev AsRun : Type 0
   AsRun = ((a b : ℕ) → run asked text a b ≡ no r) ⊎ ((p : Program) × (accepted text ≡ ok p) × (r ≡ Room (length p)))
 
-  short-of : (p : Program) (b : Bool) (ts : List Target) → require b (Room (length p)) (ok ts) ≡ no r → r ≡ Room (length p)
+  short_of : (p : Program) (b : Bool) (ts : List Target) → require b (Room (length p)) (ok ts) ≡ no r → r ≡ Room (length p)
   unfolding require
-  short-of p true ts e = clash (cc)
-  short-of p false ts e = cc
+  short_of p true ts e = clash (cc)
+  short_of p false ts e = cc
 
-  pub told-refusal : AsRun
+  pub told_refusal : AsRun
   unfolding told ◌>>=◌ fitted
-  told-refusal = on (accepted text) refl
+  told_refusal = on (accepted text) refl
     where
       on : (x : Judged Program) → accepted text ≡ x → AsRun
-      on (ok p) e = inr (p, e, short-of p (leb (length (targetLines (targets asked p))) room) (targets asked p) (rw e at h))
-      on (no q) e = let z : ◌≡◌ {A = Judged (List Target)} (no q) (no r) = rw e at h in let y : q ≡ r = cc in inl (λ a b. accepted-run text asked r a b (e ∙ ap no y))
+      on (ok p) e = inr (p, e, short_of p (leb (length (target_lines (targets asked p))) room) (targets asked p) (rw e at h))
+      on (no q) e = let z : ◌≡◌ {A = Judged (List Target)} (no q) (no r) = rw e at h in let y : q ≡ r = cc in inl (λ a b. accepted_run text asked r a b (e ∙ ap no y))
 
 -- "Show that any two results allowed by the contract coincide": `targets`
 pub one_told : (x : Judged (List Target)) (room : List ℕ) (r s : Told) (a b : List ℕ) → Leaves x r room a → Leaves x s room b → (r ≡ s) × (a ≡ b)

@@ -10,83 +10,83 @@ use mir.Syntax.{w32}
 use mir.Val.{of_z}
 use Rattle.rules.specs.declared.Outcome.{Outcome}
 use Rattle.rules.specs.Expressions.{pair, four}
-use Rattle.rules.specs.Forms.{isTransfer, operandsAt}
+use Rattle.rules.specs.Forms.{is_transfer, operands_at}
 use Rattle.rules.specs.Programs.{Placeℕ, Operand, register, Stmt, args_of, last_of, kind_of}
 use Rattle.rules.specs.Layout.{Origin as Source, origin}
-use Rattle.rules.specs.Names.{contextAt}
-use Rattle.rules.specs.Judging.{worthOf, names_of}
-use Rattle.instruction.proofs.Rows.{has-target}
-use Rattle.slots.specs.Slots.{Slots, slot_at, program_of, worthIn}
+use Rattle.rules.specs.Names.{context_at}
+use Rattle.rules.specs.Judging.{worth_of, names_of}
+use Rattle.instruction.proofs.Rows.{has_target}
+use Rattle.slots.specs.Slots.{Slots, slot_at, program_of, worth_in}
 use Rattle.image.specs.Tables.{Tables, program, operand_at, Ready}
-use Rattle.image.proofs.Operands.{count-args}
-use Rattle.image.proofs.Worths.{worth-at}
+use Rattle.image.proofs.Operands.{count_args}
+use Rattle.image.proofs.Worths.{worth_at_lem}
 use Rattle.asm.specs.declared.Origin.{Origin}
 use Rattle.asm.specs.declared.Origin.TheVariants.{At, Nothing}
-use Rattle.asm.specs.Belonging.{originAs, OriginIn}
-use Rattle.patterns.specs.Targets.{standsAt, formIn}
-use Rattle.patterns.proofs.Programs.{at-program}
-use Rattle.patterns.proofs.Instructions.{last_get, transfer-slot}
-use Rattle.anchors.specs.Anchored.{Found, Small, offsetIn}
-use Rattle.targets.specs.Targets.{aimAt, number_of, byteBytes}
+use Rattle.asm.specs.Belonging.{origin_as, OriginIn}
+use Rattle.patterns.specs.Targets.{stands_at, form_in}
+use Rattle.patterns.proofs.Programs.{at_program}
+use Rattle.patterns.proofs.Instructions.{last_get, transfer_slot}
+use Rattle.anchors.specs.Anchored.{Found, Small, offset_in}
+use Rattle.targets.specs.Targets.{aim_at, number_of, byte_bytes}
 use Rattle.targets.specs.Aimed.{place_in, LowByte, AimIs}
 
 -- ---- the last operand of a transfer
-module _ (d : Tables) (h : Ready d) (i : Placeℕ) (l : i < d.slots.count) (e : isTransfer (formIn (standsAt d.slots i)) ≡ true) where
+module _ (d : Tables) (h : Ready d) (i : Placeℕ) (l : i < d.slots.count) (e : is_transfer (form_in (stands_at d.slots i)) ≡ true) where
   abbrev t : Slots
   t = d.slots
 
   abbrev form : ℕ
   form = get_or t.forms i 0
 
-  pub stands-there : (kind_of (slot_at t i) ≡ 1) × (isTransfer form ≡ true)
-  stands-there = transfer-slot t h.sound.held i l e
+  pub stands_there : (kind_of (slot_at t i) ≡ 1) × (is_transfer form ≡ true)
+  stands_there = transfer_slot t h.sound.held i l e
 
-  pub some-operands : 1 ≤ length (operandsAt form)
-  some-operands = has-target form stands-there.1
+  pub some_operands : 1 ≤ length (operands_at form)
+  some_operands = has_target form stands_there.1
 
-  last-is : operand_at t i (length (operandsAt form) - 1) ≡ last_of (args_of (standsAt t i))
-  last-is =
-      let k = stands-there.0 in
+  last_is : operand_at t i (length (operands_at form) - 1) ≡ last_of (args_of (stands_at t i))
+  last_is =
+      let k = stands_there.0 in
       let xs = args_of (slot_at t i) in
-      ap (λ (n : ℕ). get_or xs (n - 1) (register 0)) (sym (count-args t h.sound.held i l k (h.sound.forms i l k)))
-      ∙ sym (last_get xs) ∙ ap (λ (s : Stmt). last_of (args_of s)) (sym (at-program t i l))
+      ap (λ (n : ℕ). get_or xs (n - 1) (register 0)) (sym (count_args t h.sound.held i l k (h.sound.forms i l k)))
+      ∙ sym (last_get xs) ∙ ap (λ (s : Stmt). last_of (args_of s)) (sym (at_program t i l))
 
   -- its worth is what the target comes to
-  pub worth-is : d.entries ≡ names_of (program d) → (v : Outcome)
-      → v ≡ worthIn d.entries d.positions (get_or d.contexts i 0) (operand_at t i (length (operandsAt form) - 1)) → v ≡ (aimAt (program d) i).value
-  unfolding aimAt
-  worth-is n v w =
-      w ∙ worth-at d h i l stands-there.0 (length (operandsAt form) - 1) (omega (arith, some-operands))
-      ∙ ap (λ (x : Operand). worthOf d.entries (program d) (contextAt (program d) i) x) last-is
-      ∙ ap (λ z. worthOf z (program d) (contextAt (program d) i) (last_of (args_of (standsAt t i)))) n
+  pub worth_is : d.entries ≡ names_of (program d) → (v : Outcome)
+      → v ≡ worth_in d.entries d.positions (get_or d.contexts i 0) (operand_at t i (length (operands_at form) - 1)) → v ≡ (aim_at (program d) i).value
+  unfolding aim_at
+  worth_is n v w =
+      w ∙ worth_at_lem d h i l stands_there.0 (length (operands_at form) - 1) (omega (arith, some_operands))
+      ∙ ap (λ (x : Operand). worth_of d.entries (program d) (context_at (program d) i) x) last_is
+      ∙ ap (λ z. worth_of z (program d) (context_at (program d) i) (last_of (args_of (stands_at t i)))) n
 
 -- ---- its bytes
 
 -- a slot's bytes are few
-pub small-in : (t : Slots) (o : Origin) → t.count ≤ 1024 → OriginIn t o → Small o
-small-in t (At i o) l h = (omega (arith, h.0), omega (arith, h.2))
-small-in t Nothing l h = tt
+pub small_in : (t : Slots) (o : Origin) → t.count ≤ 1024 → OriginIn t o → Small o
+small_in t (At i o) l h = (omega (arith, h.0), omega (arith, h.2))
+small_in t Nothing l h = tt
 
-low-in : (x : Option Source) → Small (originAs x) → LowByte x
-low-in none h = tt
-low-in (some o) h = h
+low_in : (x : Option Source) → Small (origin_as x) → LowByte x
+low_in none h = tt
+low_in (some o) h = h
 
-bytes-in : (x : Option Source) → byteBytes x ≡ pair (place_in (originAs x)) ++ pair (offsetIn (originAs x))
-bytes-in none = refl
-bytes-in (some o) = refl
+bytes_in : (x : Option Source) → byte_bytes x ≡ pair (place_in (origin_as x)) ++ pair (offset_in (origin_as x))
+bytes_in none = refl
+bytes_in (some o) = refl
 
-pub aim-is : (t : Slots) (i : Placeℕ) (v : Outcome) (o : Origin) (n place offset : ℕ) (r : List ℕ) → t.count ≤ 1024
-    → v ≡ (aimAt (program_of t) i).value → Found t (origin (program_of t) v) o → n ≡ of_z w32 (number_of v) → place ≡ place_in o → offset ≡ offsetIn o
+pub aim_is : (t : Slots) (i : Placeℕ) (v : Outcome) (o : Origin) (n place offset : ℕ) (r : List ℕ) → t.count ≤ 1024
+    → v ≡ (aim_at (program_of t) i).value → Found t (origin (program_of t) v) o → n ≡ of_z w32 (number_of v) → place ≡ place_in o → offset ≡ offset_in o
     → r ≡ four n ++ (pair place ++ pair offset) → AimIs (program_of t) i r
-unfolding aimAt
-aim-is t i v o n place offset r l e f en ep eo er =
+unfolding aim_at
+aim_is t i v o n place offset r l e f en ep eo er =
     let p = program_of t in
-    let at : origin p v ≡ origin p (aimAt p i).value = ap (origin p) e in
-    let b : pair place ++ pair offset ≡ byteBytes (aimAt p i).byte =
-    rw (ep, eo, f.answer) (sym (bytes-in (origin p v)) ∙ ap byteBytes at) in
+    let at : origin p v ≡ origin p (aim_at p i).value = ap (origin p) e in
+    let b : pair place ++ pair offset ≡ byte_bytes (aim_at p i).byte =
+    rw (ep, eo, f.answer) (sym (bytes_in (origin p v)) ∙ ap byte_bytes at) in
     record {
       bytes = er ∙ rw (b, en, e);
-      low = subst LowByte at (low-in (origin p v) (subst Small f.answer (small-in t o l f.inside)));
+      low = subst LowByte at (low_in (origin p v) (subst Small f.answer (small_in t o l f.inside)));
     }
 
 pub eight_is : (v p o : ℕ) (a b c d x y z w : ℕ) → v < 4294967296 → p < 65536 → o < 65536 → a ≡ v / 16777216 % 256 → b ≡ v / 65536 % 256 → c ≡ v / 256 % 256 → d ≡ v % 256

@@ -7,20 +7,20 @@ use lib.Dec.{T}
 use Rattle.laws.specs.Lists.{same}
 use Rattle.laws.specs.Counts.{tab}
 use Rattle.rules.specs.Answers.{Judged, ok, no}
-use Rattle.rules.specs.Refusals.{faultOf}
-use Rattle.rules.specs.Settings.{byDefault}
+use Rattle.rules.specs.Refusals.{fault_of}
+use Rattle.rules.specs.Settings.{by_default}
 use Rattle.rules.proofs.Computed.{lines, all, freely}
 use Rattle.starting.specs.Begun.{accepted}
-use Rattle.targets.specs.Targets.{Target, aimAt, targets, targetLine}
-use Rattle.targets.specs.Entry.{targetLines, fitted, told}
+use Rattle.targets.specs.Targets.{Target, aim_at, targets, target_line}
+use Rattle.targets.specs.Entry.{target_lines, fitted, told}
 
 unfoldable answer : (room : ℕ) (text : List ℕ) → Judged (List Target)
-unfolding freely accepted tab aimAt targets targetLine targetLines fitted told
-answer room text = told byDefault text room
+unfolding freely accepted tab aim_at targets target_line target_lines fitted told
+answer room text = told by_default text room
 
 abbrev shows : Judged (List Target) → List ℕ → Bool
-shows (ok ts) ls = same (targetLines ts) ls
-shows (no r) ls = same ((faultOf r).number ∷ (faultOf r).place ∷ []) ls
+shows (ok ts) ls = same (target_lines ts) ls
+shows (no r) ls = same ((fault_of r).number ∷ (fault_of r).place ∷ []) ls
 
 unfoldable names : String → String → Bool
 unfolding answer same
@@ -60,6 +60,6 @@ aims =
     refuses 0 "012C0000000082" 10 0 ∷
     []
 
-aims-hold : T (computed aims)
+aims_hold : T (computed aims)
 unfolding computed aims
-aims-hold = tt
+aims_hold = tt

@@ -1,13 +1,13 @@
 -- What a target comes to, as the code holds it: eight bytes by place.
 use Rattle.std.specs.Prelude.{◌≡◌, List, [], Bool, true, ◌&&◌, not, ℕ, ◌<◌, eqb, get_or}
 use Rattle.std.proofs.Math.Option.{Option, none, some}
-use Rattle.rules.specs.Forms.{isTransfer}
+use Rattle.rules.specs.Forms.{is_transfer}
 use Rattle.rules.specs.Programs.{Placeℕ, Program, at}
 use Rattle.rules.specs.Layout.{Origin as Source}
 use Rattle.asm.specs.declared.Origin.{Origin}
 use Rattle.asm.specs.declared.Origin.TheVariants.{At, Nothing}
-use Rattle.patterns.specs.Targets.{formIn}
-use Rattle.targets.specs.Targets.{aimAt, aimBytes}
+use Rattle.patterns.specs.Targets.{form_in}
+use Rattle.targets.specs.Targets.{aim_at, aim_bytes}
 
 -- the place of an origin, FFFF for none
 abbrev pub place_in : Origin → ℕ
@@ -21,15 +21,15 @@ LowByte (some o) = (o.place < 1024) × (o.offset < 65536)
 
 -- the eight bytes of what the target at place i comes to
 pub record AimIs (p : Program) (i : Placeℕ) (l : List ℕ) : Type 0 where
-  pub bytes : l ≡ aimBytes (aimAt p i)
-  pub low : LowByte (aimAt p i).byte
+  pub bytes : l ≡ aim_bytes (aim_at p i)
+  pub low : LowByte (aim_at p i).byte
 
 -- of each transfer below n
 pub record AimsIn (p : Program) (n : ℕ) (aims : List (List ℕ)) : Type 0 where
-  pub aim : (i : Placeℕ) → i < n → isTransfer (formIn (at p i)) ≡ true → AimIs p i (get_or aims i [])
+  pub aim : (i : Placeℕ) → i < n → is_transfer (form_in (at p i)) ≡ true → AimIs p i (get_or aims i [])
 
 -- both have a place, and the last four bytes are the same
-abbrev pub sameBytes : (b a : List ℕ) → Bool
-sameBytes b a =
+abbrev pub same_bytes : (b a : List ℕ) → Bool
+same_bytes b a =
     not (eqb (get_or b 4 0) 255)
     && (eqb (get_or b 4 0) (get_or a 4 0) && (eqb (get_or b 5 0) (get_or a 5 0) && (eqb (get_or b 6 0) (get_or a 6 0) && eqb (get_or b 7 0) (get_or a 7 0))))

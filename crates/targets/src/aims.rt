@@ -3,10 +3,10 @@ ghost use Rattle.std.specs.Prelude.{◌≡◌, true, ◌++◌, ◌%◌, ◌<◌}
 ghost use Rattle.std.specs.Int.{w32};
 ghost use Rattle.std.proofs.Common.{of_z};
 ghost use Rattle.rules.specs.Expressions.{pair, four};
-ghost use Rattle.rules.specs.Forms.{isTransfer};
+ghost use Rattle.rules.specs.Forms.{is_transfer};
 ghost use Rattle.image.specs.Tables.{Tables, tables_of, program, Ready};
-ghost use Rattle.patterns.specs.Targets.{standsAt, formIn};
-ghost use Rattle.anchors.specs.Anchored.{Small, offsetIn};
+ghost use Rattle.patterns.specs.Targets.{stands_at, form_in};
+ghost use Rattle.anchors.specs.Anchored.{Small, offset_in};
 ghost use Rattle.targets.specs.Targets.{number_of};
 ghost use Rattle.targets.specs.Aimed.{place_in, AimIs};
 
@@ -48,7 +48,7 @@ fn place_of(o: Origin) -> u32
 
 fn offset_of(o: Origin) -> u32
     requires { Small o }
-    ensures { (result ≡ offsetIn o) × (result < 65536) }
+    ensures { (result ≡ offset_in o) × (result < 65536) }
 {
     match o {
         Origin::At(_, n) => n as u32,
@@ -84,7 +84,7 @@ pub fn aim_at(
     at: Place,
 ) -> [u8; 8]
     requires { let d : Tables = tables_of frames.now state.now count links.now values.now positions.now in
-        Ready d × (at.0 < count) × (isTransfer (formIn (standsAt d.slots at.0)) ≡ true) }
+        Ready d × (at.0 < count) × (is_transfer (form_in (stands_at d.slots at.0)) ≡ true) }
     ensures { let d : Tables = tables_of frames.now state.now count links.now values.now
         positions.now in
         AimIs (program d) at.0 result }

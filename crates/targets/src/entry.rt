@@ -5,13 +5,13 @@ ghost use Rattle.rules.specs.Judging.{assembles};
 ghost use Rattle.rules.specs.Rewriting.{optimized};
 ghost use Rattle.listing.specs.Tables.{input_of};
 ghost use Rattle.slots.specs.Slots.{Slots, program_of};
-ghost use Rattle.slots.specs.State.{startsIn, table_of};
+ghost use Rattle.slots.specs.State.{starts_in, table_of};
 ghost use Rattle.slots.specs.Links.{Beside};
 ghost use Rattle.attempts.specs.Standing.{Standing};
 ghost use Rattle.starting.specs.Begun.{Holds};
 ghost use Rattle.digits.specs.Digits.{laid};
 ghost use Rattle.targets.specs.Aimed.{AimsIn};
-ghost use Rattle.targets.specs.Entry.{told, Leaves, Fits, targetsTo, targetLines, marks};
+ghost use Rattle.targets.specs.Entry.{told, Leaves, Fits, targets_to, target_lines, marks};
 
 use crate::filling::{find_aims, find_aims_read};
 use crate::writing::{count_transfers, write_lines};
@@ -31,13 +31,13 @@ fn write_end(
     out: &mut [u8],
 ) -> usize
     requires { let t : Slots = table_of frames.now state.now count in
-        let p : Program = input_of frames.now (startsIn state.now) count in
-        Standing t × (assembles (program_of t) ≡ true) × Beside frames.now (startsIn state.now) count links.now
-        × AimsIn p count before.now × (length (targetLines (targetsTo p (program_of t) count)) ≤ length out.old) }
+        let p : Program = input_of frames.now (starts_in state.now) count in
+        Standing t × (assembles (program_of t) ≡ true) × Beside frames.now (starts_in state.now) count links.now
+        × AimsIn p count before.now × (length (target_lines (targets_to p (program_of t) count)) ≤ length out.old) }
     ensures { let t : Slots = table_of frames.now state.now count in
-        let p : Program = input_of frames.now (startsIn state.now) count in
-        (out.new ≡ laid out.old 0 (targetLines (targetsTo p (program_of t) count)))
-        × (result ≡ marks (targetsTo p (program_of t) count)) }
+        let p : Program = input_of frames.now (starts_in state.now) count in
+        (out.new ≡ laid out.old 0 (target_lines (targets_to p (program_of t) count)))
+        × (result ≡ marks (targets_to p (program_of t) count)) }
 {
     let mut after = [[0u8; 8]; 1024];
     find_aims(frames, state, count, links, &mut after);
@@ -54,10 +54,10 @@ fn tell_end(
     out: &mut [u8],
 ) -> Told
     requires { let t : Slots = table_of frames.now state.now count in
-        Standing t × (assembles (program_of t) ≡ true) × Beside frames.now (startsIn state.now) count links.now
-        × AimsIn (input_of frames.now (startsIn state.now) count) count before.now }
+        Standing t × (assembles (program_of t) ≡ true) × Beside frames.now (starts_in state.now) count links.now
+        × AimsIn (input_of frames.now (starts_in state.now) count) count before.now }
     ensures { let t : Slots = table_of frames.now state.now count in
-        let p : Program = input_of frames.now (startsIn state.now) count in
+        let p : Program = input_of frames.now (starts_in state.now) count in
         Fits p (program_of t) result out.old out.new }
 {
     let n = count_transfers(frames, state, count);
@@ -81,9 +81,9 @@ fn rewrite_and_tell(
     links: &[u16; 28672],
     out: &mut [u8],
 ) -> Told
-    requires { let p : Program = input_of frames.now (startsIn state.old) count in
+    requires { let p : Program = input_of frames.now (starts_in state.old) count in
         Holds p (table_of frames.now state.old count) links.now }
-    ensures { let p : Program = input_of frames.now (startsIn state.old) count in
+    ensures { let p : Program = input_of frames.now (starts_in state.old) count in
         Fits p (optimized asked p).program result out.old out.new }
 {
     let mut before = [[0u8; 8]; 1024];

@@ -1,13 +1,13 @@
 // What the target of each transfer of a program comes to, by place.
 ghost use Rattle.std.specs.Prelude.{◌≡◌, true, List, ℕ, ◌<◌, length};
-ghost use Rattle.rules.specs.Forms.{isTransfer};
+ghost use Rattle.rules.specs.Forms.{is_transfer};
 ghost use Rattle.rules.specs.Judging.{assembles};
 ghost use Rattle.listing.specs.Tables.{Held, input_of};
 ghost use Rattle.slots.specs.Slots.{Slots, program_of};
-ghost use Rattle.slots.specs.State.{startsIn, table_of};
+ghost use Rattle.slots.specs.State.{starts_in, table_of};
 ghost use Rattle.slots.specs.Links.{Beside};
 ghost use Rattle.image.specs.Tables.{Tables, tables_of, program, Ready};
-ghost use Rattle.patterns.specs.Targets.{standsAt, formIn};
+ghost use Rattle.patterns.specs.Targets.{stands_at, form_in};
 ghost use Rattle.attempts.specs.Standing.{Standing};
 ghost use Rattle.targets.specs.Aimed.{AimIs, AimsIn};
 
@@ -34,7 +34,7 @@ fn aim_or_zeros(
         Ready d × (at.0 < count) }
     ensures { let d : Tables = tables_of frames.now state.now count links.now values.now
         positions.now in
-        (isTransfer (formIn (standsAt d.slots at.0)) ≡ true → AimIs (program d) at.0 result) }
+        (is_transfer (form_in (stands_at d.slots at.0)) ≡ true → AimIs (program d) at.0 result) }
 {
     if is_transfer(form_at(frames, state, count, at)) {
         return aim_at(frames, state, count, links, values, positions, at);
@@ -67,7 +67,7 @@ fn fill_aims(
 // Positions and values are found once more: the program assembles.
 pub fn find_aims(frames: &[u8], state: &State, count: usize, links: &[u16; 28672], aims: &mut Aims)
     requires { let t : Slots = table_of frames.now state.now count in
-        Standing t × (assembles (program_of t) ≡ true) × Beside frames.now (startsIn state.now) count links.now
+        Standing t × (assembles (program_of t) ≡ true) × Beside frames.now (starts_in state.now) count links.now
         × (length aims.old ≡ 1024) }
     ensures { let t : Slots = table_of frames.now state.now count in
         AimsIn (program_of t) count aims.new }
@@ -82,7 +82,7 @@ pub fn find_aims(frames: &[u8], state: &State, count: usize, links: &[u16; 28672
 
 // What reading found, from the rows of a state: no rewrite changes them.
 fn stripes(state: &State) -> Starts
-    ensures { result ≡ startsIn state.now }
+    ensures { result ≡ starts_in state.now }
 {
     let mut starts = [0u16; 4100];
     let mut k = 0;
@@ -103,10 +103,10 @@ pub fn find_aims_read(
     links: &[u16; 28672],
     aims: &mut Aims,
 )
-    requires { let starts : List ℕ = startsIn state.now in
+    requires { let starts : List ℕ = starts_in state.now in
         Held frames.now starts count × (assembles (input_of frames.now starts count) ≡ true)
         × Beside frames.now starts count links.now × (length aims.old ≡ 1024) }
-    ensures { AimsIn (input_of frames.now (startsIn state.now) count) count aims.new }
+    ensures { AimsIn (input_of frames.now (starts_in state.now) count) count aims.new }
 {
     let starts = stripes(state);
     let first = start_state(&starts, count);

@@ -4,8 +4,8 @@ ghost use Rattle.rules.specs.Expressions.{pair};
 ghost use Rattle.rules.specs.Output.{line_of};
 ghost use Rattle.rules.specs.Programs.{Program};
 ghost use Rattle.digits.specs.Digits.{laid};
-ghost use Rattle.targets.specs.Targets.{targetAt, targetLine, markByte};
-ghost use Rattle.targets.specs.Aimed.{sameBytes, AimIs};
+ghost use Rattle.targets.specs.Targets.{target_at, target_line, mark_byte};
+ghost use Rattle.targets.specs.Aimed.{same_bytes, AimIs};
 ghost use Rattle.targets.specs.Entry.{mark_of};
 
 use digits::put_bytes;
@@ -18,7 +18,7 @@ fn low_byte(x: usize) -> u8
 
 // Both name a byte, of one statement and at one offset. No place has FF for its high byte.
 fn is_same(b: [u8; 8], a: [u8; 8]) -> bool
-    ensures { result ≡ sameBytes b a }
+    ensures { result ≡ same_bytes b a }
 {
     if b[4] == 255 {
         return false;
@@ -36,7 +36,7 @@ fn is_same(b: [u8; 8], a: [u8; 8]) -> bool
 }
 
 fn mark_byte(same: bool) -> u8
-    ensures { result ≡ markByte same }
+    ensures { result ≡ mark_byte same }
 {
     if same { 0 } else { 1 }
 }
@@ -77,7 +77,7 @@ fn put_parts(out: &mut [u8], at: usize, head: &[u8; 6], b: &[u8; 8], a: &[u8; 8]
 pub fn put_target(out: &mut [u8], at: usize, i: usize, c: usize, b: [u8; 8], a: [u8; 8]) -> usize
     requires { (at + 45 ≤ length out.old) × (i < 65536) × (c < 65536) × (length b ≡ 8) × (length a ≡ 8) }
     ensures { (p e : Program) → AimIs p c b → AimIs e i a
-        → (out.new ≡ laid out.old at (targetLine (targetAt p e i c))) × (result ≡ mark_of (targetAt p e i c)) }
+        → (out.new ≡ laid out.old at (target_line (target_at p e i c))) × (result ≡ mark_of (target_at p e i c)) }
 {
     let mark = mark_byte(is_same(b, a));
     let head = head_bytes(mark, i, c);

@@ -3,10 +3,10 @@ ghost use Rattle.std.specs.Prelude.{◌≡◌, ◌≤◌, length};
 ghost use Rattle.rules.specs.Programs.{Program};
 ghost use Rattle.listing.specs.Tables.{Held, input_of};
 ghost use Rattle.slots.specs.Slots.{Slots, program_of, Sound};
-ghost use Rattle.slots.specs.State.{startsIn, table_of};
+ghost use Rattle.slots.specs.State.{starts_in, table_of};
 ghost use Rattle.digits.specs.Digits.{laid};
 ghost use Rattle.targets.specs.Aimed.{AimsIn};
-ghost use Rattle.targets.specs.Entry.{targetsTo, targetLines, marks};
+ghost use Rattle.targets.specs.Entry.{targets_to, target_lines, marks};
 
 use crate::Aims;
 use crate::lines::put_target;
@@ -17,9 +17,9 @@ use slots::{State, carry_at};
 
 // How many transfers there are.
 pub fn count_transfers(frames: &[u8], state: &State, count: usize) -> usize
-    requires { Held frames.now (startsIn state.now) count }
+    requires { Held frames.now (starts_in state.now) count }
     ensures { let t : Slots = table_of frames.now state.now count in
-        ((p : Program) → result ≡ length (targetsTo p (program_of t) count)) × (result ≤ count) }
+        ((p : Program) → result ≡ length (targets_to p (program_of t) count)) × (result ≤ count) }
 {
     let mut n = 0;
     let mut i = 0;
@@ -43,13 +43,13 @@ pub fn write_lines(
     out: &mut [u8],
 ) -> usize
     requires { let t : Slots = table_of frames.now state.now count in
-        let p : Program = input_of frames.now (startsIn state.now) count in
+        let p : Program = input_of frames.now (starts_in state.now) count in
         Sound t × AimsIn p count before.now × AimsIn (program_of t) count after.now
-        × (length (targetLines (targetsTo p (program_of t) count)) ≤ length out.old) }
+        × (length (target_lines (targets_to p (program_of t) count)) ≤ length out.old) }
     ensures { let t : Slots = table_of frames.now state.now count in
-        let p : Program = input_of frames.now (startsIn state.now) count in
-        (out.new ≡ laid out.old 0 (targetLines (targetsTo p (program_of t) count)))
-        × (result ≡ marks (targetsTo p (program_of t) count)) }
+        let p : Program = input_of frames.now (starts_in state.now) count in
+        (out.new ≡ laid out.old 0 (target_lines (targets_to p (program_of t) count)))
+        × (result ≡ marks (targets_to p (program_of t) count)) }
 {
     let mut n = 0;
     let mut marked = 0;

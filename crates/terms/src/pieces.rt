@@ -2,7 +2,7 @@
 ghost use Rattle.std.specs.Prelude.{◌≡◌, [], ◌∷◌, cond, ℕ, ◌+◌, ◌≤◌, ◌<◌, length};
 ghost use Rattle.std.specs.Int.{w32};
 ghost use Rattle.std.proofs.Common.{to_z};
-ghost use Rattle.text.specs.Text.{five, nameText, number};
+ghost use Rattle.text.specs.Text.{five, name_text, number};
 ghost use Rattle.terms.specs.Writing.{Wrote, Digited};
 
 pub fn put(out: &mut [u8; 1024], at: usize, c: u8) -> usize
@@ -59,7 +59,7 @@ fn five(out: &mut [u8; 1024], at: usize, n: usize) -> usize
 
 pub fn put_name(out: &mut [u8; 1024], at: usize, n: usize) -> usize
     requires { (length out.old ≡ 1024) × (at ≤ 1025) × (n < 65536) }
-    ensures { Wrote out.old out.new at (nameText n) result }
+    ensures { Wrote out.old out.new at (name_text n) result }
 {
     if n < 0x8000 {
         let a = put(out, at, 103);

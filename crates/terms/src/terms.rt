@@ -1,7 +1,7 @@
 // Expressions: the text of the tree whose bytes, in prefix order, a slice begins with.
 ghost use Rattle.std.specs.Prelude.{◌≡◌, ℕ, ◌+◌, ◌*◌, ◌≤◌, ◌<◌, length};
 ghost use Rattle.rules.specs.Expressions.{number_of, name_of};
-ghost use Rattle.text.specs.Text.{sign1, sign2, number, nameText};
+ghost use Rattle.text.specs.Text.{sign1, sign2, number, name_text};
 ghost use Rattle.terms.specs.Writing.{Wrote, Leafed, Told, before1, behind1};
 
 use crate::Went;
@@ -74,7 +74,7 @@ fn number_at(s: &[u8], out: &mut [u8; 1024], at: usize) -> Went
 fn name_at(s: &[u8], out: &mut [u8; 1024], at: usize) -> Went
     requires { (length out.old ≡ 1024) × (at ≤ 1025) }
     ensures { let t = s.now in
-        Leafed 3 (nameText (name_of t)) t out.old out.new at result.taken result.to }
+        Leafed 3 (name_text (name_of t)) t out.old out.new at result.taken result.to }
 {
     if s.len() < 3 {
         return Went { taken: 0, to: at };

@@ -3,8 +3,8 @@ use Rattle.std.specs.Prelude.{◌≡◌, true, false, List, ℕ, ◌≤◌, ◌<
 use Rattle.rules.specs.declared.Kind.{Kind}
 use Rattle.rules.specs.declared.Kind.TheVariants.{Reg}
 use Rattle.rules.specs.Expressions.{Expr, num, bytes_of}
-use Rattle.rules.specs.Forms.{operandsAt}
-use Rattle.rules.specs.Programs.{Placeℕ, Operand, register, value, Stmt, instr, label, variable, comment, org, bytes, words, pad, onInstr}
+use Rattle.rules.specs.Forms.{operands_at}
+use Rattle.rules.specs.Programs.{Placeℕ, Operand, register, value, Stmt, instr, label, variable, comment, org, bytes, words, pad, on_instr}
 use Rattle.expression.specs.Sound.{Sound, AreBytes}
 use Rattle.slots.specs.Slots.{is_reg}
 
@@ -29,15 +29,15 @@ pub record ItemsFit (es : List Expr) : Type 0 where
   pub each : (j : ℕ) → j < length es → ExprFits (get_or es j (num (pos 0)))
 
 pub data StmtFits : Stmt → Type 0 where
-  fitsInstr : (f : ℕ) (xs : List Operand) (c : Placeℕ) → f < 70 → OperandsFit (operandsAt f) xs → StmtFits (instr f xs c)
-  fitsLabel : (n : ℕ) → n < 65536 → StmtFits (label n)
-  fitsVariable : (n : ℕ) (e : Expr) → n < 0x8000 → ExprFits e → StmtFits (variable n e)
-  fitsComment : (x : List ℕ) → AreBytes x → StmtFits (comment x)
-  fitsOrg : (l : ℕ) → l < 65536 → StmtFits (org l)
-  fitsBytes : (es : List Expr) → ItemsFit es → StmtFits (bytes es)
-  fitsWords : (es : List Expr) → ItemsFit es → StmtFits (words es)
-  fitsPad : (add m : ℕ) → add < 256 → 1 ≤ m → m ≤ 256 → StmtFits (pad add m)
+  fits_instr : (f : ℕ) (xs : List Operand) (c : Placeℕ) → f < 70 → OperandsFit (operands_at f) xs → StmtFits (instr f xs c)
+  fits_label : (n : ℕ) → n < 65536 → StmtFits (label n)
+  fits_variable : (n : ℕ) (e : Expr) → n < 0x8000 → ExprFits e → StmtFits (variable n e)
+  fits_comment : (x : List ℕ) → AreBytes x → StmtFits (comment x)
+  fits_org : (l : ℕ) → l < 65536 → StmtFits (org l)
+  fits_bytes : (es : List Expr) → ItemsFit es → StmtFits (bytes es)
+  fits_words : (es : List Expr) → ItemsFit es → StmtFits (words es)
+  fits_pad : (add m : ℕ) → add < 256 → 1 ≤ m → m ≤ 256 → StmtFits (pad add m)
 
 -- an instruction read alone carries the target of its own place, i
 abbrev pub settle : (i : Placeℕ) → Stmt → Stmt
-settle i s = onInstr s (λ x. instr x.form x.args i) s
+settle i s = on_instr s (λ x. instr x.form x.args i) s

@@ -9,8 +9,8 @@ unfoldable pub said : List ℕ → List ℕ
 said s = up_to 32 s
 
 -- "`.org`, `.byte`, `.word`, `.align` and `.comment`", by the frame's kind
-unfoldable pub dotWord : (kind : ℕ) → List ℕ
-dotWord k =
+unfoldable pub dot_word : (kind : ℕ) → List ℕ
+dot_word k =
     cond (eqb k 4) (codes ".comment")
     (cond (eqb k 5) (codes ".org")
     (cond (eqb k 6) (codes ".byte")

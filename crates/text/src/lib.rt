@@ -1,7 +1,7 @@
 // The words of the listing for people (C-16) as fixed byte strings of eight, spaces behind: written by C-16, compared by C-19.
 ghost use Rattle.std.specs.Prelude.{◌≡◌, ◌≤◌, ◌<◌, length};
-ghost use Rattle.text.specs.Text.{mnemonic as mnemonicOf};
-ghost use Rattle.text.specs.Words.{said, dotWord};
+ghost use Rattle.text.specs.Text.{mnemonic as mnemonic_of};
+ghost use Rattle.text.specs.Words.{said, dot_word};
 
 const MNEMONICS: [[u8; 8]; 70] = [
     *b"add     ", // Add_i8
@@ -88,7 +88,7 @@ const DOT_WORDS: [[u8; 8]; 5] = [
 // The mnemonic of a form, without its suffix.
 pub fn mnemonic(form: u8) -> [u8; 8]
     requires { form < 70 }
-    ensures { (said result ≡ mnemonicOf form) × (length result ≡ 8) }
+    ensures { (said result ≡ mnemonic_of form) × (length result ≡ 8) }
 {
     MNEMONICS[form as usize]
 }
@@ -96,7 +96,7 @@ pub fn mnemonic(form: u8) -> [u8; 8]
 // The word that opens a frame's line by its kind.
 pub fn dot_word(kind: u8) -> [u8; 8]
     requires { (4 ≤ kind) × (kind ≤ 8) }
-    ensures { (said result ≡ dotWord kind) × (length result ≡ 8) }
+    ensures { (said result ≡ dot_word kind) × (length result ≡ 8) }
 {
     DOT_WORDS[kind as usize - 4]
 }

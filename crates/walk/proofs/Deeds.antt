@@ -9,95 +9,95 @@ use lib.Dec.{ltb, eqb}
 use lib.ListN.{length, get_or}
 use borrow.Author.Tests.{eq-eqb, ne_eqb, lt-ltb, le-ltb}
 use Rattle.laws.specs.Counts.{scan, tab}
-use Rattle.laws.proofs.Tests.{false-true, true-false, lt-or-le}
-use Rattle.laws.proofs.Counts.{scan-bound, scan-true, scan-least, getD-tab, length-tab}
-use Rattle.laws.proofs.Stores.{get-out}
+use Rattle.laws.proofs.Tests.{false_true, true_false, lt_or_le}
+use Rattle.laws.proofs.Counts.{scan_bound, scan_true, scan_least, get_or_tab, length_tab}
+use Rattle.laws.proofs.Stores.{get_out}
 
-module _ {D : Type 0} (pass : D) (isPass : D → Bool) where
+module _ {D : Type 0} (pass : D) (is_pass : D → Bool) where
   -- the first deed from place a on
   unfoldable pub ahead : List D → (a : ℕ) → ℕ
-  ahead m a = scan (λ j. not (isPass (get_or m j pass))) (length m - a) a
+  ahead m a = scan (λ j. not (is_pass (get_or m j pass))) (length m - a) a
 
   -- what is ahead of place a: a deed at place b and none before it, or none at all
   pub data Head (m : List D) (a : ℕ) : Type 0 where
-    found : (b : ℕ) → a ≤ b → ((n : ℕ) → a ≤ n → n < b → get_or m n pass ≡ pass) → isPass (get_or m b pass) ≡ false → Head m a
+    found : (b : ℕ) → a ≤ b → ((n : ℕ) → a ≤ n → n < b → get_or m n pass ≡ pass) → is_pass (get_or m b pass) ≡ false → Head m a
     nothing : ((n : ℕ) → a ≤ n → get_or m n pass ≡ pass) → Head m a
 
-  module _ (pass-is : (x : D) → isPass x ≡ true → x ≡ pass) (passes : isPass pass ≡ true) (m : List D) (a : ℕ) where
+  module _ (pass_is : (x : D) → is_pass x ≡ true → x ≡ pass) (passes : is_pass pass ≡ true) (m : List D) (a : ℕ) where
     before : (n : ℕ) → a ≤ n → n < ahead m a → get_or m n pass ≡ pass
     unfolding ahead
-    before n l u = pass-is (get_or m n pass) (flip (isPass (get_or m n pass)) (scan-least (λ j. not (isPass (get_or m j pass))) (length m - a) a n l u))
+    before n l u = pass_is (get_or m n pass) (flip (is_pass (get_or m n pass)) (scan_least (λ j. not (is_pass (get_or m j pass))) (length m - a) a n l u))
       where
         flip : (b : Bool) → not b ≡ false → b ≡ true
         flip true e = refl
-        flip false e = true-false e
+        flip false e = true_false e
 
-    inside : ahead m a < length m → isPass (get_or m (ahead m a) pass) ≡ false
+    inside : ahead m a < length m → is_pass (get_or m (ahead m a) pass) ≡ false
     unfolding ahead
     inside h =
-        flip (isPass (get_or m (ahead m a) pass)) (scan-true (λ j. not (isPass (get_or m j pass))) (length m - a) a (omega (arith, scan-bound (λ j. not (isPass (get_or m j pass))) (length m - a) a)))
+        flip (is_pass (get_or m (ahead m a) pass)) (scan_true (λ j. not (is_pass (get_or m j pass))) (length m - a) a (omega (arith, scan_bound (λ j. not (is_pass (get_or m j pass))) (length m - a) a)))
       where
         flip : (b : Bool) → not b ≡ true → b ≡ false
-        flip true e = false-true e
+        flip true e = false_true e
         flip false e = refl
 
     pub from : a ≤ ahead m a
     unfolding ahead
-    from = (scan-bound (λ j. not (isPass (get_or m j pass))) (length m - a) a).0
+    from = (scan_bound (λ j. not (is_pass (get_or m j pass))) (length m - a) a).0
 
     pub head : Head m a
-    head = split (isPass (get_or m (ahead m a) pass)) refl
+    head = split (is_pass (get_or m (ahead m a) pass)) refl
       where
-        split : (b : Bool) → isPass (get_or m (ahead m a) pass) ≡ b → Head m a
+        split : (b : Bool) → is_pass (get_or m (ahead m a) pass) ≡ b → Head m a
         split false e = found (ahead m a) from before e
         split true e =
-            nothing (λ n l. ⊎_elim (λ h. before n l h) (λ h. ⊎_elim (λ k. true-false (sym e ∙ inside k)) (λ k. get-out m n pass (omega arith)) (lt-or-le (ahead m a) (length m))) (lt-or-le n (ahead m a)))
+            nothing (λ n l. ⊎_elim (λ h. before n l h) (λ h. ⊎_elim (λ k. true_false (sym e ∙ inside k)) (λ k. get_out m n pass (omega arith)) (lt_or_le (ahead m a) (length m))) (lt_or_le n (ahead m a)))
 
     -- a deed that is there is inside
-    there : (b : ℕ) → isPass (get_or m b pass) ≡ false → b < length m
-    there b e = ⊎_elim (λ h. h) (λ h. true-false (sym (ap isPass (get-out m b pass h) ∙ passes) ∙ e)) (lt-or-le b (length m))
+    there : (b : ℕ) → is_pass (get_or m b pass) ≡ false → b < length m
+    there b e = ⊎_elim (λ h. h) (λ h. true_false (sym (ap is_pass (get_out m b pass h) ∙ passes) ∙ e)) (lt_or_le b (length m))
 
-    pub ahead-is : (b : ℕ) → a ≤ b → ((n : ℕ) → a ≤ n → n < b → get_or m n pass ≡ pass) → isPass (get_or m b pass) ≡ false → ahead m a ≡ b
-    ahead-is b l h e =
-        ⊎_elim (λ k. true-false (sym (ap isPass (h (ahead m a) from k) ∙ passes) ∙ inside (omega (arith, there b e))))
-        (λ k. ⊎_elim (λ z. true-false (sym (ap isPass (before b l z) ∙ passes) ∙ e)) (λ z. omega arith) (lt-or-le b (ahead m a))) (lt-or-le (ahead m a) b)
+    pub ahead_is : (b : ℕ) → a ≤ b → ((n : ℕ) → a ≤ n → n < b → get_or m n pass ≡ pass) → is_pass (get_or m b pass) ≡ false → ahead m a ≡ b
+    ahead_is b l h e =
+        ⊎_elim (λ k. true_false (sym (ap is_pass (h (ahead m a) from k) ∙ passes) ∙ inside (omega (arith, there b e))))
+        (λ k. ⊎_elim (λ z. true_false (sym (ap is_pass (before b l z) ∙ passes) ∙ e)) (λ z. omega arith) (lt_or_le b (ahead m a))) (lt_or_le (ahead m a) b)
 
 -- ---- a fold: another deed at i, and nothing between it and v
 module _ {D : Type 0} (pass : D) where
   abbrev pub folds : List D → (i v : ℕ) → D → ℕ → D
   folds m i v x n = cond (eqb n i) x (cond (ltb i n && ltb n v) pass (get_or m n pass))
 
-  unfoldable pub foldedOf : List D → (i v : ℕ) → D → List D
-  foldedOf m i v x = tab (folds m i v x) (length m)
+  unfoldable pub folded_of : List D → (i v : ℕ) → D → List D
+  folded_of m i v x = tab (folds m i v x) (length m)
 
-  module _ (m : List D) (i v : ℕ) (x : D) (in-m : i < length m) where
-    folded-at : (n : ℕ) → get_or (foldedOf m i v x) n pass ≡ folds m i v x n
-    unfolding foldedOf
-    folded-at n = ⊎_elim (λ h. getD-tab (folds m i v x) (length m) n pass h) outside (lt-or-le n (length m))
+  module _ (m : List D) (i v : ℕ) (x : D) (in_m : i < length m) where
+    folded_at : (n : ℕ) → get_or (folded_of m i v x) n pass ≡ folds m i v x n
+    unfolding folded_of
+    folded_at n = ⊎_elim (λ h. get_or_tab (folds m i v x) (length m) n pass h) outside (lt_or_le n (length m))
       where
         empty : (b : Bool) → pass ≡ cond b pass pass
         empty true = refl
         empty false = refl
 
-        outside : length m ≤ n → get_or (foldedOf m i v x) n pass ≡ folds m i v x n
+        outside : length m ≤ n → get_or (folded_of m i v x) n pass ≡ folds m i v x n
         outside h =
-            get-out (tab (folds m i v x) (length m)) n pass (omega (arith, length-tab (folds m i v x) (length m)))
-            ∙ rw (ne_eqb n i (λ e. omega arith), get-out m n pass h) (empty (ltb i n && ltb n v))
+            get_out (tab (folds m i v x) (length m)) n pass (omega (arith, length_tab (folds m i v x) (length m)))
+            ∙ rw (ne_eqb n i (λ e. omega arith), get_out m n pass h) (empty (ltb i n && ltb n v))
 
-    pub folded-here : get_or (foldedOf m i v x) i pass ≡ x
-    folded-here = folded-at i ∙ rw (eq-eqb i i refl)
+    pub folded_here : get_or (folded_of m i v x) i pass ≡ x
+    folded_here = folded_at i ∙ rw (eq-eqb i i refl)
 
-    pub folded-hollow : (n : ℕ) → i < n → n < v → get_or (foldedOf m i v x) n pass ≡ pass
-    folded-hollow n a b = folded-at n ∙ rw (ne_eqb n i (λ e. omega arith), lt-ltb i n a, lt-ltb n v b)
+    pub folded_hollow : (n : ℕ) → i < n → n < v → get_or (folded_of m i v x) n pass ≡ pass
+    folded_hollow n a b = folded_at n ∙ rw (ne_eqb n i (λ e. omega arith), lt-ltb i n a, lt-ltb n v b)
 
-    pub folded-away : (n : ℕ) → n ≢ i → (n ≤ i) ⊎ (v ≤ n) → get_or (foldedOf m i v x) n pass ≡ get_or m n pass
-    folded-away n ne (inl h) = folded-at n ∙ rw (ne_eqb n i ne, le-ltb i n h)
-    folded-away n ne (inr h) = folded-at n ∙ rw (ne_eqb n i ne, le-ltb n v h) (last (ltb i n))
+    pub folded_away : (n : ℕ) → n ≢ i → (n ≤ i) ⊎ (v ≤ n) → get_or (folded_of m i v x) n pass ≡ get_or m n pass
+    folded_away n ne (inl h) = folded_at n ∙ rw (ne_eqb n i ne, le-ltb i n h)
+    folded_away n ne (inr h) = folded_at n ∙ rw (ne_eqb n i ne, le-ltb n v h) (last (ltb i n))
       where
         last : (b : Bool) → cond (b && false) pass (get_or m n pass) ≡ get_or m n pass
         last true = refl
         last false = refl
 
-  pub folded-length : (m : List D) (i v : ℕ) (x : D) → length (foldedOf m i v x) ≡ length m
-  unfolding foldedOf
-  folded-length m i v x = length-tab (folds m i v x) (length m)
+  pub folded_length : (m : List D) (i v : ℕ) (x : D) → length (folded_of m i v x) ≡ length m
+  unfolding folded_of
+  folded_length m i v x = length_tab (folds m i v x) (length m)

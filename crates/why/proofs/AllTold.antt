@@ -15,36 +15,36 @@ use Rattle.rules.specs.declared.Refusal.{Refusal}
 use Rattle.rules.specs.declared.Refusal.TheVariants.{Room}
 use Rattle.rules.specs.Answers.{Judged, ok, no, require}
 use Rattle.rules.specs.Programs.{Program}
-use Rattle.rules.specs.Rewriting.{anchor, step, optimized, instrBytes}
-use Rattle.rules.specs.Run.{Output, outputOf, rewritten, run}
-use Rattle.promises.proofs.Accepted.{accepted-iff}
-use Rattle.promises.proofs.Anchors.{instrBytes-anchor, length-anchor}
-use Rattle.promises.proofs.Chains.{chain-ends, chain-keeps}
-use Rattle.promises.proofs.Listings.{read-limits}
-use Rattle.promises.proofs.Weights.{step-length}
+use Rattle.rules.specs.Rewriting.{anchor, step, optimized, instr_bytes}
+use Rattle.rules.specs.Run.{Output, output_of, rewritten, run}
+use Rattle.promises.proofs.Accepted.{accepted_iff}
+use Rattle.promises.proofs.Anchors.{instr_bytes_anchor, length_anchor}
+use Rattle.promises.proofs.Chains.{chain_ends, chain_keeps}
+use Rattle.promises.proofs.Listings.{read_limits}
+use Rattle.promises.proofs.Weights.{step_length}
 use Rattle.starting.specs.Begun.{accepted}
-use Rattle.starting.proofs.Accepts.{accepted-of, accepted-input, accepted-run, accepted-never-12}
+use Rattle.starting.proofs.Accepts.{accepted_of, accepted_input, accepted_run, accepted_never_12}
 use Rattle.staying.specs.Reasons.{Why, whys}
-use Rattle.staying.specs.Lines.{whyLines}
-use Rattle.staying.specs.Promise.{isReason, allStay}
+use Rattle.staying.specs.Lines.{why_lines}
+use Rattle.staying.specs.Promise.{is_reason, all_stay}
 use Rattle.staying.proofs.Complete.{complete}
 use Rattle.staying.proofs.Listed.{listed}
 use Rattle.staying.proofs.Exactly.{exactly}
 use Rattle.staying.proofs.Few.{few}
-use Rattle.why.specs.Entry.{Told, endTold, chainTold, toldIn, told}
+use Rattle.why.specs.Entry.{Told, end_told, chain_told, told_in, told}
 use Rattle.why.specs.Promise.{AllTold, AsRun}
-use Rattle.why.proofs.Walks.{length-lines}
-use Rattle.why.proofs.Told.{told-no, told-ok}
+use Rattle.why.proofs.Walks.{length_lines}
+use Rattle.why.proofs.Told.{told_no, told_ok}
 
 -- the end form has a slot for each statement
-end-length : (asked : Settings) (p : Program) → length (optimized asked p).program ≡ length p
+end_length : (asked : Settings) (p : Program) → length (optimized asked p).program ≡ length p
 unfolding optimized
-end-length asked p = chain-keeps asked (λ q. length q ≡ length p) (λ r t st h. step-length r t st ∙ h) (total instrBytes p) (anchor p) (length-anchor p)
+end_length asked p = chain_keeps asked (λ q. length q ≡ length p) (λ r t st h. step_length r t st ∙ h) (total instr_bytes p) (anchor p) (length_anchor p)
 
 -- what fits in the room is what was to be told
-fitted : (n : ℕ) (x : Told) (room : ℕ) (y : Told) → toldIn n x room ≡ ok y → y ≡ x
-unfolding toldIn require
-fitted n x room y e = on (leb (length (whyLines x.whys)) room) e
+fitted : (n : ℕ) (x : Told) (room : ℕ) (y : Told) → told_in n x room ≡ ok y → y ≡ x
+unfolding told_in require
+fitted n x room y e = on (leb (length (why_lines x.whys)) room) e
   where
     on : (b : Bool) → require b (Room n) (ok x) ≡ ok y → y ≡ x
     on true h = cc
@@ -52,70 +52,70 @@ fitted n x room y e = on (leb (length (whyLines x.whys)) room) e
 
 module _ (asked : Settings) (text : List ℕ) (room : ℕ) where
   -- a listing whose reasons are told is accepted, and they are its end form's
-  told_of : (x : Told) → told asked text room ≡ ok x → (p : Program) × (accepted text ≡ ok p) × (x ≡ chainTold asked (optimized asked p))
+  told_of : (x : Told) → told asked text room ≡ ok x → (p : Program) × (accepted text ≡ ok p) × (x ≡ chain_told asked (optimized asked p))
   told_of x e = on (accepted text) refl
     where
-      on : (y : Judged Program) → accepted text ≡ y → (p : Program) × (accepted text ≡ ok p) × (x ≡ chainTold asked (optimized asked p))
-      on (ok p) d = (p, d, fitted (length p) (chainTold asked (optimized asked p)) room x (sym (told-ok asked text room p d) ∙ e))
-      on (no r) d = let z : ok x ≡ no r = sym e ∙ told-no asked text room r d in clash (cc)
+      on : (y : Judged Program) → accepted text ≡ y → (p : Program) × (accepted text ≡ ok p) × (x ≡ chain_told asked (optimized asked p))
+      on (ok p) d = (p, d, fitted (length p) (chain_told asked (optimized asked p)) room x (sym (told_ok asked text room p d) ∙ e))
+      on (no r) d = let z : ok x ≡ no r = sym e ∙ told_no asked text room r d in clash (cc)
 
   -- no rewrite remains of the end form
   ends : (p : Program) → step asked (optimized asked p).program ≡ none
   unfolding optimized
-  ends p = (chain-ends asked (total instrBytes p) (anchor p) (omega (arith, instrBytes-anchor p))).0
+  ends p = (chain_ends asked (total instr_bytes p) (anchor p) (omega (arith, instr_bytes_anchor p))).0
 
   -- all_told: each line has a reason, and whatever the next rewrite could be, a line tells of it
   pub all_told : (x : Told) → told asked text room ≡ ok x → AllTold asked text x
-  unfolding endTold allStay
+  unfolding end_told all_stay
   all_told x e =
       let o = told_of x e in
       let end = (optimized asked o.0).program in
-      let at-end : x.whys ≡ whys asked end = ap (λ (y : Told). y.whys) o.2 in
+      let at_end : x.whys ≡ whys asked end = ap (λ (y : Told). y.whys) o.2 in
       record {
         program = o.0;
-        accepted-as = o.1;
-        at-end = at-end;
+        accepted_as = o.1;
+        at_end = at_end;
         ended = ends o.0;
-        reasoned = ap (every (λ (w : Why). isReason w.reason)) at-end ∙ (complete asked end).reasoned (ends o.0);
+        reasoned = ap (every (λ (w : Why). is_reason w.reason)) at_end ∙ (complete asked end).reasoned (ends o.0);
         complete = complete asked end;
         listed = listed asked end;
         exactly = exactly asked end;
       }
 
   -- two lines for each of 1,024 statements
-  short : (p : Program) → accepted text ≡ ok p → length (whyLines (whys asked (optimized asked p).program)) ≤ 55296
+  short : (p : Program) → accepted text ≡ ok p → length (why_lines (whys asked (optimized asked p).program)) ≤ 55296
   short p d =
-      let i = accepted-input text p d in
+      let i = accepted_input text p d in
       let end = (optimized asked p).program in
-      omega (arith, length-lines (whys asked end), few asked end, end-length asked p, (read-limits i.text p i.reads).0)
+      omega (arith, length_lines (whys asked end), few asked end, end_length asked p, (read_limits i.text p i.reads).0)
 
   enough : (n : ℕ) → 55296 ≤ room → told asked text room ≡ no (Room n) → ⊥
-  unfolding toldIn endTold require
+  unfolding told_in end_told require
   enough n l e = on (accepted text) refl
     where
       on : (y : Judged Program) → accepted text ≡ y → ⊥
       on (ok p) d =
-          let x = chainTold asked (optimized asked p) in
-          let fits : leb (length (whyLines (whys asked (optimized asked p).program))) room ≡ true = le-leb _ room (omega (arith, l, short p d)) in
-          let z : no (Room n) ≡ ok x = sym e ∙ told-ok asked text room p d ∙ ap (λ (b : Bool). require b (Room (length p)) (ok x)) fits in
+          let x = chain_told asked (optimized asked p) in
+          let fits : leb (length (why_lines (whys asked (optimized asked p).program))) room ≡ true = le-leb _ room (omega (arith, l, short p d)) in
+          let z : no (Room n) ≡ ok x = sym e ∙ told_ok asked text room p d ∙ ap (λ (b : Bool). require b (Room (length p)) (ok x)) fits in
           clash (cc)
       on (no r) d =
-          let z : no r ≡ no (Room n) = sym (told-no asked text room r d) ∙ e in
+          let z : no r ≡ no (Room n) = sym (told_no asked text room r d) ∙ e in
           let y : r ≡ Room n = cc in
-          accepted-never-12 text asked n (d ∙ ap no y)
+          accepted_never_12 text asked n (d ∙ ap no y)
 
   -- as-run: refusals are the run's, and so is the count of rewrites
-  pub as-run : AsRun asked text room
-  unfolding endTold outputOf rewritten
-  as-run =
+  pub as_run : AsRun asked text room
+  unfolding end_told output_of rewritten
+  as_run =
       record {
-        refused = told-no asked text room;
-        as-run = λ r e a b. accepted-run text asked r a b e;
+        refused = told_no asked text room;
+        as_run = λ r e a b. accepted_run text asked r a b e;
         enough = enough;
         counted = λ x o a b e h.
             let t = told_of x e in
-            let i = (accepted-iff asked text a b o).0 h in
-            let same : ok t.0 ≡ ok i.program = sym t.1 ∙ accepted-of text i.program i.image i.keeps-rules i.assembles in
+            let i = (accepted_iff asked text a b o).0 h in
+            let same : ok t.0 ≡ ok i.program = sym t.1 ∙ accepted_of text i.program i.image i.keeps_rules i.assembles in
             let z : t.0 ≡ i.program = cc in
             ap (λ (y : Told). y.rewrites) t.2 ∙ ap (λ (p : Program). (optimized asked p).count) z ∙ sym (ap (λ (y : Output). y.count) i.result);
       }

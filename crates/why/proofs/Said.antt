@@ -7,94 +7,94 @@ use Prim.Native.Nat.{ℕ}
 use lib.Dec.{eqb}
 use lib.ListN.{set}
 use Rattle.laws.specs.Options.{bind, given}
-use Rattle.rules.specs.Programs.{Placeℕ, Stmt, instr, Program, at, Instruction, asInstr}
+use Rattle.rules.specs.Programs.{Placeℕ, Stmt, instr, Program, at, Instruction, as_instr}
 use Rattle.rules.specs.Names.{Entry}
-use Rattle.rules.specs.Rewriting.{isChangeJump, noInnerLabelBetween, noInteriorLabelAt, branch, Pattern}
+use Rattle.rules.specs.Rewriting.{is_change_jump, no_inner_label_between, no_interior_label_at, branch, Pattern}
 use Rattle.patterns.specs.Shapes.{Shape, shape_at}
 use Rattle.staying.specs.declared.Attempted.{Attempted}
 use Rattle.staying.specs.declared.Attempted.TheVariants.{Stays, Untried}
 use Rattle.staying.specs.declared.Reason.{Reason}
 use Rattle.staying.specs.declared.Reason.TheVariants.{Change, Inside, Between}
-use Rattle.staying.specs.Reasons.{reasonOf, foldReason, shrinkReason}
-use Rattle.why.specs.Tried.{attemptedAs, foldAt, shrinkAt}
+use Rattle.staying.specs.Reasons.{reason_of, fold_reason, shrink_reason}
+use Rattle.why.specs.Tried.{attempted_as, fold_at, shrink_at}
 
 -- ---- folds
 module _ (p : Program) (i : Placeℕ) (s : Shape) where
-  barred : noInnerLabelBetween p i s.last ≡ false → foldReason p i s ≡ Between
-  unfolding foldReason
+  barred : no_inner_label_between p i s.last ≡ false → fold_reason p i s ≡ Between
+  unfolding fold_reason
   barred h = rw h
 
-  inside : noInnerLabelBetween p i s.last ≡ true → noInteriorLabelAt p i ≡ false → foldReason p i s ≡ Inside
-  unfolding foldReason
+  inside : no_inner_label_between p i s.last ≡ true → no_interior_label_at p i ≡ false → fold_reason p i s ≡ Inside
+  unfolding fold_reason
   inside h k = rw (h, k)
 
-  free : noInnerLabelBetween p i s.last ≡ true → noInteriorLabelAt p i ≡ true → foldReason p i s ≡ reasonOf s.folded
-  unfolding foldReason
+  free : no_inner_label_between p i s.last ≡ true → no_interior_label_at p i ≡ true → fold_reason p i s ≡ reason_of s.folded
+  unfolding fold_reason
   free h k = rw (h, k)
 
 module _ (p : Program) (x : Pattern) (i : Placeℕ) where
-  pub fold-untried : shape_at p x i ≡ none → Untried ≡ attemptedAs (foldAt p x i)
+  pub fold_untried : shape_at p x i ≡ none → Untried ≡ attempted_as (fold_at p x i)
   unfolding bind
-  fold-untried e = sym (ap (λ (o : Option Shape). attemptedAs (bind o (λ s. some (foldReason p i s)))) e)
+  fold_untried e = sym (ap (λ (o : Option Shape). attempted_as (bind o (λ s. some (fold_reason p i s)))) e)
 
   module _ (s : Shape) (e : shape_at p x i ≡ some s) where
-    stands : Stays (foldReason p i s) ≡ attemptedAs (foldAt p x i)
+    stands : Stays (fold_reason p i s) ≡ attempted_as (fold_at p x i)
     unfolding bind
-    stands = sym (ap (λ (o : Option Shape). attemptedAs (bind o (λ s. some (foldReason p i s)))) e)
+    stands = sym (ap (λ (o : Option Shape). attempted_as (bind o (λ s. some (fold_reason p i s)))) e)
 
-    pub fold-between : noInnerLabelBetween p i s.last ≡ false → Stays Between ≡ attemptedAs (foldAt p x i)
-    fold-between h = ap (λ (r : Reason). Stays r) (sym (barred p i s h)) ∙ stands
+    pub fold_between : no_inner_label_between p i s.last ≡ false → Stays Between ≡ attempted_as (fold_at p x i)
+    fold_between h = ap (λ (r : Reason). Stays r) (sym (barred p i s h)) ∙ stands
 
-    pub fold-inside : noInnerLabelBetween p i s.last ≡ true → noInteriorLabelAt p i ≡ false → Stays Inside ≡ attemptedAs (foldAt p x i)
-    fold-inside h k = ap (λ (r : Reason). Stays r) (sym (inside p i s h k)) ∙ stands
+    pub fold_inside : no_inner_label_between p i s.last ≡ true → no_interior_label_at p i ≡ false → Stays Inside ≡ attempted_as (fold_at p x i)
+    fold_inside h k = ap (λ (r : Reason). Stays r) (sym (inside p i s h k)) ∙ stands
 
-    pub fold-said : noInnerLabelBetween p i s.last ≡ true → noInteriorLabelAt p i ≡ true → (r : Reason) → r ≡ reasonOf s.folded → Stays r ≡ attemptedAs (foldAt p x i)
-    fold-said h k r f = ap (λ (r : Reason). Stays r) (f ∙ sym (free p i s h k)) ∙ stands
+    pub fold_said : no_inner_label_between p i s.last ≡ true → no_interior_label_at p i ≡ true → (r : Reason) → r ≡ reason_of s.folded → Stays r ≡ attempted_as (fold_at p x i)
+    fold_said h k r f = ap (λ (r : Reason). Stays r) (f ∙ sym (free p i s h k)) ∙ stands
 
 -- ---- shorter forms
 module _ (names : List Entry) (p : Program) (f long : ℕ) (i : Placeℕ) where
-  pub form-untried : branch long (at p i) ≡ none → Untried ≡ attemptedAs (shrinkAt names p f long i)
+  pub form_untried : branch long (at p i) ≡ none → Untried ≡ attempted_as (shrink_at names p f long i)
   unfolding bind
-  form-untried e = sym (ap (λ (o : Option Instruction). attemptedAs (bind o (λ x. some (shrinkReason names p i f x)))) e)
+  form_untried e = sym (ap (λ (o : Option Instruction). attempted_as (bind o (λ x. some (shrink_reason names p i f x)))) e)
 
   module _ (x : Instruction) (e : branch long (at p i) ≡ some x) where
-    long-stands : Stays (shrinkReason names p i f x) ≡ attemptedAs (shrinkAt names p f long i)
+    long_stands : Stays (shrink_reason names p i f x) ≡ attempted_as (shrink_at names p f long i)
     unfolding bind
-    long-stands = sym (ap (λ (o : Option Instruction). attemptedAs (bind o (λ x. some (shrinkReason names p i f x)))) e)
+    long_stands = sym (ap (λ (o : Option Instruction). attempted_as (bind o (λ x. some (shrink_reason names p i f x)))) e)
 
-    changes : isChangeJump names p i ≡ true → shrinkReason names p i f x ≡ Change
-    unfolding shrinkReason
+    changes : is_change_jump names p i ≡ true → shrink_reason names p i f x ≡ Change
+    unfolding shrink_reason
     changes h = rw h
 
-    within : isChangeJump names p i ≡ false → noInteriorLabelAt p i ≡ false → shrinkReason names p i f x ≡ Inside
-    unfolding shrinkReason
+    within : is_change_jump names p i ≡ false → no_interior_label_at p i ≡ false → shrink_reason names p i f x ≡ Inside
+    unfolding shrink_reason
     within h k = rw (h, k)
 
-    formed : isChangeJump names p i ≡ false → noInteriorLabelAt p i ≡ true → shrinkReason names p i f x ≡ reasonOf (set p i (instr f x.args x.carried))
-    unfolding shrinkReason
+    formed : is_change_jump names p i ≡ false → no_interior_label_at p i ≡ true → shrink_reason names p i f x ≡ reason_of (set p i (instr f x.args x.carried))
+    unfolding shrink_reason
     formed h k = rw (h, k)
 
-    pub form-change : isChangeJump names p i ≡ true → Stays Change ≡ attemptedAs (shrinkAt names p f long i)
-    form-change h = ap (λ (r : Reason). Stays r) (sym (changes h)) ∙ long-stands
+    pub form_change : is_change_jump names p i ≡ true → Stays Change ≡ attempted_as (shrink_at names p f long i)
+    form_change h = ap (λ (r : Reason). Stays r) (sym (changes h)) ∙ long_stands
 
-    pub form-inside : isChangeJump names p i ≡ false → noInteriorLabelAt p i ≡ false → Stays Inside ≡ attemptedAs (shrinkAt names p f long i)
-    form-inside h k = ap (λ (r : Reason). Stays r) (sym (within h k)) ∙ long-stands
+    pub form_inside : is_change_jump names p i ≡ false → no_interior_label_at p i ≡ false → Stays Inside ≡ attempted_as (shrink_at names p f long i)
+    form_inside h k = ap (λ (r : Reason). Stays r) (sym (within h k)) ∙ long_stands
 
-    pub form-said : isChangeJump names p i ≡ false → noInteriorLabelAt p i ≡ true → (r : Reason) → r ≡ reasonOf (set p i (instr f x.args x.carried))
-        → Stays r ≡ attemptedAs (shrinkAt names p f long i)
-    form-said h k r g = ap (λ (r : Reason). Stays r) (g ∙ sym (formed h k)) ∙ long-stands
+    pub form_said : is_change_jump names p i ≡ false → no_interior_label_at p i ≡ true → (r : Reason) → r ≡ reason_of (set p i (instr f x.args x.carried))
+        → Stays r ≡ attempted_as (shrink_at names p f long i)
+    form_said h k r g = ap (λ (r : Reason). Stays r) (g ∙ sym (formed h k)) ∙ long_stands
 
 -- the form that is asked for is a branch's
-pub long-branch : (names : List Entry) (p : Program) (f long : ℕ) (i : Placeℕ)
-    → bind (asInstr (at p i)) (λ x. given (eqb x.form long) (some (shrinkReason names p i f x))) ≡ shrinkAt names p f long i
+pub long_branch : (names : List Entry) (p : Program) (f long : ℕ) (i : Placeℕ)
+    → bind (as_instr (at p i)) (λ x. given (eqb x.form long) (some (shrink_reason names p i f x))) ≡ shrink_at names p f long i
 unfolding branch bind given
-long-branch names p f long i = on (asInstr (at p i))
+long_branch names p f long i = on (as_instr (at p i))
   where
-    is : (b : Bool) (x : Instruction) → given b (some (shrinkReason names p i f x)) ≡ bind (given b (some x)) (λ y. some (shrinkReason names p i f y))
+    is : (b : Bool) (x : Instruction) → given b (some (shrink_reason names p i f x)) ≡ bind (given b (some x)) (λ y. some (shrink_reason names p i f y))
     is true x = refl
     is false x = refl
 
-    on : (o : Option Instruction) → bind o (λ x. given (eqb x.form long) (some (shrinkReason names p i f x)))
-        ≡ bind (bind o (λ x. given (eqb x.form long) (some x))) (λ y. some (shrinkReason names p i f y))
+    on : (o : Option Instruction) → bind o (λ x. given (eqb x.form long) (some (shrink_reason names p i f x)))
+        ≡ bind (bind o (λ x. given (eqb x.form long) (some x))) (λ y. some (shrink_reason names p i f y))
     on none = refl
     on (some x) = is (eqb x.form long) x

@@ -7,48 +7,48 @@ use Rattle.rules.specs.declared.Settings.{Settings}
 use Rattle.rules.specs.declared.Refusal.TheVariants.{Room}
 use Rattle.rules.specs.Answers.{Judged, ok, no, ◌>>=◌, require}
 use Rattle.rules.specs.Programs.{Program}
-use Rattle.rules.specs.Rewriting.{Chain, chain, optimized, instrBytes}
+use Rattle.rules.specs.Rewriting.{Chain, chain, optimized, instr_bytes}
 use Rattle.rules.specs.Run.{front}
 use Rattle.starting.specs.Begun.{accepted}
 use Rattle.staying.specs.Reasons.{Why, whys}
-use Rattle.staying.specs.Lines.{whyLines}
+use Rattle.staying.specs.Lines.{why_lines}
 
 -- what stands in the way at an end form, and how many rewrites led to it
 pub record Told : Type 0 where
   pub whys : List Why
   pub rewrites : ℕ
 
-unfoldable pub endTold : Settings → (end : Program) (rewrites : ℕ) → Told
-endTold asked end n = record { whys = whys asked end; rewrites = n }
+unfoldable pub end_told : Settings → (end : Program) (rewrites : ℕ) → Told
+end_told asked end n = record { whys = whys asked end; rewrites = n }
 
-abbrev pub chainTold : Settings → Chain → Told
-chainTold asked c = endTold asked c.program c.count
+abbrev pub chain_told : Settings → Chain → Told
+chain_told asked c = end_told asked c.program c.count
 
 -- 12 where the room is too short for the lines, with the statement count
-unfoldable pub toldIn : (count : ℕ) → Told → (room : ℕ) → Judged Told
-toldIn count x room = require (leb (length (whyLines x.whys)) room) (Room count) (ok x)
+unfoldable pub told_in : (count : ℕ) → Told → (room : ℕ) → Judged Told
+told_in count x room = require (leb (length (why_lines x.whys)) room) (Room count) (ok x)
 
 -- "for each Jmpf and Callf that is left, and each branch that begins a pattern and was not folded": the end form's, or the listing's refusal
 unfoldable pub told : Settings → (text : List ℕ) (room : ℕ) → Judged Told
 told asked text room = do
   p ← accepted text
-  toldIn (length p) (chainTold asked (optimized asked p)) room
+  told_in (length p) (chain_told asked (optimized asked p)) room
 
-abbrev pub answerAs : Judged Told → Answer
-answerAs (ok x) = Done (record { listing = length (whyLines x.whys); rewrites = x.rewrites; image = 0 })
-answerAs (no r) = Refused r
+abbrev pub answer_as : Judged Told → Answer
+answer_as (ok x) = Done (record { listing = length (why_lines x.whys); rewrites = x.rewrites; image = 0 })
+answer_as (no r) = Refused r
 
 -- "No lent byte changes" on refusal; "On acceptance, room beyond the result is unchanged."
-abbrev pub roomAs : Judged Told → (room : List ℕ) → List ℕ
-roomAs (ok x) room = front (whyLines x.whys) room
-roomAs (no r) room = room
+abbrev pub room_as : Judged Told → (room : List ℕ) → List ℕ
+room_as (ok x) room = front (why_lines x.whys) room
+room_as (no r) room = room
 
 pub record Leaves (x : Judged Told) (r : Answer) (before after : List ℕ) : Type 0 where
-  pub answer : r ≡ answerAs x
-  pub room : after ≡ roomAs x before
+  pub answer : r ≡ answer_as x
+  pub room : after ≡ room_as x before
 
 -- ---- words of the code's contracts
 
 -- of an anchored program q
-unfoldable pub toldFrom : Settings → (q : Program) → Told
-toldFrom asked q = chainTold asked (chain asked (total instrBytes q) q)
+unfoldable pub told_from : Settings → (q : Program) → Told
+told_from asked q = chain_told asked (chain asked (total instr_bytes q) q)

@@ -9,28 +9,28 @@ use Rattle.patterns.specs.Shapes.{shape_at}
 use Rattle.staying.specs.declared.Attempted.{Attempted}
 use Rattle.staying.specs.declared.Attempted.TheVariants.{Stays, Untried}
 use Rattle.staying.specs.declared.Reason.{Reason}
-use Rattle.staying.specs.Reasons.{foldReason, shrinkReason, attemptAt, Why}
-use Rattle.staying.specs.Lines.{whyLine}
+use Rattle.staying.specs.Reasons.{fold_reason, shrink_reason, attempt_at, Why}
+use Rattle.staying.specs.Lines.{why_line}
 
-abbrev pub attemptedAs : Option Reason → Attempted
-attemptedAs none = Untried
-attemptedAs (some r) = Stays r
+abbrev pub attempted_as : Option Reason → Attempted
+attempted_as none = Untried
+attempted_as (some r) = Stays r
 
 -- a fold, and form f for one that is `long`
-abbrev pub foldAt : Program → Pattern → (i : Placeℕ) → Option Reason
-foldAt p x i = bind (shape_at p x i) (λ s. some (foldReason p i s))
+abbrev pub fold_at : Program → Pattern → (i : Placeℕ) → Option Reason
+fold_at p x i = bind (shape_at p x i) (λ s. some (fold_reason p i s))
 
-abbrev pub shrinkAt : (names : List Entry) → Program → (f long : ℕ) (i : Placeℕ) → Option Reason
-shrinkAt names p f long i = bind (branch long (at p i)) (λ x. some (shrinkReason names p i f x))
+abbrev pub shrink_at : (names : List Entry) → Program → (f long : ℕ) (i : Placeℕ) → Option Reason
+shrink_at names p f long i = bind (branch long (at p i)) (λ x. some (shrink_reason names p i f x))
 
 -- how many lines an attempt has, and which, of try m
-abbrev pub triedCount : Attempted → ℕ
-triedCount (Stays r) = 1
-triedCount Untried = 0
+abbrev pub tried_count : Attempted → ℕ
+tried_count (Stays r) = 1
+tried_count Untried = 0
 
-abbrev pub whyAt : (m : ℕ) → Reason → Why
-whyAt m r = record { attempt = attemptAt (m % 26); place = m / 26; reason = r }
+abbrev pub why_at : (m : ℕ) → Reason → Why
+why_at m r = record { attempt = attempt_at (m % 26); place = m / 26; reason = r }
 
-abbrev pub triedLines : (m : ℕ) → Attempted → List ℕ
-triedLines m (Stays r) = whyLine (whyAt m r)
-triedLines m Untried = []
+abbrev pub tried_lines : (m : ℕ) → Attempted → List ℕ
+tried_lines m (Stays r) = why_line (why_at m r)
+tried_lines m Untried = []

@@ -2,11 +2,11 @@
 ghost use Rattle.std.specs.Prelude.{◌≡◌, ◌<◌, get_or, set};
 ghost use Rattle.rules.specs.Programs.{kind_of, instr, args_of};
 ghost use Rattle.slots.specs.Slots.{Slots, slot_at, program_of, Agree};
-ghost use Rattle.slots.specs.State.{startsIn, formsIn, carryIn, table_of};
+ghost use Rattle.slots.specs.State.{starts_in, forms_in, carry_in, table_of};
 ghost use Rattle.slots.specs.Links.{Beside};
 ghost use Rattle.attempts.specs.Standing.{Standing};
 ghost use Rattle.attempts.specs.Folds.{inverted, bounced, Inverts, Bounces};
-ghost use Rattle.staying.specs.Reasons.{reasonOf};
+ghost use Rattle.staying.specs.Reasons.{reason_of};
 
 use asm::{Verdict, judge_linked};
 use attempts::{put_three, put_two};
@@ -18,9 +18,9 @@ use staying::Reason;
 // "A candidate counts only if every inner label's offset is below its owner's size and the whole assembles": the refusal comes first.
 fn reason_of(frames: &[u8], state: &State, count: usize, links: &[u16; 28672]) -> Reason
     requires { let t : Slots = table_of frames.now state.now count in
-        Standing t × Beside frames.now (startsIn state.now) count links.now }
+        Standing t × Beside frames.now (starts_in state.now) count links.now }
     ensures { let t : Slots = table_of frames.now state.now count in
-        result ≡ reasonOf (program_of t) }
+        result ≡ reason_of (program_of t) }
 {
     let mut positions = [0u32; 1025];
     let mut values = [0i64; 1024];
@@ -44,11 +44,11 @@ pub fn form_reason(
     at: Place,
 ) -> Reason
     requires { let t : Slots = table_of frames.now state.now count in
-        Standing t × (at.0 < count) × (kind_of (slot_at t at.0) ≡ 1) × Agree form (get_or (formsIn state.now) at.0 0)
-        × Beside frames.now (startsIn state.now) count links.now }
+        Standing t × (at.0 < count) × (kind_of (slot_at t at.0) ≡ 1) × Agree form (get_or (forms_in state.now) at.0 0)
+        × Beside frames.now (starts_in state.now) count links.now }
     ensures { let t : Slots = table_of frames.now state.now count in
-        let carried = get_or (carryIn state.now) at.0 0 in
-        result ≡ reasonOf (set (program_of t) at.0 (instr form (args_of (slot_at t at.0)) carried)) }
+        let carried = get_or (carry_in state.now) at.0 0 in
+        result ≡ reason_of (set (program_of t) at.0 (instr form (args_of (slot_at t at.0)) carried)) }
 {
     let mut tried = *state;
     put_form(&mut tried, at, form);
@@ -66,9 +66,9 @@ pub fn inverted_reason(
     jump: Place,
 ) -> Reason
     requires { let t : Slots = table_of frames.now state.now count in
-        Standing t × Inverts t to at.0 jump.0 × Beside frames.now (startsIn state.now) count links.now }
+        Standing t × Inverts t to at.0 jump.0 × Beside frames.now (starts_in state.now) count links.now }
     ensures { let t : Slots = table_of frames.now state.now count in
-        result ≡ reasonOf (inverted t to at.0 jump.0) }
+        result ≡ reason_of (inverted t to at.0 jump.0) }
 {
     let j = jump.0;
     let from = state[CARRY][j];
@@ -91,9 +91,9 @@ pub fn bounced_reason(
 ) -> Reason
     requires { let t : Slots = table_of frames.now state.now count in
         Standing t × Bounces t form at.0 skip.0 target.0 last.0
-        × Beside frames.now (startsIn state.now) count links.now }
+        × Beside frames.now (starts_in state.now) count links.now }
     ensures { let t : Slots = table_of frames.now state.now count in
-        result ≡ reasonOf (bounced t form at.0 skip.0 target.0 last.0) }
+        result ≡ reason_of (bounced t form at.0 skip.0 target.0 last.0) }
 {
     let c = last.0;
     let from = state[CARRY][c];

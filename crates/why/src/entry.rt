@@ -2,11 +2,11 @@
 ghost use Rattle.std.specs.Prelude.{◌≡◌, true, ◌≤◌, length};
 ghost use Rattle.rules.specs.Judging.{assembles};
 ghost use Rattle.slots.specs.Slots.{Slots, program_of};
-ghost use Rattle.slots.specs.State.{startsIn, table_of};
+ghost use Rattle.slots.specs.State.{starts_in, table_of};
 ghost use Rattle.slots.specs.Links.{Beside};
 ghost use Rattle.image.specs.Tables.{Tables, tables_of, Ready};
 ghost use Rattle.attempts.specs.Standing.{Standing};
-ghost use Rattle.why.specs.Entry.{told, toldIn, toldFrom, endTold, Leaves};
+ghost use Rattle.why.specs.Entry.{told, told_in, told_from, end_told, Leaves};
 
 use crate::telling::{count_whys, write_whys};
 use asm::lay_and_define;
@@ -28,9 +28,9 @@ fn tell(
     out: &mut [u8],
 ) -> Answer
     requires { let d : Tables = tables_of frames.now state.now count links.now values.now positions.now in
-        Standing d.slots × Ready d × Beside frames.now (startsIn state.now) count links.now }
+        Standing d.slots × Ready d × Beside frames.now (starts_in state.now) count links.now }
     ensures { let t : Slots = table_of frames.now state.now count in
-        let x = toldIn count (endTold asked (program_of t) rewrites) (length out.old) in
+        let x = told_in count (end_told asked (program_of t) rewrites) (length out.old) in
         Leaves x result out.old out.new }
 {
     let n = count_whys(asked, frames, state, count, links, values, positions);
@@ -56,9 +56,9 @@ fn tell_end(
     out: &mut [u8],
 ) -> Answer
     requires { let t : Slots = table_of frames.now state.now count in
-        Standing t × (assembles (program_of t) ≡ true) × Beside frames.now (startsIn state.now) count links.now }
+        Standing t × (assembles (program_of t) ≡ true) × Beside frames.now (starts_in state.now) count links.now }
     ensures { let t : Slots = table_of frames.now state.now count in
-        let x = toldIn count (endTold asked (program_of t) rewrites) (length out.old) in
+        let x = told_in count (end_told asked (program_of t) rewrites) (length out.old) in
         Leaves x result out.old out.new }
 {
     let mut positions = [0u32; 1025];
@@ -81,9 +81,9 @@ fn rewrite_and_tell(
     out: &mut [u8],
 ) -> Answer
     requires { let t : Slots = table_of frames.now state.old count in
-        Standing t × (assembles (program_of t) ≡ true) × Beside frames.now (startsIn state.old) count links.now }
+        Standing t × (assembles (program_of t) ≡ true) × Beside frames.now (starts_in state.old) count links.now }
     ensures { let t : Slots = table_of frames.now state.old count in
-        let x = toldIn count (toldFrom asked (program_of t)) (length out.old) in
+        let x = told_in count (told_from asked (program_of t)) (length out.old) in
         Leaves x result out.old out.new }
 {
     let rewrites = optimize(asked, frames, state, count, links);

@@ -3,9 +3,9 @@ ghost use Rattle.std.specs.Prelude.{◌≡◌, ◌+◌, ◌*◌, ◌/◌, ◌%�
 ghost use Rattle.rules.specs.Refusals.{of_none};
 ghost use Rattle.fault.specs.Faults.{IsFault};
 ghost use Rattle.digits.specs.Digits.{laid};
-ghost use Rattle.staying.specs.Reasons.{attemptAt};
-ghost use Rattle.staying.specs.Lines.{attemptByte, reasonByte, faultIn, whyLine};
-ghost use Rattle.why.specs.Tried.{triedCount, triedLines, whyAt};
+ghost use Rattle.staying.specs.Reasons.{attempt_at};
+ghost use Rattle.staying.specs.Lines.{attempt_byte, reason_byte, fault_in, why_line};
+ghost use Rattle.why.specs.Tried.{tried_count, tried_lines, why_at};
 
 use digits::put_line;
 use fault::{Fault, fault_of};
@@ -27,7 +27,7 @@ fn low_bits(x: u32) -> u8
 
 // A form's number; 80 and up a pattern by its place in rule 3's order.
 fn attempt_byte(k: usize) -> u8
-    ensures { result ≡ attemptByte (attemptAt k) }
+    ensures { result ≡ attempt_byte (attempt_at k) }
 {
     if k < 23 {
         return (128 + k) as u8;
@@ -42,7 +42,7 @@ fn attempt_byte(k: usize) -> u8
 }
 
 fn reason_byte(reason: Reason) -> u8
-    ensures { result ≡ reasonByte reason }
+    ensures { result ≡ reason_byte reason }
 {
     match reason {
         Reason::Counts => 0,
@@ -66,7 +66,7 @@ fn no_fault() -> Fault
 }
 
 fn fault_in(reason: Reason) -> Fault
-    ensures { IsFault result (faultIn reason) }
+    ensures { IsFault result (fault_in reason) }
 {
     match reason {
         Reason::Refused(r) => fault_of(r),
@@ -81,7 +81,7 @@ fn fault_in(reason: Reason) -> Fault
 // The line of try m: 27 characters, from `at` on.
 fn put_why(out: &mut [u8], at: usize, m: usize, reason: Reason)
     requires { (at + 27 ≤ length out.old) × (m / 26 < 65536) }
-    ensures { out.new ≡ laid out.old at (whyLine (whyAt m reason)) }
+    ensures { out.new ≡ laid out.old at (why_line (why_at m reason)) }
 {
     let i = m / 26;
     let f = fault_in(reason);
@@ -106,8 +106,8 @@ fn put_why(out: &mut [u8], at: usize, m: usize, reason: Reason)
 
 // The line of try m behind n others, if it has one; how many there are then.
 pub fn put_tried(out: &mut [u8], n: usize, m: usize, tried: Attempted) -> usize
-    requires { (27 * n + 27 * triedCount tried ≤ length out.old) × (m / 26 < 65536) × (n < 65536) }
-    ensures { (result ≡ n + triedCount tried) × (out.new ≡ laid out.old (27 * n) (triedLines m tried)) }
+    requires { (27 * n + 27 * tried_count tried ≤ length out.old) × (m / 26 < 65536) × (n < 65536) }
+    ensures { (result ≡ n + tried_count tried) × (out.new ≡ laid out.old (27 * n) (tried_lines m tried)) }
 {
     match tried {
         Attempted::Untried => n,

@@ -1,14 +1,14 @@
 // The tries of an end form in their order: how many have a reason, and a line for each.
 ghost use Rattle.std.specs.Prelude.{◌≡◌, ◌≤◌, length};
 ghost use Rattle.slots.specs.Slots.{Slots, program_of};
-ghost use Rattle.slots.specs.State.{startsIn, table_of};
+ghost use Rattle.slots.specs.State.{starts_in, table_of};
 ghost use Rattle.slots.specs.Links.{Beside};
 ghost use Rattle.image.specs.Tables.{Tables, tables_of, Ready};
 ghost use Rattle.attempts.specs.Standing.{Standing};
 ghost use Rattle.digits.specs.Digits.{laid};
 ghost use Rattle.staying.specs.Reasons.{whys};
-ghost use Rattle.staying.specs.Lines.{whyLines};
-ghost use Rattle.why.specs.Tried.{triedCount};
+ghost use Rattle.staying.specs.Lines.{why_lines};
+ghost use Rattle.why.specs.Tried.{tried_count};
 
 use crate::lines::put_tried;
 use crate::tries::attempted;
@@ -18,7 +18,7 @@ use staying::Attempted;
 
 // One line, or none.
 fn is_tried(tried: Attempted) -> usize
-    ensures { (result ≡ triedCount tried) × (result ≤ 1) }
+    ensures { (result ≡ tried_count tried) × (result ≤ 1) }
 {
     match tried {
         Attempted::Stays(_) => 1,
@@ -37,7 +37,7 @@ pub fn count_whys(
     positions: &[u32; 1025],
 ) -> usize
     requires { let d : Tables = tables_of frames.now state.now count links.now values.now positions.now in
-        Standing d.slots × Ready d × Beside frames.now (startsIn state.now) count links.now }
+        Standing d.slots × Ready d × Beside frames.now (starts_in state.now) count links.now }
     ensures { let t : Slots = table_of frames.now state.now count in
         result ≡ length (whys asked (program_of t)) }
 {
@@ -64,10 +64,10 @@ pub fn write_whys(
     out: &mut [u8],
 )
     requires { let d : Tables = tables_of frames.now state.now count links.now values.now positions.now in
-        Standing d.slots × Ready d × Beside frames.now (startsIn state.now) count links.now
-        × (length (whyLines (whys asked (program_of d.slots))) ≤ length out.old) }
+        Standing d.slots × Ready d × Beside frames.now (starts_in state.now) count links.now
+        × (length (why_lines (whys asked (program_of d.slots))) ≤ length out.old) }
     ensures { let t : Slots = table_of frames.now state.now count in
-        out.new ≡ laid out.old 0 (whyLines (whys asked (program_of t))) }
+        out.new ≡ laid out.old 0 (why_lines (whys asked (program_of t))) }
 {
     let tries = 26 * count;
     let mut n = 0;

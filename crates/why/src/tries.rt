@@ -1,16 +1,16 @@
 // An attempt at a place of an end form: whether it is tried there, and what stands in its way.
 ghost use Rattle.std.specs.Prelude.{◌≡◌, true, ◌*◌, ◌<◌, get_or};
-ghost use Rattle.rules.specs.Forms.{isTransfer};
+ghost use Rattle.rules.specs.Forms.{is_transfer};
 ghost use Rattle.rules.specs.Judging.{names_of};
 ghost use Rattle.rules.specs.Rewriting.{inverted, trampoline};
 ghost use Rattle.slots.specs.Slots.{Slots, program_of, Agree};
-ghost use Rattle.slots.specs.State.{startsIn, table_of};
+ghost use Rattle.slots.specs.State.{starts_in, table_of};
 ghost use Rattle.slots.specs.Links.{Beside};
 ghost use Rattle.image.specs.Tables.{Tables, tables_of, Ready};
-ghost use Rattle.patterns.specs.Order.{patternOf, Known};
+ghost use Rattle.patterns.specs.Order.{pattern_of, Known};
 ghost use Rattle.attempts.specs.Standing.{Standing};
-ghost use Rattle.staying.specs.Reasons.{reasonIn};
-ghost use Rattle.why.specs.Tried.{attemptedAs, foldAt, shrinkAt};
+ghost use Rattle.staying.specs.Reasons.{reason_in};
+ghost use Rattle.why.specs.Tried.{attempted_as, fold_at, shrink_at};
 
 use crate::candidates::{bounced_reason, form_reason, inverted_reason};
 use anchors::is_change_jump;
@@ -35,10 +35,10 @@ fn try_inverted(
     at: Place,
 ) -> Attempted
     requires { let t : Slots = table_of frames.now state.now count in
-        Standing t × (at.0 < count) × (isTransfer from ≡ true) × Agree to from
-        × Beside frames.now (startsIn state.now) count links.now }
+        Standing t × (at.0 < count) × (is_transfer from ≡ true) × Agree to from
+        × Beside frames.now (starts_in state.now) count links.now }
     ensures { let t : Slots = table_of frames.now state.now count in
-        result ≡ attemptedAs (foldAt (program_of t) (inverted from to) at.0) }
+        result ≡ attempted_as (fold_at (program_of t) (inverted from to) at.0) }
 {
     let Inverted::At(jump, m) = inverted_shape(frames, state, count, links, from, at) else {
         return Attempted::Untried;
@@ -62,9 +62,9 @@ fn try_trampoline(
     at: Place,
 ) -> Attempted
     requires { let t : Slots = table_of frames.now state.now count in
-        Standing t × (at.0 < count) × (isTransfer form ≡ true) × Beside frames.now (startsIn state.now) count links.now }
+        Standing t × (at.0 < count) × (is_transfer form ≡ true) × Beside frames.now (starts_in state.now) count links.now }
     ensures { let t : Slots = table_of frames.now state.now count in
-        result ≡ attemptedAs (foldAt (program_of t) (trampoline form) at.0) }
+        result ≡ attempted_as (fold_at (program_of t) (trampoline form) at.0) }
 {
     let Trampoline::At(skip, t, last, s) = trampoline_shape(frames, state, count, links, form, at)
     else {
@@ -89,9 +89,9 @@ fn try_fold(
     at: Place,
 ) -> Attempted
     requires { let t : Slots = table_of frames.now state.now count in
-        Standing t × Known (patternOf p) × (at.0 < count) × Beside frames.now (startsIn state.now) count links.now }
+        Standing t × Known (pattern_of p) × (at.0 < count) × Beside frames.now (starts_in state.now) count links.now }
     ensures { let t : Slots = table_of frames.now state.now count in
-        result ≡ attemptedAs (foldAt (program_of t) (patternOf p) at.0) }
+        result ≡ attempted_as (fold_at (program_of t) (pattern_of p) at.0) }
 {
     match p {
         Pattern::Inverted(from, to) => try_inverted(frames, state, count, links, from, to, at),
@@ -112,10 +112,10 @@ fn try_shorter(
     at: Place,
 ) -> Attempted
     requires { let d : Tables = tables_of frames.now state.now count links.now values.now positions.now in
-        Standing d.slots × Ready d × Beside frames.now (startsIn state.now) count links.now × (at.0 < count)
-        × (isTransfer long ≡ true) × Agree form long }
+        Standing d.slots × Ready d × Beside frames.now (starts_in state.now) count links.now × (at.0 < count)
+        × (is_transfer long ≡ true) × Agree form long }
     ensures { let t : Slots = table_of frames.now state.now count in
-        result ≡ attemptedAs (shrinkAt (names_of (program_of t)) (program_of t) form long at.0) }
+        result ≡ attempted_as (shrink_at (names_of (program_of t)) (program_of t) form long at.0) }
 {
     if !branch_at(frames, state, count, long, at) {
         return Attempted::Untried;
@@ -141,9 +141,9 @@ pub fn attempted(
     m: usize,
 ) -> Attempted
     requires { let d : Tables = tables_of frames.now state.now count links.now values.now positions.now in
-        Standing d.slots × Ready d × Beside frames.now (startsIn state.now) count links.now × (m < 26 * count) }
+        Standing d.slots × Ready d × Beside frames.now (starts_in state.now) count links.now × (m < 26 * count) }
     ensures { let t : Slots = table_of frames.now state.now count in
-        result ≡ attemptedAs (reasonIn asked (program_of t) m) }
+        result ≡ attempted_as (reason_in asked (program_of t) m) }
 {
     let k = m % 26;
     let at = Place(m / 26);

@@ -1,11 +1,11 @@
 // The lines of instructions.
 ghost use Rattle.std.specs.Prelude.{◌≡◌, List, [], ◌∷◌, ℕ, ◌+◌, ◌≤◌, ◌<◌, length, get_or, drop};
 ghost use Rattle.laws.specs.Lists.{each};
-ghost use Rattle.rules.specs.Forms.{operandsAt};
-ghost use Rattle.rules.specs.Output.{operandBytes};
+ghost use Rattle.rules.specs.Forms.{operands_at};
+ghost use Rattle.rules.specs.Output.{operand_bytes};
 ghost use Rattle.rules.specs.Programs.{Operand as Argument, instr};
 ghost use Rattle.text.specs.Fits.{OperandsFit};
-ghost use Rattle.text.specs.Text.{lineText};
+ghost use Rattle.text.specs.Text.{line_text};
 ghost use Rattle.wording.specs.Writing.{Registered, Argued, Arguing, Written};
 
 use crate::words::put_mnemonic;
@@ -53,7 +53,7 @@ fn argument(s: &[u8], k: Kind, out: &mut [u8; 1024], at: usize) -> Went
 // The arguments of a form from the j-th on, `by` before the first of them and a comma before each other.
 fn arguments(s: &[u8], form: u8, j: usize, out: &mut [u8; 1024], at: usize, by: u8) -> usize
     requires { (length out.old ≡ 1024) × (at ≤ 1025) }
-    ensures { Arguing (drop j (operandsAt form)) by s.now out.old out.new at result }
+    ensures { Arguing (drop j (operands_at form)) by s.now out.old out.new at result }
 {
     if j > 2 {
         return at;

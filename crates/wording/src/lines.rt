@@ -1,8 +1,8 @@
 // The lines of all but instructions, from their frames.
 ghost use Rattle.std.specs.Prelude.{◌≡◌, List, [], ◌∷◌, ℕ, ◌+◌, ◌*◌, ◌≤◌, ◌<◌, pos, length, get_or, drop};
 ghost use Rattle.laws.specs.Lists.{each};
-ghost use Rattle.rules.specs.Expressions.{Expr, num, got, readExpr, bytes_of};
-ghost use Rattle.rules.specs.Output.{hexDigit, hexByte};
+ghost use Rattle.rules.specs.Expressions.{Expr, num, got, read_expr, bytes_of};
+ghost use Rattle.rules.specs.Output.{hex_digit, hex_byte};
 ghost use Rattle.rules.specs.Statements.{pair_at};
 ghost use Rattle.terms.specs.Writing.{Wrote};
 ghost use Rattle.wording.specs.Writing.{Itemed, Written, DataWritten};
@@ -89,7 +89,7 @@ pub fn pad_line(frame: &[u8], out: &mut [u8; 1024]) -> usize
 
 fn hex_digit(d: u8) -> u8
     requires { d < 16 }
-    ensures { result ≡ hexDigit d }
+    ensures { result ≡ hex_digit d }
 {
     if d < 10 { 48 + d } else { 55 + d }
 }
@@ -97,7 +97,7 @@ fn hex_digit(d: u8) -> u8
 // Bytes as upper-case digit pairs.
 fn pairs(s: &[u8], out: &mut [u8; 1024], at: usize) -> usize
     requires { (length out.old ≡ 1024) × (at ≤ 1025) }
-    ensures { Wrote out.old out.new at (each (λ b. hexByte b) s.now) result }
+    ensures { Wrote out.old out.new at (each (λ b. hex_byte b) s.now) result }
 {
     if s.len() < 1 {
         return at;

@@ -1,7 +1,7 @@
 // Mnemonics and dot words, out of the table of fixed byte strings.
 ghost use Rattle.std.specs.Prelude.{◌≡◌, ◌≤◌, ◌<◌, length};
-ghost use Rattle.text.specs.Text.{mnemonic as mnemonicOf};
-ghost use Rattle.text.specs.Words.{said, dotWord};
+ghost use Rattle.text.specs.Text.{mnemonic as mnemonic_of};
+ghost use Rattle.text.specs.Words.{said, dot_word};
 ghost use Rattle.terms.specs.Writing.{Wrote};
 
 use terms::put;
@@ -24,7 +24,7 @@ fn put_word(s: &[u8], out: &mut [u8; 1024], at: usize) -> usize
 
 pub fn put_mnemonic(out: &mut [u8; 1024], form: u8) -> usize
     requires { (length out.old ≡ 1024) × (form < 70) }
-    ensures { Wrote out.old out.new 0 (mnemonicOf form) result }
+    ensures { Wrote out.old out.new 0 (mnemonic_of form) result }
 {
     let word = mnemonic(form);
     put_word(&word, out, 0)
@@ -32,7 +32,7 @@ pub fn put_mnemonic(out: &mut [u8; 1024], form: u8) -> usize
 
 pub fn put_dot_word(out: &mut [u8; 1024], kind: u8) -> usize
     requires { (length out.old ≡ 1024) × (4 ≤ kind) × (kind ≤ 8) }
-    ensures { Wrote out.old out.new 0 (dotWord kind) result }
+    ensures { Wrote out.old out.new 0 (dot_word kind) result }
 {
     let word = dot_word(kind);
     put_word(&word, out, 0)

@@ -3,34 +3,34 @@ use native.Mathlib.Omega.{arith}
 use Prim.Native.Nat.{ℕ, ◌+◌, ◌-◌, ◌≤◌, ◌<◌}
 use lib.ListN.{length, drop}
 use Rattle.grammar.specs.Reading.{look}
-use Rattle.leaves.proofs.Leafs.{rest-is}
-use Rattle.laying.proofs.Speaking.{byte-there}
-use Rattle.arguing.proofs.Arguing.{SoFar, none_yet, arg-wrong, arg-most, arg-size, arg-to, arg-last, arg-other, arg-next}
+use Rattle.leaves.proofs.Leafs.{rest_is}
+use Rattle.laying.proofs.Speaking.{byte_there}
+use Rattle.arguing.proofs.Arguing.{SoFar, none_yet, arg_wrong, arg_most, arg_size, arg_to, arg_last, arg_other, arg_next}
 use borrow.Author.Rules.{rules}
 use Rattle.arguing.proofs.arguments.Statement.{statement}
 use Rattle.arguing.proofs.arguments.Tie as tie
 use Rattle.arguing.proofs.arguments.Reads as reads
 use Rattle.arguing.proofs.arguments.Lts as lts
-use Rattle.arguing.proofs.argument.Reads as argument-reads
-use Rattle.arguing.proofs.form_end.Reads as form-end-reads
-use Rattle.instruction.proofs.tables.operand_count.Reads as operand-count-reads
+use Rattle.arguing.proofs.argument.Reads as argument_reads
+use Rattle.arguing.proofs.form_end.Reads as form_end_reads
+use Rattle.instruction.proofs.tables.operand_count.Reads as operand_count_reads
 use Rattle.laying.proofs.put.Reads as put_reads
-use Rattle.leaves.proofs.lexing.look.Reads as look-reads
+use Rattle.leaves.proofs.lexing.look.Reads as look_reads
 
-abbrev invariant-loop : tie.invariant-loop
-invariant-loop s k form out₀ a at₀ i₀ f₀ j₀ out at i f j = (length out ≡ 120) × ((at ≤ 121) × ((i ≤ length s) × SoFar form s k out at i f j))
+abbrev invariant_loop : tie.invariant_loop
+invariant_loop s k form out₀ a at₀ i₀ f₀ j₀ out at i f j = (length out ≡ 120) × ((at ≤ 121) × ((i ≤ length s) × SoFar form s k out at i f j))
 
-abbrev decreases-loop : tie.decreases-loop
-decreases-loop s k form out₀ a at₀ i₀ f₀ j₀ out at i f j = 3 - j
+abbrev decreases_loop : tie.decreases_loop
+decreases_loop s k form out₀ a at₀ i₀ f₀ j₀ out at i f j = 3 - j
 
-put-requires : tie.Need-put-requires invariant-loop decreases-loop
-put-requires c κs = search rules
+put_requires : tie.Need-put-requires invariant_loop decreases_loop
+put_requires c κs = search rules
 
-put-requires-2 : tie.Need-put-requires-2 invariant-loop decreases-loop
-put-requires-2 c κs = search rules
+put_requires_2 : tie.Need-put-requires-2 invariant_loop decreases_loop
+put_requires_2 c κs = search rules
 
-loop-holds : tie.Need-loop-init invariant-loop decreases-loop
-loop-holds c =
+loop_holds : tie.Need-loop-init invariant_loop decreases_loop
+loop_holds c =
     let k = c.before.before.before.before.before in
     let a = k.args in
     let x = c.before.before.put in
@@ -45,20 +45,20 @@ loop-holds c =
       ),
     )
 
-argument-requires : tie.Need-argument-requires invariant-loop decreases-loop
-argument-requires c κs = let v = c.before.before.loop.invariant in (v.1.1.0, v.1.1.1.known, v.1.1.1.few, v.0, v.1.0)
+argument_requires : tie.Need-argument-requires invariant_loop decreases_loop
+argument_requires c κs = let v = c.before.before.loop.invariant in (v.1.1.0, v.1.1.1.known, v.1.1.1.few, v.0, v.1.0)
 
-enum-known-g : tie.Need-enum-known-g invariant-loop decreases-loop
-enum-known-g c = search rules
+enum_known_g : tie.Need-enum-known-g invariant_loop decreases_loop
+enum_known_g c = search rules
 
-operand-count-requires : tie.Need-operand-count-requires invariant-loop decreases-loop
-operand-count-requires c κs = search rules
+operand_count_requires : tie.Need-operand-count-requires invariant_loop decreases_loop
+operand_count_requires c κs = search rules
 
-add-if1 : tie.Need-overflow-add-if1 invariant-loop decreases-loop
-add-if1 c = search rules
+add_if1 : tie.Need-overflow-add-if1 invariant_loop decreases_loop
+add_if1 c = search rules
 
-form-end-requires : tie.Need-form-end-requires invariant-loop decreases-loop
-form-end-requires c κs =
+form_end_requires : tie.Need-form-end-requires invariant_loop decreases_loop
+form_end_requires c κs =
     let k = c.before.before.before.before.before.before.before.before.before.before.before.before.before.before.before in
     let a = k.args in
     let s = a.s.now in
@@ -66,9 +66,9 @@ form-end-requires c κs =
     let v = l.invariant in
     let x = c.before.before.before.before.before.before.argument in
     let p = c.before.before.before.before.g.given in
-    arg-size a.form s a.k l.out x.new.1.1.1.1.0 l.at l.i l.f l.j v.1.1.1 x.result x.ensures p.0.0 p.0.1.0 p.0.1.1.0 p.1
+    arg_size a.form s a.k l.out x.new.1.1.1.1.0 l.at l.i l.f l.j v.1.1.1 x.result x.ensures p.0.0 p.0.1.0 p.0.1.1.0 p.1
 
-returns : tie.Need-returns invariant-loop decreases-loop
+returns : tie.Need-returns invariant_loop decreases_loop
 returns c =
     let k = c.before.before.before.before.before.before.before.before.before.before.before.before.before.before.before.before in
     let a = k.args in
@@ -77,11 +77,11 @@ returns c =
     let v = l.invariant in
     let x = c.before.before.before.before.before.before.before.argument in
     let p = c.before.before.before.before.before.g.given in
-    let n = c.before.before.before.operand-count in
-    arg-last a.form s a.k l.out x.new.1.1.1.1.0 l.at l.i l.f l.j v.1.1.1 x.result x.ensures p.0.0 p.0.1.0 p.0.1.1.0 p.1 c.form-end.new.1.1.1.0 c.form-end.result (sym n.ensures ∙ c.before.before.if1.true) c.form-end.ensures
+    let n = c.before.before.before.operand_count in
+    arg_last a.form s a.k l.out x.new.1.1.1.1.0 l.at l.i l.f l.j v.1.1.1 x.result x.ensures p.0.0 p.0.1.0 p.0.1.1.0 p.1 c.form_end.new.1.1.1.0 c.form_end.result (sym n.ensures ∙ c.before.before.if1.true) c.form_end.ensures
 
-sub-look : tie.Need-overflow-sub-look invariant-loop decreases-loop
-sub-look c =
+sub_look : tie.Need-overflow-sub-look invariant_loop decreases_loop
+sub_look c =
     let k = c.before.before.before.before.before.before.before.before.before.before.before.before.before.before in
     let a = k.args in
     let s = a.s.now in
@@ -89,10 +89,10 @@ sub-look c =
     let v = l.invariant in
     let x = c.before.before.before.before.before.argument in
     let p = c.before.before.before.g.given in
-    arg-most a.form s a.k l.out x.new.1.1.1.1.0 l.at l.i l.f l.j v.1.1.1 x.result x.ensures p.0.0 p.0.1.0 p.0.1.1.0 p.1
+    arg_most a.form s a.k l.out x.new.1.1.1.1.0 l.at l.i l.f l.j v.1.1.1 x.result x.ensures p.0.0 p.0.1.0 p.0.1.1.0 p.1
 
-part-look-start : tie.Need-slice-bounds-look-start invariant-loop decreases-loop
-part-look-start c =
+part_look_start : tie.Need-slice-bounds-look-start invariant_loop decreases_loop
+part_look_start c =
     let k = c.before.before.before.before.before.before.before.before.before.before.before.before.before.before in
     let a = k.args in
     let s = a.s.now in
@@ -100,16 +100,16 @@ part-look-start c =
     let v = l.invariant in
     let x = c.before.before.before.before.before.argument in
     let p = c.before.before.before.g.given in
-    arg-most a.form s a.k l.out x.new.1.1.1.1.0 l.at l.i l.f l.j v.1.1.1 x.result x.ensures p.0.0 p.0.1.0 p.0.1.1.0 p.1
+    arg_most a.form s a.k l.out x.new.1.1.1.1.0 l.at l.i l.f l.j v.1.1.1 x.result x.ensures p.0.0 p.0.1.0 p.0.1.1.0 p.1
 
-part-look-end : tie.Need-slice-bounds-look-end invariant-loop decreases-loop
-part-look-end c = search rules
+part_look_end : tie.Need-slice-bounds-look-end invariant_loop decreases_loop
+part_look_end c = search rules
 
-look-requires : tie.Need-look-requires invariant-loop decreases-loop
-look-requires c κs = search rules
+look_requires : tie.Need-look-requires invariant_loop decreases_loop
+look_requires c κs = search rules
 
-returns-2 : tie.Need-returns-2 invariant-loop decreases-loop
-returns-2 c =
+returns_2 : tie.Need-returns-2 invariant_loop decreases_loop
+returns_2 c =
     let k = c.before.before.before.before.before.before.before.before.before.before.before.before.before.before.before.before.before in
     let a = k.args in
     let s = a.s.now in
@@ -117,12 +117,12 @@ returns-2 c =
     let v = l.invariant in
     let x = c.before.before.before.before.before.before.before.before.argument in
     let p = c.before.before.before.before.before.before.g.given in
-    let n = c.before.before.before.before.operand-count in
-    let e = c.before.look.ensures ∙ ap look (rest-is p.0.1.0 s) in
-    arg-other a.form s a.k l.out x.new.1.1.1.1.0 l.at l.i l.f l.j v.1.1.1 x.result x.ensures p.0.0 p.0.1.0 p.0.1.1.0 p.1 (λ z. c.before.before.before.if1.false (n.ensures ∙ z)) (λ z. c.if2.true (e ∙ z))
+    let n = c.before.before.before.before.operand_count in
+    let e = c.before.look.ensures ∙ ap look (rest_is p.0.1.0 s) in
+    arg_other a.form s a.k l.out x.new.1.1.1.1.0 l.at l.i l.f l.j v.1.1.1 x.result x.ensures p.0.0 p.0.1.0 p.0.1.1.0 p.1 (λ z. c.before.before.before.if1.false (n.ensures ∙ z)) (λ z. c.if2.true (e ∙ z))
 
-add-i : tie.Need-overflow-add-i invariant-loop decreases-loop
-add-i c =
+add_i : tie.Need-overflow-add-i invariant_loop decreases_loop
+add_i c =
     let k = c.before.before.before.before.before.before.before.before.before.before.before.before.before.before.before.before.before in
     let a = k.args in
     let s = a.s.now in
@@ -130,15 +130,15 @@ add-i c =
     let v = l.invariant in
     let x = c.before.before.before.before.before.before.before.before.argument in
     let p = c.before.before.before.before.before.before.g.given in
-    let e = c.before.look.ensures ∙ ap look (rest-is p.0.1.0 s) in
-    let h = byte-there s p.0.1.0 43 (sym e ∙ c.if2.false) in
+    let e = c.before.look.ensures ∙ ap look (rest_is p.0.1.0 s) in
+    let h = byte_there s p.0.1.0 43 (sym e ∙ c.if2.false) in
     search rules
 
-enum-known-n : tie.Need-enum-known-n invariant-loop decreases-loop
-enum-known-n c = search rules
+enum_known_n : tie.Need-enum-known-n invariant_loop decreases_loop
+enum_known_n c = search rules
 
-returns-3 : tie.Need-returns-3 invariant-loop decreases-loop
-returns-3 c =
+returns_3 : tie.Need-returns-3 invariant_loop decreases_loop
+returns_3 c =
     let k = c.before.before.before.before.before.before.before.before.before.before.before.before in
     let a = k.args in
     let s = a.s.now in
@@ -146,16 +146,16 @@ returns-3 c =
     let v = l.invariant in
     let x = c.before.before.before.argument in
     let p = c.before.n.given in
-    arg-wrong a.form s a.k l.out x.new.1.1.1.1.0 l.at l.i l.f l.j v.1.1.1 x.result x.ensures p.0.0 p.1
+    arg_wrong a.form s a.k l.out x.new.1.1.1.1.0 l.at l.i l.f l.j v.1.1.1 x.result x.ensures p.0.0 p.1
 
-add-j : tie.Need-overflow-add-j invariant-loop decreases-loop
-add-j c = search rules
+add_j : tie.Need-overflow-add-j invariant_loop decreases_loop
+add_j c = search rules
 
-loop-less : tie.Need-loop-smaller invariant-loop decreases-loop
-loop-less c = search rules
+loop_less : tie.Need-loop-smaller invariant_loop decreases_loop
+loop_less c = search rules
 
-loop-again : tie.Need-loop-preserved invariant-loop decreases-loop
-loop-again c =
+loop_again : tie.Need-loop-preserved invariant_loop decreases_loop
+loop_again c =
     let k = c.before.before.before.before.before.before.before.before.before.before.before.before.before.before.before.before.before in
     let a = k.args in
     let s = a.s.now in
@@ -163,38 +163,38 @@ loop-again c =
     let v = l.invariant in
     let x = c.before.before.before.before.before.before.before.before.argument in
     let p = c.before.before.before.before.before.before.g.given in
-    let n = c.before.before.before.before.operand-count in
-    let e = c.before.look.ensures ∙ ap look (rest-is p.0.1.0 s) in
+    let n = c.before.before.before.before.operand_count in
+    let e = c.before.look.ensures ∙ ap look (rest_is p.0.1.0 s) in
     let d = sym e ∙ c.if2.false in
-    (arg-size a.form s a.k l.out x.new.1.1.1.1.0 l.at l.i l.f l.j v.1.1.1 x.result x.ensures p.0.0 p.0.1.0 p.0.1.1.0 p.1, (arg-to a.form s a.k l.out x.new.1.1.1.1.0 l.at l.i l.f l.j v.1.1.1 x.result x.ensures p.0.0 p.0.1.0 p.0.1.1.0 p.1, (byte-there s p.0.1.0 43 d, arg-next a.form s a.k l.out x.new.1.1.1.1.0 l.at l.i l.f l.j v.1.1.1 x.result x.ensures p.0.0 p.0.1.0 p.0.1.1.0 p.1 (λ z. c.before.before.before.if1.false (n.ensures ∙ z)) d)))
+    (arg_size a.form s a.k l.out x.new.1.1.1.1.0 l.at l.i l.f l.j v.1.1.1 x.result x.ensures p.0.0 p.0.1.0 p.0.1.1.0 p.1, (arg_to a.form s a.k l.out x.new.1.1.1.1.0 l.at l.i l.f l.j v.1.1.1 x.result x.ensures p.0.0 p.0.1.0 p.0.1.1.0 p.1, (byte_there s p.0.1.0 43 d, arg_next a.form s a.k l.out x.new.1.1.1.1.0 l.at l.i l.f l.j v.1.1.1 x.result x.ensures p.0.0 p.0.1.0 p.0.1.1.0 p.1 (λ z. c.before.before.before.if1.false (n.ensures ∙ z)) d)))
 
-returns-4 : tie.Need-returns-4 invariant-loop decreases-loop
-returns-4 c = let v = c.before.loop.invariant in absurd (omega (arith, v.1.1.1.few, c.loop-test.false))
+returns_4 : tie.Need-returns-4 invariant_loop decreases_loop
+returns_4 c = let v = c.before.loop.invariant in absurd (omega (arith, v.1.1.1.few, c.loop_test.false))
 
-pub arguments-spec : {M : Type 1} → statement M
-arguments-spec =
+pub arguments_spec : {M : Type 1} → statement M
+arguments_spec =
     tie.close
     (tie.spec
-    invariant-loop
-    decreases-loop
-    put-requires
-    put-requires-2
-    loop-holds
-    argument-requires
-    enum-known-g
-    operand-count-requires
-    add-if1
-    form-end-requires
+    invariant_loop
+    decreases_loop
+    put_requires
+    put_requires_2
+    loop_holds
+    argument_requires
+    enum_known_g
+    operand_count_requires
+    add_if1
+    form_end_requires
     returns
-    sub-look
-    part-look-start
-    part-look-end
-    look-requires
-    returns-2
-    add-i
-    enum-known-n
-    returns-3
-    add-j
-    loop-less
-    loop-again
-    returns-4)
+    sub_look
+    part_look_start
+    part_look_end
+    look_requires
+    returns_2
+    add_i
+    enum_known_n
+    returns_3
+    add_j
+    loop_less
+    loop_again
+    returns_4)

@@ -6,23 +6,23 @@ use Rattle.arguing.proofs.valued.Tie as tie
 use Rattle.arguing.proofs.valued.Reads as reads
 use Rattle.arguing.proofs.valued.Lts as lts
 
-enum-known-r : tie.Need-enum-known-r
-enum-known-r c = search rules
+enum_known_r : tie.Need-enum-known-r
+enum_known_r c = search rules
 
-enum-known-r-2 : tie.Need-enum-known-r-2
-enum-known-r-2 c = search rules
+enum_known_r_2 : tie.Need-enum-known-r-2
+enum_known_r_2 c = search rules
 
 returns : tie.Need-returns
 returns c = ap (λ r. Valued c.before.before.before.args.form r) (sym c.before.r.given.1)
 
-returns-2 : tie.Need-returns-2
-returns-2 c = ap (λ r. Valued c.before.before.before.args.form r) (sym c.before.r2.given.1)
+returns_2 : tie.Need-returns-2
+returns_2 c = ap (λ r. Valued c.before.before.before.args.form r) (sym c.before.r2.given.1)
 
-pub valued-spec : {M : Type 1} → statement M
-valued-spec =
+pub valued_spec : {M : Type 1} → statement M
+valued_spec =
     tie.close
     (tie.spec
-    enum-known-r
-    enum-known-r-2
+    enum_known_r
+    enum_known_r_2
     returns
-    returns-2)
+    returns_2)

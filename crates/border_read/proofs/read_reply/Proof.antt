@@ -5,8 +5,8 @@ use Rattle.border_read.proofs.read_reply.Tie as tie
 
 returns : tie.Need-returns
 returns c =
-    let a = c.before.before.before.read-people in
-    record { answer = a.result; says = c.reply-of.ensures; leaves = a.ensures }
+    let a = c.before.before.before.read_people in
+    record { answer = a.result; says = c.reply_of.ensures; leaves = a.ensures }
 
-pub read-reply-spec : {M : Type 1} → statement M
-read-reply-spec = tie.close (tie.spec (λ c κs. search rules) (λ c κs. search rules) (λ c. search rules) returns)
+pub read_reply_spec : {M : Type 1} → statement M
+read_reply_spec = tie.close (tie.spec (λ c κs. search rules) (λ c κs. search rules) (λ c. search rules) returns)

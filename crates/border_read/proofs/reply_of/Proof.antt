@@ -8,5 +8,5 @@ use Rattle.border_read.proofs.reply_of.Tie as tie
 returns : tie.Need-returns
 returns c = subst (λ a. Says c.refused.result a) (sym c.before.before.answer.given.1) c.refused.ensures
 
-pub reply-of-spec : {M : Type 1} → statement M
-reply-of-spec = tie.close (tie.spec (λ c. search rules) (λ c κs. search rules) (λ c. search rules) returns (λ c. search rules))
+pub reply_of_spec : {M : Type 1} → statement M
+reply_of_spec = tie.close (tie.spec (λ c. search rules) (λ c κs. search rules) (λ c. search rules) returns (λ c. search rules))

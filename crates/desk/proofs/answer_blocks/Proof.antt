@@ -6,47 +6,47 @@ use borrow.Author.Rules.{rules}
 use Rattle.desk.proofs.answer_blocks.Statement.{statement}
 use Rattle.desk.proofs.answer_blocks.Tie as tie
 
-abbrev invariant-loop : tie.invariant-loop
-invariant-loop asked text on-all-sides at₀ at = at ≤ length text
+abbrev invariant_loop : tie.invariant_loop
+invariant_loop asked text on_all_sides at₀ at = at ≤ length text
 
-abbrev decreases-loop : tie.decreases-loop
-decreases-loop asked text on-all-sides at₀ at = length text - at
+abbrev decreases_loop : tie.decreases_loop
+decreases_loop asked text on_all_sides at₀ at = length text - at
 
-loop-holds : tie.Need-loop-init invariant-loop decreases-loop
-loop-holds c = omega arith
+loop_holds : tie.Need-loop-init invariant_loop decreases_loop
+loop_holds c = omega arith
 
-sub-rest : tie.Need-overflow-sub-rest invariant-loop decreases-loop
-sub-rest c = search rules
+sub_rest : tie.Need-overflow-sub-rest invariant_loop decreases_loop
+sub_rest c = search rules
 
-part-rest-start : tie.Need-slice-bounds-rest-start invariant-loop decreases-loop
-part-rest-start c = search rules
+part_rest_start : tie.Need-slice-bounds-rest-start invariant_loop decreases_loop
+part_rest_start c = search rules
 
-part-rest-end : tie.Need-slice-bounds-rest-end invariant-loop decreases-loop
-part-rest-end c = search rules
+part_rest_end : tie.Need-slice-bounds-rest-end invariant_loop decreases_loop
+part_rest_end c = search rules
 
-block-end-requires : tie.Need-block-end-requires invariant-loop decreases-loop
-block-end-requires c κs = search rules
+block_end_requires : tie.Need-block-end-requires invariant_loop decreases_loop
+block_end_requires c κs = search rules
 
-slice-aggregate-put-answer : tie.Need-slice-aggregate-put-answer invariant-loop decreases-loop
-slice-aggregate-put-answer c = search rules
+slice_aggregate_put_answer : tie.Need-slice-aggregate-put-answer invariant_loop decreases_loop
+slice_aggregate_put_answer c = search rules
 
-put-answer-requires : tie.Need-put-answer-requires invariant-loop decreases-loop
-put-answer-requires c κs = search rules
+put_answer_requires : tie.Need-put-answer-requires invariant_loop decreases_loop
+put_answer_requires c κs = search rules
 
-behind-requires : tie.Need-behind-requires invariant-loop decreases-loop
-behind-requires c κs = omega arith
+behind_requires : tie.Need-behind-requires invariant_loop decreases_loop
+behind_requires c κs = omega arith
 
-loop-less : tie.Need-loop-smaller invariant-loop decreases-loop
-loop-less c = omega arith
+loop_less : tie.Need-loop-smaller invariant_loop decreases_loop
+loop_less c = omega arith
 
-loop-again : tie.Need-loop-preserved invariant-loop decreases-loop
-loop-again c = omega arith
+loop_again : tie.Need-loop-preserved invariant_loop decreases_loop
+loop_again c = omega arith
 
-returns : tie.Need-returns invariant-loop decreases-loop
+returns : tie.Need-returns invariant_loop decreases_loop
 returns c = tt
 
-pub answer-blocks-spec : {M : Type 1} → statement M
-answer-blocks-spec =
+pub answer_blocks_spec : {M : Type 1} → statement M
+answer_blocks_spec =
     tie.close
-    (tie.spec invariant-loop decreases-loop loop-holds sub-rest part-rest-start part-rest-end block-end-requires slice-aggregate-put-answer put-answer-requires
-    behind-requires loop-less loop-again returns)
+    (tie.spec invariant_loop decreases_loop loop_holds sub_rest part_rest_start part_rest_end block_end_requires slice_aggregate_put_answer put_answer_requires
+    behind_requires loop_less loop_again returns)

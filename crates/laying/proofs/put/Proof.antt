@@ -1,6 +1,6 @@
 use mathlib.Core.List.{[], ◌∷◌}
 use native.Mathlib.Omega.{arith}
-use Rattle.laying.proofs.Laying.{too_many, put-so}
+use Rattle.laying.proofs.Laying.{too_many, put_so}
 use borrow.Author.Rules.{rules}
 use Rattle.laying.proofs.put.Statement.{statement}
 use Rattle.laying.proofs.put.Tie as tie
@@ -12,16 +12,16 @@ returns : tie.Need-returns
 returns c = let a = c.before.args in too_many a.out.now a.at (a.b ∷ []) 0 c.before.requires.0 c.before.requires.1 (λ z. omega arith)
 
 -- src/lib.rt:18:5
-element-write-out : tie.Need-element-write-out
-element-write-out c = search rules
+element_write_out : tie.Need-element-write-out
+element_write_out c = search rules
 
 -- src/lib.rt:19:5
-add-result : tie.Need-overflow-add-result
-add-result c = search rules
+add_result : tie.Need-overflow-add-result
+add_result c = search rules
 
 -- src/lib.rt:11:1
-returns-2 : tie.Need-returns-2
-returns-2 c = let a = c.before.args in put-so a.out.now a.at a.b c.before.requires.0 (omega arith)
+returns_2 : tie.Need-returns-2
+returns_2 c = let a = c.before.args in put_so a.out.now a.at a.b c.before.requires.0 (omega arith)
 
 pub put_spec : {M : Type 1} → statement M
-put_spec = tie.close (tie.spec returns element-write-out add-result returns-2)
+put_spec = tie.close (tie.spec returns element_write_out add_result returns_2)

@@ -2,12 +2,12 @@ use mathlib.Core.Path.{◌≡◌, refl, sym, ap, ◌∙◌, subst}
 use native.Mathlib.Omega.{arith}
 use mathlib.Core.List.{List, [], ◌∷◌}
 use Prim.Native.Nat.{ℕ}
-use Rattle.laws.specs.Counts.{allTo}
+use Rattle.laws.specs.Counts.{all_to}
 use Rattle.laws.specs.Lists.{same}
-use Rattle.rules.specs.Forms.{formAt}
+use Rattle.rules.specs.Forms.{form_at}
 use Rattle.text.specs.Text.{mnemonic}
 use Rattle.plans.specs.Families.{narrow, family}
-use Rattle.marks.proofs.Narrowing.{down, near, near-agree, near-chosen, row-law}
+use Rattle.marks.proofs.Narrowing.{down, near, near_agree, near_chosen, row_law}
 use borrow.Author.Rules.{rules}
 use Rattle.marks.proofs.narrowed.Statement.{statement}
 use Rattle.marks.proofs.narrowed.Tie as tie
@@ -88,32 +88,32 @@ rows =
     (70 ∷ 70 ∷ 70 ∷ 70 ∷ 70 ∷ 70 ∷ 70 ∷ 70 ∷ 70 ∷ []) ∷
     []
 
-mul-row : tie.Need-overflow-mul-row
-mul-row c = search rules
+mul_row : tie.Need-overflow-mul-row
+mul_row c = search rules
 
-array-copy-out-row : tie.Need-array-copy-out-row
-array-copy-out-row c = search rules
+array_copy_out_row : tie.Need-array-copy-out-row
+array_copy_out_row c = search rules
 
-mul-result : tie.Need-overflow-mul-result
-mul-result c = search rules
+mul_result : tie.Need-overflow-mul-result
+mul_result c = search rules
 
-add-result : tie.Need-overflow-add-result
-add-result c = search rules
+add_result : tie.Need-overflow-add-result
+add_result c = search rules
 
-array-read-result : tie.Need-array-read-result
-array-read-result c = search rules
+array_read_result : tie.Need-array-read-result
+array_read_result c = search rules
 
 returns : tie.Need-returns
-unfolding rows allTo near-chosen near-agree near down narrow family same mnemonic formAt
-returns c = let a = c.before.args in row-law rows tt a.form a.j a.mark c.before.requires.0 c.before.requires.1 c.before.requires.2
+unfolding rows all_to near_chosen near_agree near down narrow family same mnemonic form_at
+returns c = let a = c.before.args in row_law rows tt a.form a.j a.mark c.before.requires.0 c.before.requires.1 c.before.requires.2
 
-pub narrowed-spec : {M : Type 1} → statement M
-narrowed-spec =
+pub narrowed_spec : {M : Type 1} → statement M
+narrowed_spec =
     tie.close
     (tie.spec
-    mul-row
-    array-copy-out-row
-    mul-result
-    add-result
-    array-read-result
+    mul_row
+    array_copy_out_row
+    mul_result
+    add_result
+    array_read_result
     returns)

@@ -3,27 +3,27 @@ use native.Mathlib.Omega.{arith}
 use Rattle.laying.specs.declared.Told.TheVariants.{Wrong}
 use Rattle.leaves.proofs.Leafs.{some_byte}
 use Rattle.openings.specs.Fronting.{Begins}
-use Rattle.people.proofs.Rows.{global-spoken, local-spoken, none-spoken, two_bytes}
+use Rattle.people.proofs.Rows.{global_spoken, local_spoken, none_spoken, two_bytes}
 use Rattle.people.proofs.Answers.{answers}
 use borrow.Author.Rules.{rules}
 use Rattle.people.proofs.read_line.Statement.{statement}
 use Rattle.people.proofs.read_line.Tie as tie
 use Rattle.people.proofs.read_line.Reads as reads
 use Rattle.people.proofs.read_line.Lts as lts
-use Rattle.openings.proofs.begin.Reads as begin-reads
-use Rattle.phrases.proofs.names.global_line.Reads as global-line-reads
-use Rattle.phrases.proofs.names.local_line.Reads as local-line-reads
-use Rattle.people.proofs.form_line.Reads as form-line-reads
-use Rattle.people.proofs.dot_line.Reads as dot-line-reads
+use Rattle.openings.proofs.begin.Reads as begin_reads
+use Rattle.phrases.proofs.names.global_line.Reads as global_line_reads
+use Rattle.phrases.proofs.names.local_line.Reads as local_line_reads
+use Rattle.people.proofs.form_line.Reads as form_line_reads
+use Rattle.people.proofs.dot_line.Reads as dot_line_reads
 
-begin-requires : tie.Need-begin-requires
-begin-requires c κs = search rules
+begin_requires : tie.Need-begin-requires
+begin_requires c κs = search rules
 
 enum_told : tie.Need-enum-told
 enum_told c = search rules
 
-global-line-requires : tie.Need-global-line-requires
-global-line-requires c κs =
+global_line_requires : tie.Need-global-line-requires
+global_line_requires c κs =
     let k = c.before.before.before.before.before in
     let a = k.args in
     let s = a.s.now in
@@ -31,23 +31,23 @@ global-line-requires c κs =
     let y = subst (λ r. Begins s r) c.before.enum_told.given.1 w.ensures in
     (some_byte s 102 y, k.requires)
 
-enum-told-2 : tie.Need-enum-told-2
-enum-told-2 c = search rules
+enum_told_2 : tie.Need-enum-told-2
+enum_told_2 c = search rules
 
-local-line-requires : tie.Need-local-line-requires
-local-line-requires c κs =
+local_line_requires : tie.Need-local-line-requires
+local_line_requires c κs =
     let k = c.before.before.before.before.before in
     let a = k.args in
     let s = a.s.now in
     let w = c.before.before.before.begin in
-    let y = subst (λ r. Begins s r) c.before.enum-told2.given.1 w.ensures in
+    let y = subst (λ r. Begins s r) c.before.enum_told2.given.1 w.ensures in
     (two_bytes s y, k.requires)
 
-enum-known-row : tie.Need-enum-known-row
-enum-known-row c = search rules
+enum_known_row : tie.Need-enum-known-row
+enum_known_row c = search rules
 
-form-line-requires : tie.Need-form-line-requires
-form-line-requires c κs =
+form_line_requires : tie.Need-form-line-requires
+form_line_requires c κs =
     let k = c.before.before.before.before.before.before.before in
     let a = k.args in
     let s = a.s.now in
@@ -58,11 +58,11 @@ form-line-requires c κs =
 returns : tie.Need-returns
 returns c =
     let a = c.before.before.before.before.before.before.before.before.args in
-    let r = c.form-line in
+    let r = c.form_line in
     answers a.s.now r.new.1.1.1.0 r.result r.ensures
 
-dot-line-requires : tie.Need-dot-line-requires
-dot-line-requires c κs =
+dot_line_requires : tie.Need-dot-line-requires
+dot_line_requires c κs =
     let k = c.before.before.before.before.before.before.before in
     let a = k.args in
     let s = a.s.now in
@@ -70,59 +70,59 @@ dot-line-requires c κs =
     let y = subst (λ r. Begins s r) c.before.before.before.row.given.1 w.ensures in
     (c.before.if1.false, y.0, k.requires, y.1)
 
-enum-known-c : tie.Need-enum-known-c
-enum-known-c c = search rules
+enum_known_c : tie.Need-enum-known-c
+enum_known_c c = search rules
 
-returns-2 : tie.Need-returns-2
-returns-2 c =
+returns_2 : tie.Need-returns-2
+returns_2 c =
     let k = c.before.before.before.before.before.before in
     let a = k.args in
     let s = a.s.now in
     let w = c.before.before.before.before.begin in
     let y = subst (λ r. Begins s r) c.before.before.enum_told.given.1 w.ensures in
-    let r = c.global-line in
-    answers s r.new.1.1.0 r.result (global-spoken s r.new.1.1.0 r.result y r.ensures)
+    let r = c.global_line in
+    answers s r.new.1.1.0 r.result (global_spoken s r.new.1.1.0 r.result y r.ensures)
 
-returns-3 : tie.Need-returns-3
-returns-3 c =
+returns_3 : tie.Need-returns-3
+returns_3 c =
     let k = c.before.before.before.before.before.before in
     let a = k.args in
     let s = a.s.now in
     let w = c.before.before.before.before.begin in
-    let y = subst (λ r. Begins s r) c.before.before.enum-told2.given.1 w.ensures in
-    let r = c.local-line in
-    answers s r.new.1.1.0 r.result (local-spoken s r.new.1.1.0 r.result y.0 y.1 r.ensures)
+    let y = subst (λ r. Begins s r) c.before.before.enum_told2.given.1 w.ensures in
+    let r = c.local_line in
+    answers s r.new.1.1.0 r.result (local_spoken s r.new.1.1.0 r.result y.0 y.1 r.ensures)
 
-returns-4 : tie.Need-returns-4
-returns-4 c =
+returns_4 : tie.Need-returns-4
+returns_4 c =
     let a = c.before.before.before.before.before.before.before.before.args in
-    let r = c.dot-line in
+    let r = c.dot_line in
     answers a.s.now r.new.1.1.1.0 r.result r.ensures
 
-returns-5 : tie.Need-returns-5
-returns-5 c =
+returns_5 : tie.Need-returns-5
+returns_5 c =
     let k = c.before.before.before.before.before in
     let a = k.args in
     let s = a.s.now in
     let w = c.before.before.before.begin in
     let y = subst (λ r. Begins s r) c.before.c.given.1 w.ensures in
-    answers s a.out.now (Wrong c.before.c.given.0.0) (none-spoken s a.out.now c.before.c.given.0.0 y)
+    answers s a.out.now (Wrong c.before.c.given.0.0) (none_spoken s a.out.now c.before.c.given.0.0 y)
 
-pub read-line-spec : {M : Type 1} → statement M
-read-line-spec =
+pub read_line_spec : {M : Type 1} → statement M
+read_line_spec =
     tie.close
     (tie.spec
-    begin-requires
+    begin_requires
     enum_told
-    global-line-requires
-    enum-told-2
-    local-line-requires
-    enum-known-row
-    form-line-requires
+    global_line_requires
+    enum_told_2
+    local_line_requires
+    enum_known_row
+    form_line_requires
     returns
-    dot-line-requires
-    enum-known-c
-    returns-2
-    returns-3
-    returns-4
-    returns-5)
+    dot_line_requires
+    enum_known_c
+    returns_2
+    returns_3
+    returns_4
+    returns_5)

@@ -7,19 +7,19 @@ use borrow.Author.Rules.{rules}
 use Rattle.slots.proofs.pad_size.Statement.{statement}
 use Rattle.slots.proofs.pad_size.Tie as tie
 
-sub-result : tie.Need-overflow-sub-result
-sub-result c =
+sub_result : tie.Need-overflow-sub-result
+sub_result c =
     let s = c.before in
     let below : s.args.q.0 % s.args.m < s.args.m = mod-lt _ s.requires.1 in
     omega (arith, below)
 
-add-result : tie.Need-overflow-add-result
-add-result c =
+add_result : tie.Need-overflow-add-result
+add_result c =
     let s = c.before in
     let m = s.args.m in
     let below : (m - s.args.q.0 % m) % m < m = mod-lt _ s.requires.1 in
     record { fits = omega (arith, below, s.requires) }
 
-pub pad-size-spec : {M : Type 1} → statement M
-pad-size-spec =
-    tie.close (tie.spec (λ c. omega (arith, c.before.requires.1)) sub-result (λ c. omega (arith, c.before.requires.1)) add-result (λ c. refl))
+pub pad_size_spec : {M : Type 1} → statement M
+pad_size_spec =
+    tie.close (tie.spec (λ c. omega (arith, c.before.requires.1)) sub_result (λ c. omega (arith, c.before.requires.1)) add_result (λ c. refl))

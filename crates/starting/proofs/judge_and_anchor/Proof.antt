@@ -7,31 +7,31 @@ use lib.ListN.{length}
 use borrow.Author.Rules.{rules}
 use Rattle.rules.specs.Judging.{assembles}
 use Rattle.slots.specs.Slots.{Slots, program_of}
-use Rattle.slots.specs.State.{startsIn, formsIn, carryIn, ownersIn, offsetsIn, table_of}
-use Rattle.slots.proofs.State.{table-labelled}
-use Rattle.slots.specs.Links.{contextsRead, Beside, Together}
+use Rattle.slots.specs.State.{starts_in, forms_in, carry_in, owners_in, offsets_in, table_of}
+use Rattle.slots.proofs.State.{table_labelled}
+use Rattle.slots.specs.Links.{contexts_read, Beside, Together}
 use Rattle.image.specs.Tables.{Tables, tables_of}
 use Rattle.env.specs.Tables.{Any}
 use Rattle.asm.specs.Assembling.{InPlace}
-use Rattle.asm.proofs.Carrying.{placed-any}
+use Rattle.asm.proofs.Carrying.{placed_any}
 use Rattle.attempts.specs.Standing.{Standing}
 use Rattle.finishing.specs.Ending.{Assembled}
-use Rattle.entries.proofs.Stands.{own-together, anchored-stands}
-use Rattle.finishing.proofs.Ended.{assembled-by}
-use Rattle.starting.proofs.Begins.{anchored-bad}
+use Rattle.entries.proofs.Stands.{own_together, anchored_stands}
+use Rattle.finishing.proofs.Ended.{assembled_by}
+use Rattle.starting.proofs.Begins.{anchored_bad}
 use Rattle.starting.proofs.judge_and_anchor.Statement.{statement}
 use Rattle.starting.proofs.judge_and_anchor.Tie as tie
 
 abbrev here : (c : tie.Start) → Slots
 here c = table_of c.args.frames.now c.args.state.now c.args.count
 
-judge-requires : tie.Need-judge-requires
-judge-requires c κs =
+judge_requires : tie.Need-judge-requires
+judge_requires c κs =
     let s = c.before.before.before.before.before in
-    (s.requires.0, own-together (here s) s.requires.1.own, s.requires.3, search rules, search rules, s.requires.4)
+    (s.requires.0, own_together (here s) s.requires.1.own, s.requires.3, search rules, search rules, s.requires.4)
 
-enum-known-r : tie.Need-enum-known-r
-enum-known-r c = search rules
+enum_known_r : tie.Need-enum-known-r
+enum_known_r c = search rules
 
 enum_told : tie.Need-enum-told
 enum_told c = search rules
@@ -40,7 +40,7 @@ returns : tie.Need-returns
 returns c =
     let j = c.before.before.before in
     let s = j.before.before.before.before.before.before in
-    (anchored-bad (program_of (here s)) _ _ _ _ c.before.r.given.1 j.judge.ensures.0.answer, refl)
+    (anchored_bad (program_of (here s)) _ _ _ _ c.before.r.given.1 j.judge.ensures.0.answer, refl)
 
 -- the program is good
 module _ (e : tie.After-enum-told) where
@@ -57,15 +57,15 @@ module _ (e : tie.After-enum-told) where
   tables = tables_of start.args.frames.now state start.args.count judged.judge.last.1.1.1.1.0 judged.judge.last.1.1.1.1.1.1.0 judged.judge.last.1.1.1.1.1.0
 
   good : Assembled tables
-  good = assembled-by _ _ e.enum_told.given.1 judged.judge.ensures.0
+  good = assembled_by _ _ e.enum_told.given.1 judged.judge.ensures.0
 
-  placed : Any start.args.frames.now (startsIn state) start.args.count (formsIn state) (λ t. InPlace t)
+  placed : Any start.args.frames.now (starts_in state) start.args.count (forms_in state) (λ t. InPlace t)
   placed =
-      placed-any start.args.frames.now (startsIn state) start.args.count (formsIn state) (carryIn state) (ownersIn state) (offsetsIn state)
-      (contextsRead start.args.frames.now (startsIn state) start.args.count) (record { context = good.ready.context })
+      placed_any start.args.frames.now (starts_in state) start.args.count (forms_in state) (carry_in state) (owners_in state) (offsets_in state)
+      (contexts_read start.args.frames.now (starts_in state) start.args.count) (record { context = good.ready.context })
 
-anchor-requires : tie.Need-anchor-requires
-anchor-requires c κs =
+anchor_requires : tie.Need-anchor-requires
+anchor_requires c κs =
     let e = c.before.before.before.before.before.before in
     let s = start e in
     (((good e).ready, s.pre.1, (s.pre.4 _ _ _).0), (s.pre.2.owners, s.pre.2.offsets, refl))
@@ -85,19 +85,19 @@ module _ (a : tie.After-anchor) where
   stands =
       let s = start told in
       let l = a.anchor.ensures.1 in
-      let is = table-labelled s.args.frames.now (state told) anchored s.args.count l in
-      anchored-stands (here s) new a.anchor.ensures.0 (good told).good
+      let is = table_labelled s.args.frames.now (state told) anchored s.args.count l in
+      anchored_stands (here s) new a.anchor.ensures.0 (good told).good
       (ap length l.forms ∙ s.pre.2.forms) (ap length l.carry ∙ s.pre.2.carry)
-      (subst (λ (z : Slots). InPlace z) (sym is) (placed told _ _ _)) (subst (λ (z : Slots). Together z) (sym is) (own-together _ s.pre.1.own))
+      (subst (λ (z : Slots). InPlace z) (sym is) (placed told _ _ _)) (subst (λ (z : Slots). Together z) (sym is) (own_together _ s.pre.1.own))
 
-  beside : Beside (start told).args.frames.now (startsIn anchored) (start told).args.count (judged told).judge.last.1.1.1.1.0
+  beside : Beside (start told).args.frames.now (starts_in anchored) (start told).args.count (judged told).judge.last.1.1.1.1.0
   beside =
       let s = start told in
       subst (λ (z : List ℕ). Beside s.args.frames.now z s.args.count (judged told).judge.last.1.1.1.1.0)
       (sym a.anchor.ensures.1.starts) ((judged told).judge.ensures.1 told.enum_told.given.1)
 
-returns-2 : tie.Need-returns-2
-returns-2 a =
+returns_2 : tie.Need-returns-2
+returns_2 a =
     let e = told a in (
       record {
         answer = sym e.enum_told.given.1 ∙ (judged e).judge.ensures.0.answer;
@@ -106,6 +106,6 @@ returns-2 a =
       a.anchor.ensures.1.starts,
     )
 
-pub judge-and-anchor-spec : {M : Type 1} → statement M
-judge-and-anchor-spec =
-    tie.close (tie.spec judge-requires enum-known-r returns enum_told anchor-requires returns-2)
+pub judge_and_anchor_spec : {M : Type 1} → statement M
+judge_and_anchor_spec =
+    tie.close (tie.spec judge_requires enum_known_r returns enum_told anchor_requires returns_2)

@@ -1,17 +1,17 @@
 -- `starting::place_slots` meets its contract.
 use borrow.Author.Rules.{rules}
-use Rattle.rules.specs.Names.{contextAt}
+use Rattle.rules.specs.Names.{context_at}
 use Rattle.slots.specs.Slots.{slots, program_of}
-use Rattle.slots.specs.State.{startsIn, formsIn}
-use Rattle.env.proofs.Filled.{get-filled}
+use Rattle.slots.specs.State.{starts_in, forms_in}
+use Rattle.env.proofs.Filled.{get_filled}
 use Rattle.starting.proofs.place_slots.Statement.{statement}
 use Rattle.starting.proofs.place_slots.Tie as tie
 
-fill-contexts-requires : tie.Need-fill-contexts-requires
-fill-contexts-requires c κs = let s = c.before.before.before in (s.requires.0.held, search rules)
+fill_contexts_requires : tie.Need-fill-contexts-requires
+fill_contexts_requires c κs = let s = c.before.before.before in (s.requires.0.held, search rules)
 
-judge-and-anchor-requires : tie.Need-judge-and-anchor-requires
-judge-and-anchor-requires c κs =
+judge_and_anchor_requires : tie.Need-judge-and-anchor-requires
+judge_and_anchor_requires c κs =
     let f = c.before.before.before in
     let s = f.before.before.before.before in
     let z = s.args.state.now in (
@@ -20,12 +20,12 @@ judge-and-anchor-requires c κs =
       s.requires.2,
       s.requires.3,
       λ carry owners offsets.
-          (let t = slots s.args.frames.now (startsIn z) s.args.count (formsIn z) carry owners offsets in
-          (record { context = λ i l. get-filled (contextAt (program_of t)) s.args.count _ _ i 0 (f.fill-contexts.ensures.1 carry owners offsets) l }, s.requires.4)),
+          (let t = slots s.args.frames.now (starts_in z) s.args.count (forms_in z) carry owners offsets in
+          (record { context = λ i l. get_filled (context_at (program_of t)) s.args.count _ _ i 0 (f.fill_contexts.ensures.1 carry owners offsets) l }, s.requires.4)),
     )
 
 returns : tie.Need-returns
-returns c = c.judge-and-anchor.ensures
+returns c = c.judge_and_anchor.ensures
 
-pub place-slots-spec : {M : Type 1} → statement M
-place-slots-spec = tie.close (tie.spec fill-contexts-requires judge-and-anchor-requires returns)
+pub place_slots_spec : {M : Type 1} → statement M
+place_slots_spec = tie.close (tie.spec fill_contexts_requires judge_and_anchor_requires returns)

@@ -12,23 +12,23 @@ use Rattle.sums.proofs.after.Tie as tie
 use Rattle.sums.proofs.after.Reads as reads
 use Rattle.sums.proofs.after.Lts as lts
 
-enum-known-r : tie.Need-enum-known-r
-enum-known-r c = search rules
+enum_known_r : tie.Need-enum-known-r
+enum_known_r c = search rules
 
-add-t7 : tie.Need-overflow-add-t7
-add-t7 c = record { fits = subst (λ x. c.before.before.before.args.k + takes x < 2 ^ 64) c.before.r.given.1 c.before.before.before.requires }
+add_t7 : tie.Need-overflow-add-t7
+add_t7 c = record { fits = subst (λ x. c.before.before.before.args.k + takes x < 2 ^ 64) c.before.r.given.1 c.before.before.before.requires }
 
-enum-known-r-2 : tie.Need-enum-known-r-2
-enum-known-r-2 c = search rules
+enum_known_r_2 : tie.Need-enum-known-r-2
+enum_known_r_2 c = search rules
 
-add-t8 : tie.Need-overflow-add-t8
-add-t8 c = record { fits = subst (λ x. c.before.before.before.args.k + takes x < 2 ^ 64) c.before.r2.given.1 c.before.before.before.requires }
+add_t8 : tie.Need-overflow-add-t8
+add_t8 c = record { fits = subst (λ x. c.before.before.before.args.k + takes x < 2 ^ 64) c.before.r2.given.1 c.before.before.before.requires }
 
 returns : tie.Need-returns
 returns c = sym (ap (after_of c.before.before.before.args.k) c.before.r.given.1)
 
-returns-2 : tie.Need-returns-2
-returns-2 c = sym (ap (after_of c.before.before.before.args.k) c.before.r2.given.1)
+returns_2 : tie.Need-returns-2
+returns_2 c = sym (ap (after_of c.before.before.before.args.k) c.before.r2.given.1)
 
-pub after-spec : {M : Type 1} → statement M
-after-spec = tie.close (tie.spec enum-known-r add-t7 enum-known-r-2 add-t8 returns returns-2)
+pub after_spec : {M : Type 1} → statement M
+after_spec = tie.close (tie.spec enum_known_r add_t7 enum_known_r_2 add_t8 returns returns_2)

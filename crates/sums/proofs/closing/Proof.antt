@@ -5,8 +5,8 @@ use Rattle.leaves.specs.declared.Found.{Found}
 use Rattle.leaves.specs.declared.Found.TheVariants.{Ends, Stuck}
 use Rattle.grammar.specs.Reading.{look}
 use Rattle.leaves.specs.Answering.{takes, after_of}
-use Rattle.grammar.proofs.Lexes.{look_at, look-end}
-use Rattle.sums.proofs.Readings.{close-yes, close-no}
+use Rattle.grammar.proofs.Lexes.{look_at, look_end}
+use Rattle.sums.proofs.Readings.{close_yes, close_no}
 use native.Mathlib.Omega.{arith}
 use borrow.Author.Rules.{rules}
 use Rattle.sums.proofs.closing.Statement.{statement}
@@ -14,20 +14,20 @@ use Rattle.sums.proofs.closing.Tie as tie
 use Rattle.sums.proofs.closing.Reads as reads
 use Rattle.sums.proofs.closing.Lts as lts
 
-shared-slice-read-if2 : tie.Need-shared-slice-read-if2
-shared-slice-read-if2 c = search rules
+shared_slice_read_if2 : tie.Need-shared-slice-read-if2
+shared_slice_read_if2 c = search rules
 
-add-t9 : tie.Need-overflow-add-t9
-add-t9 c = search rules
+add_t9 : tie.Need-overflow-add-t9
+add_t9 c = search rules
 
 returns : tie.Need-returns
-returns c = let a = c.before.before.before.args in (refl, omega arith, close-yes a.s.now a.k c.before.before.if1.true c.if2.true)
+returns c = let a = c.before.before.before.args in (refl, omega arith, close_yes a.s.now a.k c.before.before.if1.true c.if2.true)
 
-returns-2 : tie.Need-returns-2
-returns-2 c = let a = c.before.before.before.args in (omega arith, close-no a.s.now a.k (λ e. c.if2.false (sym (look_at a.s.now a.k c.before.before.if1.true) ∙ e)))
+returns_2 : tie.Need-returns-2
+returns_2 c = let a = c.before.before.before.args in (omega arith, close_no a.s.now a.k (λ e. c.if2.false (sym (look_at a.s.now a.k c.before.before.if1.true) ∙ e)))
 
-returns-3 : tie.Need-returns-3
-returns-3 c = let a = c.before.args in (omega arith, close-no a.s.now a.k (λ e. omega (arith, look-end a.s.now a.k c.if1.false)))
+returns_3 : tie.Need-returns-3
+returns_3 c = let a = c.before.args in (omega arith, close_no a.s.now a.k (λ e. omega (arith, look_end a.s.now a.k c.if1.false)))
 
-pub closing-spec : {M : Type 1} → statement M
-closing-spec = tie.close (tie.spec shared-slice-read-if2 add-t9 returns returns-2 returns-3)
+pub closing_spec : {M : Type 1} → statement M
+closing_spec = tie.close (tie.spec shared_slice_read_if2 add_t9 returns returns_2 returns_3)

@@ -7,14 +7,14 @@ use lib.ListN.{length, take, drop, length-drop}
 use Rattle.rules.specs.Expressions.{num, name, bytes_of}
 use Rattle.leaves.specs.declared.Value.TheVariants.{Is, Not}
 use Rattle.leaves.specs.declared.Found.TheVariants.{Ends, Stuck}
-use Rattle.grammar.specs.Reading.{isDecimal, look}
+use Rattle.grammar.specs.Reading.{is_decimal, look}
 use Rattle.grammar.specs.Going.{digits, fixed, start, alone}
 use Rattle.leaves.specs.Answering.{Valued, Put, Answered, sign_code}
 use borrow.Author.Tests.{eq-eqb, ne_eqb}
 use Rattle.rules.specs.declared.Op2.{Op2}
 use Rattle.rules.specs.declared.Op2.TheVariants.{Plus, Minus, Times, Divide, Xor, And, Or}
 use Rattle.rules.specs.Expressions.{code2}
-use Rattle.grammar.specs.Reading.{levelOf}
+use Rattle.grammar.specs.Reading.{level_of}
 use native.Mathlib.Omega.{arith}
 use borrow.Author.Rules.{rules}
 use Rattle.sums.proofs.level_of.Statement.{statement}
@@ -25,7 +25,7 @@ use Rattle.sums.proofs.level_of.Lts as lts
 returns : tie.Need-returns
 returns c = on
   where
-    on : (o : Op2) → c.before.args.code ≡ code2 o → 2 ≡ levelOf o
+    on : (o : Op2) → c.before.args.code ≡ code2 o → 2 ≡ level_of o
     on Plus e = refl
     on Minus e = refl
     on Times e = absurd (omega arith)
@@ -34,10 +34,10 @@ returns c = on
     on And e = absurd (omega arith)
     on Or e = absurd (omega arith)
 
-returns-2 : tie.Need-returns-2
-returns-2 c = on
+returns_2 : tie.Need-returns-2
+returns_2 c = on
   where
-    on : (o : Op2) → c.before.before.args.code ≡ code2 o → 1 ≡ levelOf o
+    on : (o : Op2) → c.before.before.args.code ≡ code2 o → 1 ≡ level_of o
     on Plus e = absurd (omega arith)
     on Minus e = absurd (omega arith)
     on Times e = refl
@@ -46,10 +46,10 @@ returns-2 c = on
     on And e = absurd (omega arith)
     on Or e = absurd (omega arith)
 
-returns-3 : tie.Need-returns-3
-returns-3 c = on
+returns_3 : tie.Need-returns-3
+returns_3 c = on
   where
-    on : (o : Op2) → c.before.before.before.args.code ≡ code2 o → 3 ≡ levelOf o
+    on : (o : Op2) → c.before.before.before.args.code ≡ code2 o → 3 ≡ level_of o
     on Plus e = absurd (omega arith)
     on Minus e = absurd (omega arith)
     on Times e = absurd (omega arith)
@@ -58,10 +58,10 @@ returns-3 c = on
     on And e = refl
     on Or e = absurd (omega arith)
 
-returns-4 : tie.Need-returns-4
-returns-4 c = on
+returns_4 : tie.Need-returns-4
+returns_4 c = on
   where
-    on : (o : Op2) → c.before.before.before.before.args.code ≡ code2 o → 4 ≡ levelOf o
+    on : (o : Op2) → c.before.before.before.before.args.code ≡ code2 o → 4 ≡ level_of o
     on Plus e = absurd (omega arith)
     on Minus e = absurd (omega arith)
     on Times e = absurd (omega arith)
@@ -70,10 +70,10 @@ returns-4 c = on
     on And e = absurd (omega arith)
     on Or e = absurd (omega arith)
 
-returns-5 : tie.Need-returns-5
-returns-5 c = on
+returns_5 : tie.Need-returns-5
+returns_5 c = on
   where
-    on : (o : Op2) → c.before.before.before.before.args.code ≡ code2 o → 5 ≡ levelOf o
+    on : (o : Op2) → c.before.before.before.before.args.code ≡ code2 o → 5 ≡ level_of o
     on Plus e = absurd (omega arith)
     on Minus e = absurd (omega arith)
     on Times e = absurd (omega arith)
@@ -82,5 +82,5 @@ returns-5 c = on
     on And e = absurd (omega arith)
     on Or e = refl
 
-pub level-of-spec : {M : Type 1} → statement M
-level-of-spec = tie.close (tie.spec returns returns-2 returns-3 returns-4 returns-5)
+pub level_of_spec : {M : Type 1} → statement M
+level_of_spec = tie.close (tie.spec returns returns_2 returns_3 returns_4 returns_5)

@@ -12,22 +12,22 @@ use Rattle.sums.proofs.past.Statement.{statement}
 use Rattle.sums.proofs.past.Tie as tie
 use Rattle.sums.proofs.past.Reads as reads
 use Rattle.sums.proofs.past.Lts as lts
-use Rattle.leaves.proofs.lexing.spaces.Reads as spaces-reads
+use Rattle.leaves.proofs.lexing.spaces.Reads as spaces_reads
 
-sub-spaces : tie.Need-overflow-sub-spaces
-sub-spaces c = search rules
+sub_spaces : tie.Need-overflow-sub-spaces
+sub_spaces c = search rules
 
-part-spaces-start : tie.Need-slice-bounds-spaces-start
-part-spaces-start c = search rules
+part_spaces_start : tie.Need-slice-bounds-spaces-start
+part_spaces_start c = search rules
 
-part-spaces-end : tie.Need-slice-bounds-spaces-end
-part-spaces-end c = search rules
+part_spaces_end : tie.Need-slice-bounds-spaces-end
+part_spaces_end c = search rules
 
-spaces-requires : tie.Need-spaces-requires
-spaces-requires c κs = search rules
+spaces_requires : tie.Need-spaces-requires
+spaces_requires c κs = search rules
 
-add-result : tie.Need-overflow-add-result
-add-result c = search rules
+add_result : tie.Need-overflow-add-result
+add_result c = search rules
 
 returns : tie.Need-returns
 returns c =
@@ -35,7 +35,7 @@ returns c =
     let p = past_is 1 c.spaces.result k.args.s.now k.requires c.spaces.ensures.0 c.spaces.ensures.1 in
     (omega arith, p.0, p.1)
 
-pub past-spec : {M : Type 1} → statement M
-past-spec =
+pub past_spec : {M : Type 1} → statement M
+past_spec =
     tie.close
-    (tie.spec sub-spaces part-spaces-start part-spaces-end spaces-requires add-result returns)
+    (tie.spec sub_spaces part_spaces_start part_spaces_end spaces_requires add_result returns)

@@ -6,49 +6,49 @@ use Rattle.leaves.specs.declared.Found.TheVariants.{Ends, Stuck}
 use Rattle.grammar.specs.Reading.{look}
 use Rattle.leaves.specs.Answering.{takes, after_of}
 use lib.Seq.{drop-drop}
-use Rattle.grammar.specs.Going.{skip, infixOf}
+use Rattle.grammar.specs.Going.{skip, infix_of}
 use Rattle.leaves.specs.Answering.{code_of}
-use Rattle.leaves.proofs.Leafs.{rest-is}
-use Rattle.sums.proofs.Readings.{past_is, spaced-look, gap-stuck, gap-op, gap-near}
+use Rattle.leaves.proofs.Leafs.{rest_is}
+use Rattle.sums.proofs.Readings.{past_is, spaced_look, gap_stuck, gap_op, gap_near}
 use native.Mathlib.Omega.{arith}
 use borrow.Author.Rules.{rules}
 use Rattle.sums.proofs.trail.Statement.{statement}
 use Rattle.sums.proofs.trail.Tie as tie
 use Rattle.sums.proofs.trail.Reads as reads
 use Rattle.sums.proofs.trail.Lts as lts
-use Rattle.leaves.proofs.lexing.look.Reads as look-reads
-use Rattle.leaves.proofs.lexing.spaces.Reads as spaces-reads
-use Rattle.sums.proofs.infix_of.Reads as infix-of-reads
+use Rattle.leaves.proofs.lexing.look.Reads as look_reads
+use Rattle.leaves.proofs.lexing.spaces.Reads as spaces_reads
+use Rattle.sums.proofs.infix_of.Reads as infix_of_reads
 
-sub-t : tie.Need-overflow-sub-t
-sub-t c = search rules
+sub_t : tie.Need-overflow-sub-t
+sub_t c = search rules
 
-part-t-start : tie.Need-slice-bounds-t-start
-part-t-start c = search rules
+part_t_start : tie.Need-slice-bounds-t-start
+part_t_start c = search rules
 
-part-t-end : tie.Need-slice-bounds-t-end
-part-t-end c = search rules
+part_t_end : tie.Need-slice-bounds-t-end
+part_t_end c = search rules
 
-spaces-requires : tie.Need-spaces-requires
-spaces-requires c κs = search rules
+spaces_requires : tie.Need-spaces-requires
+spaces_requires c κs = search rules
 
-add-k : tie.Need-overflow-add-k
-add-k c = search rules
+add_k : tie.Need-overflow-add-k
+add_k c = search rules
 
-sub-look : tie.Need-overflow-sub-look
-sub-look c = search rules
+sub_look : tie.Need-overflow-sub-look
+sub_look c = search rules
 
-part-look-start : tie.Need-slice-bounds-look-start
-part-look-start c = search rules
+part_look_start : tie.Need-slice-bounds-look-start
+part_look_start c = search rules
 
-part-look-end : tie.Need-slice-bounds-look-end
-part-look-end c = search rules
+part_look_end : tie.Need-slice-bounds-look-end
+part_look_end c = search rules
 
-look-requires : tie.Need-look-requires
-look-requires c κs = search rules
+look_requires : tie.Need-look-requires
+look_requires c κs = search rules
 
-infix-of-requires : tie.Need-infix-of-requires
-infix-of-requires c κs = search rules
+infix_of_requires : tie.Need-infix-of-requires
+infix_of_requires c κs = search rules
 
 returns : tie.Need-returns
 returns c =
@@ -60,12 +60,12 @@ returns c =
     let e : drop n s ≡ drop n s = refl in
     let d : drop w.result (drop n s) ≡ skip (drop n s) = drop-drop w.result n s ∙ p.1 in (
       p.0,
-      gap-stuck (drop n s) (drop (n + w.result) s) c.before.infix-of.result (spaced-look (drop n s) w.result (omega arith) (omega (arith, length-drop n s, p.0)) d) p.1
-          (c.before.infix-of.ensures ∙ ap (λ x. code_of (infixOf x)) (c.before.before.look.ensures ∙ ap look (rest-is (n + w.result) s))) c.if2.true,
+      gap_stuck (drop n s) (drop (n + w.result) s) c.before.infix_of.result (spaced_look (drop n s) w.result (omega arith) (omega (arith, length-drop n s, p.0)) d) p.1
+          (c.before.infix_of.ensures ∙ ap (λ x. code_of (infix_of x)) (c.before.before.look.ensures ∙ ap look (rest_is (n + w.result) s))) c.if2.true,
     )
 
-returns-2 : tie.Need-returns-2
-returns-2 c =
+returns_2 : tie.Need-returns-2
+returns_2 c =
     let k = c.before.before.before.before.before.before.before.before in
     let s = k.args.s.now in
     let n = k.args.n in
@@ -75,12 +75,12 @@ returns-2 c =
     let d : drop w.result (drop n s) ≡ skip (drop n s) = drop-drop w.result n s ∙ p.1 in (
       refl,
       p.0,
-      gap-op (drop n s) (drop (n + w.result) s) c.before.infix-of.result (spaced-look (drop n s) w.result (omega arith) (omega (arith, length-drop n s, p.0)) d) p.1
-          (c.before.infix-of.ensures ∙ ap (λ x. code_of (infixOf x)) (c.before.before.look.ensures ∙ ap look (rest-is (n + w.result) s))) c.if2.false,
+      gap_op (drop n s) (drop (n + w.result) s) c.before.infix_of.result (spaced_look (drop n s) w.result (omega arith) (omega (arith, length-drop n s, p.0)) d) p.1
+          (c.before.infix_of.ensures ∙ ap (λ x. code_of (infix_of x)) (c.before.before.look.ensures ∙ ap look (rest_is (n + w.result) s))) c.if2.false,
     )
 
-returns-3 : tie.Need-returns-3
-returns-3 c =
+returns_3 : tie.Need-returns-3
+returns_3 c =
     let k = c.before.before.before.before in
     let s = k.args.s.now in
     let n = k.args.n in
@@ -89,22 +89,22 @@ returns-3 c =
     let e : drop n s ≡ drop n s = refl in
     let d : drop w.result (drop n s) ≡ skip (drop n s) = drop-drop w.result n s ∙ p.1 in
     let z : n + w.result ≡ n = omega arith in
-    (refl, p.0, gap-near (drop n s) (drop (n + w.result) s) (ap (λ x. drop x s) z) p.1)
+    (refl, p.0, gap_near (drop n s) (drop (n + w.result) s) (ap (λ x. drop x s) z) p.1)
 
-pub trail-spec : {M : Type 1} → statement M
-trail-spec =
+pub trail_spec : {M : Type 1} → statement M
+trail_spec =
     tie.close
     (tie.spec
-    sub-t
-    part-t-start
-    part-t-end
-    spaces-requires
-    add-k
-    sub-look
-    part-look-start
-    part-look-end
-    look-requires
-    infix-of-requires
+    sub_t
+    part_t_start
+    part_t_end
+    spaces_requires
+    add_k
+    sub_look
+    part_look_start
+    part_look_end
+    look_requires
+    infix_of_requires
     returns
-    returns-2
-    returns-3)
+    returns_2
+    returns_3)

@@ -2,13 +2,13 @@
 use mathlib.Core.List.{List, [], ◌∷◌, map}
 use Prim.Native.Nat.{ℕ}
 use borrow.Author.Rules.{rules}
-use Rattle.laws.specs.Counts.{allTo}
+use Rattle.laws.specs.Counts.{all_to}
 use Rattle.laws.specs.Lists.{same}
-use Rattle.rules.specs.Forms.{formAt}
+use Rattle.rules.specs.Forms.{form_at}
 use Rattle.text.specs.Text.{mnemonic}
 use Rattle.rules.specs.Patterns.{codes}
 use Rattle.text.specs.Words.{said}
-use Rattle.text.proofs.Tables.{word-is}
+use Rattle.text.proofs.Tables.{word_is}
 use Rattle.text.proofs.mnemonic.Statement.{statement}
 use Rattle.text.proofs.mnemonic.Tie as tie
 
@@ -25,8 +25,8 @@ rows = map (λ s. codes s) (
     [])
 
 returns : tie.Need-returns
-unfolding rows allTo said mnemonic formAt same
-returns c = word-is (λ f. mnemonic f) [] rows 70 tt c.before.args.form (search rules)
+unfolding rows all_to said mnemonic form_at same
+returns c = word_is (λ f. mnemonic f) [] rows 70 tt c.before.args.form (search rules)
 
-pub mnemonic-spec : {M : Type 1} → statement M
-mnemonic-spec = tie.close (tie.spec (λ c. search rules) (λ c. search rules) returns)
+pub mnemonic_spec : {M : Type 1} → statement M
+mnemonic_spec = tie.close (tie.spec (λ c. search rules) (λ c. search rules) returns)

@@ -10,19 +10,19 @@ use Rattle.anchors.proofs.anchoring.label_of.Tie as tie
 small : (c : tie.After-known-told) → Small (At c.before.o.given.0.0 c.before.o.given.0.1.0)
 small c = subst Small c.before.o.given.1 c.before.before.before.requires
 
-cast-t5 : tie.Need-overflow-cast-t5
-cast-t5 c = omega (arith, (small c.before).0)
+cast_t5 : tie.Need-overflow-cast-t5
+cast_t5 c = omega (arith, (small c.before).0)
 
-cast-t6 : tie.Need-overflow-cast-t6
-cast-t6 c = omega (arith, (small c.before).1)
+cast_t6 : tie.Need-overflow-cast-t6
+cast_t6 c = omega (arith, (small c.before).1)
 
-pub label-of-spec : {M : Type 1} → statement M
-label-of-spec =
+pub label_of_spec : {M : Type 1} → statement M
+label_of_spec =
     tie.close
     (tie.spec
     (λ c. search rules)
-    cast-t5
-    cast-t6
+    cast_t5
+    cast_t6
     (λ c. search rules)
     (λ c. search rules)
     (λ c. search rules)

@@ -13,8 +13,8 @@ returns c =
     let s = c.before.before.before in
     ap (λ (n : ℕ). eqb (get_or s.args.positions.now n 0) (get_or s.args.positions.now s.args.at.0 0)) (add-one s.args.j.0)
 
-pub meets-spec : {M : Type 1} → statement M
-meets-spec =
+pub meets_spec : {M : Type 1} → statement M
+meets_spec =
     tie.close
     (tie.spec
     (λ c. search rules)

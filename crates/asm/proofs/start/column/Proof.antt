@@ -12,14 +12,14 @@ use Rattle.laws.proofs.Counts.{below_suc}
 use Rattle.asm.proofs.start.column.Statement.{statement}
 use Rattle.asm.proofs.start.column.Tie as tie
 
-abbrev invariant-loop : tie.invariant-loop
-invariant-loop starts from r₀ i₀ r i = (i ≤ 1025) × (length r ≡ 1025) × ((k : ℕ) → k < i → get_or r k 0 ≡ get_or starts (from + k) 0)
+abbrev invariant_loop : tie.invariant_loop
+invariant_loop starts from r₀ i₀ r i = (i ≤ 1025) × (length r ≡ 1025) × ((k : ℕ) → k < i → get_or r k 0 ≡ get_or starts (from + k) 0)
 
-abbrev decreases-loop : tie.decreases-loop
-decreases-loop starts from r₀ i₀ r i = 1025 - i
+abbrev decreases_loop : tie.decreases_loop
+decreases_loop starts from r₀ i₀ r i = 1025 - i
 
-loop-holds : tie.Need-loop-init invariant-loop decreases-loop
-loop-holds c = (omega arith, length-replicate {A = ℕ} 1025 0, λ k l. absurd (omega arith))
+loop_holds : tie.Need-loop-init invariant_loop decreases_loop
+loop_holds c = (omega arith, length-replicate {A = ℕ} 1025 0, λ k l. absurd (omega arith))
 
 -- one number more
 next : (starts r : List ℕ) (from i : ℕ) → i < length r → ((k : ℕ) → k < i → get_or r k 0 ≡ get_or starts (from + k) 0)
@@ -30,8 +30,8 @@ next starts r from i h below k l =
     (λ lt. get_or-set_other r i k (get_or starts (from + i) 0) 0 (λ e. omega arith) ∙ below k lt)
     (below_suc k i (let m : k < suc i = omega arith in m))
 
-loop-again : tie.Need-loop-preserved invariant-loop decreases-loop
-loop-again c =
+loop_again : tie.Need-loop-preserved invariant_loop decreases_loop
+loop_again c =
     let l = c.before.before.loop in
     let s = c.before.before.before in (
       omega arith,
@@ -39,16 +39,16 @@ loop-again c =
       next s.args.starts.now l.r s.args.from l.i (omega (arith, l.invariant.1)) l.invariant.2,
     )
 
-returns : tie.Need-returns invariant-loop decreases-loop
+returns : tie.Need-returns invariant_loop decreases_loop
 returns c = let l = c.before.loop in (l.invariant.1, λ i h. l.invariant.2 i (omega arith))
 
-pub column-spec : {M : Type 1} → statement M
-column-spec =
+pub column_spec : {M : Type 1} → statement M
+column_spec =
     tie.close
     (tie.spec
-    invariant-loop
-    decreases-loop
-    loop-holds
+    invariant_loop
+    decreases_loop
+    loop_holds
     (λ c. omega arith)
     (λ c. omega arith)
     (λ c. omega arith)
@@ -56,5 +56,5 @@ column-spec =
     (λ c. omega arith)
     (λ c. omega arith)
     (λ c. omega arith)
-    loop-again
+    loop_again
     returns)

@@ -8,10 +8,10 @@ use borrow.Author.Rules.{rules}
 use Rattle.laws.proofs.Stores.{undone}
 use Rattle.rules.specs.Programs.{Program}
 use Rattle.slots.specs.Slots.{Slots}
-use Rattle.slots.specs.State.{formsIn, carryIn, table_of}
+use Rattle.slots.specs.State.{forms_in, carry_in, table_of}
 use Rattle.slots.proofs.State.{kept_more}
 use Rattle.attempts.specs.Folds.{inverted}
-use Rattle.attempts.proofs.Attempts.{Holding, inverted-holds, held_kept, beside-kept, table_same, tried-kept, tried-none, tried-back, undone-two}
+use Rattle.attempts.proofs.Attempts.{Holding, inverted_holds, held_kept, beside_kept, table_same, tried_kept, tried_none, tried_back, undone_two}
 use Rattle.attempts.proofs.folds.attempt_inverted.Statement.{statement}
 use Rattle.attempts.proofs.folds.attempt_inverted.Tie as tie
 
@@ -22,10 +22,10 @@ at_in s = omega (arith, s.requires.0.sound.held.few, s.requires.1.branches.insid
 jump_in : (s : tie.Start) → s.args.jump.0 < 1024
 jump_in s = omega (arith, s.requires.0.sound.held.few, s.requires.1.jumps.inside)
 
-put-two-requires : tie.Need-put-two-requires
-put-two-requires c κs =
+put_two_requires : tie.Need-put-two-requires
+put_two_requires c κs =
     let s = c.before.before.before.before.before.before.before.before in
-    (s.requires.0.forms-full, s.requires.0.carry-full, at_in s, jump_in s)
+    (s.requires.0.forms_full, s.requires.0.carry_full, at_in s, jump_in s)
 
 -- the candidate, in place
 module _ (c : tie.After-put-two) where
@@ -50,48 +50,48 @@ module _ (c : tie.After-put-two) where
   held : Holding new folded
   held =
       held_kept start.args.frames.now state edited start.args.count c.put_two.ensures.2 folded
-      (inverted-holds _ _ _ _ _ _ _ start.pre.0 start.args.to start.args.at.0 start.args.jump.0 (formsIn edited) (carryIn edited) start.pre.1
+      (inverted_holds _ _ _ _ _ _ _ start.pre.0 start.args.to start.args.at.0 start.args.jump.0 (forms_in edited) (carry_in edited) start.pre.1
       c.put_two.ensures.0 c.put_two.ensures.1)
 
-acceptable-requires : tie.Need-acceptable-requires
-acceptable-requires c κs =
+acceptable_requires : tie.Need-acceptable-requires
+acceptable_requires c κs =
     let p = c.before in
     let s = start p in
-    ((held p).stands, s.pre.1.branches.inside, beside-kept s.args.frames.now (state p) (edited p) s.args.count p.put_two.ensures.2 _ s.pre.2)
+    ((held p).stands, s.pre.1.branches.inside, beside_kept s.args.frames.now (state p) (edited p) s.args.count p.put_two.ensures.2 _ s.pre.2)
 
 returns : tie.Need-returns
 returns c =
     let a = c.before in
     let p = a.before.before in
-    tried-kept (folded p) (old p) (new p) (held p) a.acceptable.result a.acceptable.ensures c.if1.true p.put_two.ensures.2.starts
+    tried_kept (folded p) (old p) (new p) (held p) a.acceptable.result a.acceptable.ensures c.if1.true p.put_two.ensures.2.starts
 
-put-two-requires-2 : tie.Need-put-two-requires-2
-put-two-requires-2 c κs =
+put_two_requires_2 : tie.Need-put-two-requires-2
+put_two_requires_2 c κs =
     let p = c.before.before.before.before in
     let s = (held p).stands in
-    (s.forms-full, s.carry-full, at_in (start p), jump_in (start p))
+    (s.forms_full, s.carry_full, at_in (start p), jump_in (start p))
 
-returns-2 : tie.Need-returns-2
-returns-2 c =
+returns_2 : tie.Need-returns-2
+returns_2 c =
     let f = c.before.before in
     let a = f.before in
     let p = a.before.before in
     let s = start p in
     let i = s.args.at.0 in
     let j = s.args.jump.0 in
-    let r = c.put-two2.new.0 in
+    let r = c.put_two2.new.0 in
     let one = p.before.before.before.before.before.before in
     let two = p.before.before.before.before in
-    let back : formsIn r ≡ formsIn (state p) =
-    undone-two (formsIn (state p)) (formsIn (edited p)) (formsIn r) i j _ _ s.pre.1.rises p.put_two.ensures.0
-    (c.put-two2.ensures.0 ∙ ap₂ (λ (x y : ℕ). set (set (formsIn (edited p)) i x) j y) one.form_in.ensures two.form-in2.ensures) in
-    tried-back _ (old p) _ s.pre.0
-    (tried-none (folded p) (old p) (new p) (held p) a.acceptable.result a.acceptable.ensures f.if1.false)
-    (table_same s.args.frames.now (state p) r s.args.count (kept_more (state p) (edited p) r p.put_two.ensures.2 c.put-two2.ensures.2) back
-    (undone (carryIn (state p)) (carryIn (edited p)) (carryIn r) i _ _ 0 p.put_two.ensures.1 refl c.put-two2.ensures.1))
+    let back : forms_in r ≡ forms_in (state p) =
+    undone_two (forms_in (state p)) (forms_in (edited p)) (forms_in r) i j _ _ s.pre.1.rises p.put_two.ensures.0
+    (c.put_two2.ensures.0 ∙ ap₂ (λ (x y : ℕ). set (set (forms_in (edited p)) i x) j y) one.form_in.ensures two.form_in2.ensures) in
+    tried_back _ (old p) _ s.pre.0
+    (tried_none (folded p) (old p) (new p) (held p) a.acceptable.result a.acceptable.ensures f.if1.false)
+    (table_same s.args.frames.now (state p) r s.args.count (kept_more (state p) (edited p) r p.put_two.ensures.2 c.put_two2.ensures.2) back
+    (undone (carry_in (state p)) (carry_in (edited p)) (carry_in r) i _ _ 0 p.put_two.ensures.1 refl c.put_two2.ensures.1))
 
-pub attempt-inverted-spec : {M : Type 1} → statement M
-attempt-inverted-spec =
+pub attempt_inverted_spec : {M : Type 1} → statement M
+attempt_inverted_spec =
     tie.close
     (tie.spec
     (λ c κs. omega (arith, at_in c.before.before))
@@ -102,8 +102,8 @@ attempt-inverted-spec =
     (λ c. search rules)
     (λ c. search rules)
     (λ c. omega (arith, jump_in c.before.before.before.before.before.before))
-    put-two-requires
-    acceptable-requires
+    put_two_requires
+    acceptable_requires
     returns
-    put-two-requires-2
-    returns-2)
+    put_two_requires_2
+    returns_2)

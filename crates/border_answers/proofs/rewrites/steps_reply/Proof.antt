@@ -1,16 +1,16 @@
 -- `border_answers::rewrites::steps_reply` meets its contract.
 use mathlib.Core.Path.{sym}
 use borrow.Author.Rules.{rules}
-use Rattle.border_answers.proofs.Same.{steps-same}
+use Rattle.border_answers.proofs.Same.{steps_same}
 use Rattle.border_answers.proofs.rewrites.steps_reply.Statement.{statement}
 use Rattle.border_answers.proofs.rewrites.steps_reply.Tie as tie
 
 returns : tie.Need-returns
-returns c = steps-same _ _ _ (sym c.before.before.answer.given.1) c.refused.ensures
+returns c = steps_same _ _ _ (sym c.before.before.answer.given.1) c.refused.ensures
 
-returns-2 : tie.Need-returns-2
-returns-2 c = search rules
+returns_2 : tie.Need-returns-2
+returns_2 c = search rules
 
-pub steps-reply-spec : {M : Type 1} → statement M
-steps-reply-spec =
-    tie.close (tie.spec (λ c. search rules) (λ c κs. search rules) (λ c. search rules) returns returns-2)
+pub steps_reply_spec : {M : Type 1} → statement M
+steps_reply_spec =
+    tie.close (tie.spec (λ c. search rules) (λ c κs. search rules) (λ c. search rules) returns returns_2)

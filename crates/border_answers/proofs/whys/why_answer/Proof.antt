@@ -1,16 +1,16 @@
 -- `border_answers::whys::why_answer` meets its contract, on every input.
 use borrow.Author.Rules.{rules}
-use Rattle.border_answers.proofs.Same.{steps-same}
-use Rattle.border_answers.proofs.Asked.{why-as-asked}
+use Rattle.border_answers.proofs.Same.{steps_same}
+use Rattle.border_answers.proofs.Asked.{why_as_asked}
 use Rattle.border_answers.proofs.whys.why_answer.Statement.{statement}
 use Rattle.border_answers.proofs.whys.why_answer.Tie as tie
 
 returns : tie.Need-returns
 returns c =
     let s = c.before.before.before.before.before.before.before.before in
-    let a = why-as-asked _ _ s.args.listing.now s.args.out.now _ _ c.before.before.before.before.before.settings-of.ensures c.before.before.before.why.ensures in
-    (steps-same _ _ _ a.answer c.steps-reply.ensures, a.room)
+    let a = why_as_asked _ _ s.args.listing.now s.args.out.now _ _ c.before.before.before.before.before.settings_of.ensures c.before.before.before.why.ensures in
+    (steps_same _ _ _ a.answer c.steps_reply.ensures, a.room)
 
-pub why-answer-spec : {M : Type 1} → statement M
-why-answer-spec =
+pub why_answer_spec : {M : Type 1} → statement M
+why_answer_spec =
     tie.close (tie.spec (λ c κs. search rules) (λ c κs. search rules) (λ c κs. search rules) (λ c. search rules) returns)

@@ -1,6 +1,6 @@
 -- `border_core::pages::mortarbee_print_run` meets its contract, on every input.
 use borrow.Author.Rules.{rules}
-use Rattle.border_core.proofs.Same.{printed-as-asked}
+use Rattle.border_core.proofs.Same.{printed_as_asked}
 use Rattle.border_core.proofs.pages.mortarbee_print_run.Statement.{statement}
 use Rattle.border_core.proofs.pages.mortarbee_print_run.Tie as tie
 
@@ -10,10 +10,10 @@ returns c =
     let y = o.before.before.before in
     let s = y.before.before in
     record {
-      answer = o.print-run.result;
-      says = c.printed-reply.ensures;
-      leaves = printed-as-asked _ _ y.settings-of.ensures s.args.listing.now s.args.page.now s.args.image.now _ _ _ o.print-run.ensures;
+      answer = o.print_run.result;
+      says = c.printed_reply.ensures;
+      leaves = printed_as_asked _ _ y.settings_of.ensures s.args.listing.now s.args.page.now s.args.image.now _ _ _ o.print_run.ensures;
     }
 
-pub mortarbee-print-run-spec : {M : Type 1} → statement M
-mortarbee-print-run-spec = tie.close (tie.spec (λ c κs. search rules) (λ c κs. search rules) (λ c κs. search rules) returns)
+pub mortarbee_print_run_spec : {M : Type 1} → statement M
+mortarbee_print_run_spec = tie.close (tie.spec (λ c κs. search rules) (λ c κs. search rules) (λ c κs. search rules) returns)

@@ -5,20 +5,20 @@ use Rattle.border_core.proofs.Same.{says_same}
 use Rattle.border_core.proofs.replies.reply_of.Statement.{statement}
 use Rattle.border_core.proofs.replies.reply_of.Tie as tie
 
-enum-known-answer : tie.Need-enum-known-answer
-enum-known-answer c = search rules
+enum_known_answer : tie.Need-enum-known-answer
+enum_known_answer c = search rules
 
-refused-requires : tie.Need-refused-requires
-refused-requires c κs = search rules
+refused_requires : tie.Need-refused-requires
+refused_requires c κs = search rules
 
-enum-known-answer-2 : tie.Need-enum-known-answer-2
-enum-known-answer-2 c = search rules
+enum_known_answer_2 : tie.Need-enum-known-answer-2
+enum_known_answer_2 c = search rules
 
 returns : tie.Need-returns
 returns c = says_same _ _ _ (sym c.before.before.answer.given.1) c.refused.ensures
 
-returns-2 : tie.Need-returns-2
-returns-2 c = search rules
+returns_2 : tie.Need-returns-2
+returns_2 c = search rules
 
-pub reply-of-spec : {M : Type 1} → statement M
-reply-of-spec = tie.close (tie.spec enum-known-answer refused-requires enum-known-answer-2 returns returns-2)
+pub reply_of_spec : {M : Type 1} → statement M
+reply_of_spec = tie.close (tie.spec enum_known_answer refused_requires enum_known_answer_2 returns returns_2)

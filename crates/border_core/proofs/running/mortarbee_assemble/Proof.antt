@@ -4,17 +4,17 @@ use Rattle.border_core.proofs.Same.{says_same}
 use Rattle.border_core.proofs.running.mortarbee_assemble.Statement.{statement}
 use Rattle.border_core.proofs.running.mortarbee_assemble.Tie as tie
 
-assemble-requires : tie.Need-assemble-requires
-assemble-requires c κs = search rules
+assemble_requires : tie.Need-assemble-requires
+assemble_requires c κs = search rules
 
-reply-of-requires : tie.Need-reply-of-requires
-reply-of-requires c κs = search rules
+reply_of_requires : tie.Need-reply-of-requires
+reply_of_requires c κs = search rules
 
 same_length : tie.Need-same-length
 same_length c = search rules
 
 returns : tie.Need-returns
-returns c = let a = c.before.before.before.assemble.ensures in record { says = says_same _ _ _ a.answer c.reply-of.ensures; room-is = a.room }
+returns c = let a = c.before.before.before.assemble.ensures in record { says = says_same _ _ _ a.answer c.reply_of.ensures; room_is = a.room }
 
-pub mortarbee-assemble-spec : {M : Type 1} → statement M
-mortarbee-assemble-spec = tie.close (tie.spec assemble-requires reply-of-requires same_length returns)
+pub mortarbee_assemble_spec : {M : Type 1} → statement M
+mortarbee_assemble_spec = tie.close (tie.spec assemble_requires reply_of_requires same_length returns)

@@ -6,8 +6,8 @@ use Rattle.border_core.proofs.running.mortarbee_positions.Tie as tie
 
 returns : tie.Need-returns
 returns c =
-    let a = c.before.before.all-sit.ensures in
-    record { says = counted_same _ _ _ a.answer c.counted-reply.ensures; table_is = a.table }
+    let a = c.before.before.all_sit.ensures in
+    record { says = counted_same _ _ _ a.answer c.counted_reply.ensures; table_is = a.table }
 
-pub mortarbee-positions-spec : {M : Type 1} → statement M
-mortarbee-positions-spec = tie.close (tie.spec (λ c κs. search rules) (λ c κs. search rules) returns)
+pub mortarbee_positions_spec : {M : Type 1} → statement M
+mortarbee_positions_spec = tie.close (tie.spec (λ c κs. search rules) (λ c κs. search rules) returns)

@@ -6,7 +6,7 @@ use Rattle.border_differences.proofs.differing.tell_differences.Tie as tie
 returns : tie.Need-returns
 returns c =
     let a = c.before.before.before.differences in
-    record { answer = a.result; says = c.reply-of.ensures; leaves = a.ensures }
+    record { answer = a.result; says = c.reply_of.ensures; leaves = a.ensures }
 
-pub tell-differences-spec : {M : Type 1} → statement M
-tell-differences-spec = tie.close (tie.spec (λ c κs. search rules) (λ c κs. search rules) (λ c. search rules) returns)
+pub tell_differences_spec : {M : Type 1} → statement M
+tell_differences_spec = tie.close (tie.spec (λ c κs. search rules) (λ c κs. search rules) (λ c. search rules) returns)

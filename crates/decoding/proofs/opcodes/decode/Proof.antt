@@ -2,17 +2,17 @@
 -- bytes are none of the former. Assumes nothing.
 use Prim.Native.Nat.{zero-le}
 use native.Mathlib.Omega.{arith}
-use Rattle.laws.specs.Counts.{allTo}
+use Rattle.laws.specs.Counts.{all_to}
 use Rattle.laws.specs.Lists.{every}
-use Rattle.rules.specs.Forms.{formAt}
-use Rattle.decoding.specs.Opcodes.{formAmong, formOfByte}
-use Rattle.decoding.proofs.Arms.{arm, rest-arm}
+use Rattle.rules.specs.Forms.{form_at}
+use Rattle.decoding.specs.Opcodes.{form_among, form_of_byte}
+use Rattle.decoding.proofs.Arms.{arm, rest_arm}
 use Rattle.decoding.proofs.opcodes.decode.Statement.{statement}
 use Rattle.decoding.proofs.opcodes.decode.Tie as tie
 
-pub decode-spec : {M : Type 1} → statement M
-unfolding allTo every formAt formAmong formOfByte
-decode-spec =
+pub decode_spec : {M : Type 1} → statement M
+unfolding all_to every form_at form_among form_of_byte
+decode_spec =
     tie.close
     (tie.spec
     (λ c. arm 0x00 1 0x43 1 tt {b = c.before.args.b} (omega arith) (omega arith))
@@ -43,53 +43,53 @@ decode-spec =
     (λ c. arm 0xE1 1 0x12 2 tt {b = c.before.args.b} (omega arith) (omega arith))
     (λ c. arm 0xF0 1 0x1C 1 tt {b = c.before.args.b} (omega arith) (omega arith))
     (λ c. arm 0xF1 1 0x18 2 tt {b = c.before.args.b} (omega arith) (omega arith))
-    (λ c. rest-arm 0x00 4 0x1F 2 tt {b = c.before.before.before.before.before.args.b} c.before.before.before.before.match.rest zero-le c.if4.true)
-    (λ c. rest-arm 0x04 4 0x20 1 tt {b = c.before.before.before.before.before.before.args.b} c.before.before.before.before.before.match.rest c.before.if4.false c.if5.true)
-    (λ c. rest-arm 0x08 8 0x3B 2 tt {b = c.before.before.before.before.before.before.before.args.b} c.before.before.before.before.before.before.match.rest c.before.if5.false c.if6.true)
-    (λ c. rest-arm 0x10 4 0x21 2 tt {b = c.before.before.before.before.before.before.before.before.args.b} c.before.before.before.before.before.before.before.match.rest c.before.if6.false c.if7.true)
-    (λ c. rest-arm 0x14 4 0x22 1 tt {b = c.before.before.before.before.before.before.before.before.before.args.b} c.before.before.before.before.before.before.before.before.match.rest c.before.if7.false c.if8.true)
-    (λ c. rest-arm 0x18 8 0x3B 2 tt {b = c.before.before.before.before.before.before.before.before.before.before.args.b} c.before.before.before.before.before.before.before.before.before.match.rest c.before.if8.false c.if9.true)
-    (λ c. rest-arm 0x20 4 0x23 3 tt {b = c.before.before.before.before.before.before.before.before.before.before.args.b} c.before.before.before.before.before.before.before.before.before.match.rest c.if9.false c.before.before.before.before.before.before.if3.true)
-    (λ c. rest-arm 0x24 4 0x24 2 tt {b = c.before.before.before.before.before.args.b} c.before.before.before.before.match.rest c.before.if3.false c.if10.true)
-    (λ c. rest-arm 0x28 8 0x2A 2 tt {b = c.before.before.before.before.before.before.args.b} c.before.before.before.before.before.match.rest c.before.if10.false c.if11.true)
-    (λ c. rest-arm 0x30 4 0x36 3 tt {b = c.before.before.before.before.before.before.before.args.b} c.before.before.before.before.before.before.match.rest c.before.if11.false c.if12.true)
-    (λ c. rest-arm 0x34 4 0x37 3 tt {b = c.before.before.before.before.before.before.before.before.args.b} c.before.before.before.before.before.before.before.match.rest c.before.if12.false c.if13.true)
-    (λ c. rest-arm 0x38 8 0x2A 2 tt {b = c.before.before.before.before.before.before.before.before.before.args.b} c.before.before.before.before.before.before.before.before.match.rest c.before.if13.false c.if14.true)
-    (λ c. rest-arm 0x40 4 0x39 3 tt {b = c.before.before.before.before.before.before.before.before.before.args.b} c.before.before.before.before.before.before.before.before.match.rest c.if14.false c.before.before.before.before.before.before.if2.true)
-    (λ c. rest-arm 0x44 4 0x3A 3 tt {b = c.before.before.before.before.before.args.b} c.before.before.before.before.match.rest c.before.before.if2.false c.if16.true)
-    (λ c. rest-arm 0x48 8 0x31 3 tt {b = c.before.before.before.before.before.before.args.b} c.before.before.before.before.before.match.rest c.before.if16.false c.if17.true)
-    (λ c. rest-arm 0x50 4 0x33 3 tt {b = c.before.before.before.before.before.before.before.args.b} c.before.before.before.before.before.before.match.rest c.before.if17.false c.if18.true)
-    (λ c. rest-arm 0x54 4 0x34 2 tt {b = c.before.before.before.before.before.before.before.before.args.b} c.before.before.before.before.before.before.before.match.rest c.before.if18.false c.if19.true)
-    (λ c. rest-arm 0x58 8 0x31 3 tt {b = c.before.before.before.before.before.before.before.before.before.args.b} c.before.before.before.before.before.before.before.before.match.rest c.before.if19.false c.if20.true)
-    (λ c. rest-arm 0x60 2 0x26 2 tt {b = c.before.before.before.before.before.before.before.before.before.args.b} c.before.before.before.before.before.before.before.before.match.rest c.if20.false c.before.before.before.before.before.if15.true)
-    (λ c. rest-arm 0x62 2 0x0C 2 tt {b = c.before.before.before.before.before.args.b} c.before.before.before.before.match.rest c.before.if15.false c.if21.true)
-    (λ c. rest-arm 0x64 4 0x0D 1 tt {b = c.before.before.before.before.before.before.args.b} c.before.before.before.before.before.match.rest c.before.if21.false c.if22.true)
-    (λ c. rest-arm 0x68 8 0x30 3 tt {b = c.before.before.before.before.before.before.before.args.b} c.before.before.before.before.before.before.match.rest c.before.if22.false c.if23.true)
-    (λ c. rest-arm 0x70 2 0x27 2 tt {b = c.before.before.before.before.before.before.before.before.args.b} c.before.before.before.before.before.before.before.match.rest c.before.if23.false c.if24.true)
-    (λ c. rest-arm 0x72 2 0x0E 2 tt {b = c.before.before.before.before.before.before.before.before.before.args.b} c.before.before.before.before.before.before.before.before.match.rest c.before.if24.false c.if25.true)
-    (λ c. rest-arm 0x74 4 0x0F 1 tt {b = c.before.before.before.before.before.before.before.before.before.args.b} c.before.before.before.before.before.before.before.before.match.rest c.if25.false c.before.before.before.before.before.before.before.if1.true)
-    (λ c. rest-arm 0x78 8 0x30 3 tt {b = c.before.before.before.before.before.args.b} c.before.before.before.before.match.rest c.before.before.before.if1.false c.if28.true)
-    (λ c. rest-arm 0x80 4 0x01 2 tt {b = c.before.before.before.before.before.before.args.b} c.before.before.before.before.before.match.rest c.before.if28.false c.if29.true)
-    (λ c. rest-arm 0x84 4 0x02 1 tt {b = c.before.before.before.before.before.before.before.args.b} c.before.before.before.before.before.before.match.rest c.before.if29.false c.if30.true)
-    (λ c. rest-arm 0x88 8 0x32 3 tt {b = c.before.before.before.before.before.before.before.before.args.b} c.before.before.before.before.before.before.before.match.rest c.before.if30.false c.if31.true)
-    (λ c. rest-arm 0x90 4 0x04 2 tt {b = c.before.before.before.before.before.before.before.before.before.args.b} c.before.before.before.before.before.before.before.before.match.rest c.before.if31.false c.if32.true)
-    (λ c. rest-arm 0x94 4 0x05 1 tt {b = c.before.before.before.before.before.before.before.before.before.before.args.b} c.before.before.before.before.before.before.before.before.before.match.rest c.before.if32.false c.if33.true)
-    (λ c. rest-arm 0x98 8 0x32 3 tt {b = c.before.before.before.before.before.before.before.before.before.before.args.b} c.before.before.before.before.before.before.before.before.before.match.rest c.if33.false c.before.before.before.before.before.before.if27.true)
-    (λ c. rest-arm 0xA0 4 0x07 2 tt {b = c.before.before.before.before.before.args.b} c.before.before.before.before.match.rest c.before.if27.false c.if34.true)
-    (λ c. rest-arm 0xA4 4 0x08 1 tt {b = c.before.before.before.before.before.before.args.b} c.before.before.before.before.before.match.rest c.before.if34.false c.if35.true)
-    (λ c. rest-arm 0xA8 8 0x42 2 tt {b = c.before.before.before.before.before.before.before.args.b} c.before.before.before.before.before.before.match.rest c.before.if35.false c.if36.true)
-    (λ c. rest-arm 0xB0 4 0x0A 2 tt {b = c.before.before.before.before.before.before.before.before.args.b} c.before.before.before.before.before.before.before.match.rest c.before.if36.false c.if37.true)
-    (λ c. rest-arm 0xB4 4 0x0B 1 tt {b = c.before.before.before.before.before.before.before.before.before.args.b} c.before.before.before.before.before.before.before.before.match.rest c.before.if37.false c.if38.true)
-    (λ c. rest-arm 0xB8 8 0x42 2 tt {b = c.before.before.before.before.before.before.before.before.before.args.b} c.before.before.before.before.before.before.before.before.match.rest c.if38.false c.before.before.before.before.before.before.if26.true)
-    (λ c. rest-arm 0xC0 4 0x28 2 tt {b = c.before.before.before.before.before.args.b} c.before.before.before.before.match.rest c.before.before.if26.false c.if40.true)
-    (λ c. rest-arm 0xC4 4 0x29 1 tt {b = c.before.before.before.before.before.before.args.b} c.before.before.before.before.before.match.rest c.before.if40.false c.if41.true)
-    (λ c. rest-arm 0xC8 8 0x40 2 tt {b = c.before.before.before.before.before.before.before.args.b} c.before.before.before.before.before.before.match.rest c.before.if41.false c.if42.true)
-    (λ c. rest-arm 0xD0 4 0x16 2 tt {b = c.before.before.before.before.before.before.before.before.args.b} c.before.before.before.before.before.before.before.match.rest c.before.if42.false c.if43.true)
-    (λ c. rest-arm 0xD4 4 0x17 1 tt {b = c.before.before.before.before.before.before.before.before.before.args.b} c.before.before.before.before.before.before.before.before.match.rest c.before.if43.false c.if44.true)
-    (λ c. rest-arm 0xD8 8 0x40 2 tt {b = c.before.before.before.before.before.before.before.before.before.args.b} c.before.before.before.before.before.before.before.before.match.rest c.if44.false c.before.before.before.before.before.if39.true)
-    (λ c. rest-arm 0xE0 4 0x13 2 tt {b = c.before.before.before.before.before.args.b} c.before.before.before.before.match.rest c.before.if39.false c.if45.true)
-    (λ c. rest-arm 0xE4 4 0x14 1 tt {b = c.before.before.before.before.before.before.args.b} c.before.before.before.before.before.match.rest c.before.if45.false c.if46.true)
-    (λ c. rest-arm 0xE8 8 0x41 2 tt {b = c.before.before.before.before.before.before.before.args.b} c.before.before.before.before.before.before.match.rest c.before.if46.false c.if47.true)
-    (λ c. rest-arm 0xF0 4 0x19 2 tt {b = c.before.before.before.before.before.before.before.before.args.b} c.before.before.before.before.before.before.before.match.rest c.before.if47.false c.if48.true)
-    (λ c. rest-arm 0xF4 4 0x1A 1 tt {b = c.before.before.before.before.before.before.before.before.before.args.b} c.before.before.before.before.before.before.before.before.match.rest c.before.if48.false c.if49.true)
-    (λ c. rest-arm 0xF8 8 0x41 2 tt {b = c.before.before.before.before.before.before.before.before.before.args.b} c.before.before.before.before.before.before.before.before.match.rest c.if49.false c.before.before.before.before.before.before.before.before.before.ranges.b.fits))
+    (λ c. rest_arm 0x00 4 0x1F 2 tt {b = c.before.before.before.before.before.args.b} c.before.before.before.before.match.rest zero-le c.if4.true)
+    (λ c. rest_arm 0x04 4 0x20 1 tt {b = c.before.before.before.before.before.before.args.b} c.before.before.before.before.before.match.rest c.before.if4.false c.if5.true)
+    (λ c. rest_arm 0x08 8 0x3B 2 tt {b = c.before.before.before.before.before.before.before.args.b} c.before.before.before.before.before.before.match.rest c.before.if5.false c.if6.true)
+    (λ c. rest_arm 0x10 4 0x21 2 tt {b = c.before.before.before.before.before.before.before.before.args.b} c.before.before.before.before.before.before.before.match.rest c.before.if6.false c.if7.true)
+    (λ c. rest_arm 0x14 4 0x22 1 tt {b = c.before.before.before.before.before.before.before.before.before.args.b} c.before.before.before.before.before.before.before.before.match.rest c.before.if7.false c.if8.true)
+    (λ c. rest_arm 0x18 8 0x3B 2 tt {b = c.before.before.before.before.before.before.before.before.before.before.args.b} c.before.before.before.before.before.before.before.before.before.match.rest c.before.if8.false c.if9.true)
+    (λ c. rest_arm 0x20 4 0x23 3 tt {b = c.before.before.before.before.before.before.before.before.before.before.args.b} c.before.before.before.before.before.before.before.before.before.match.rest c.if9.false c.before.before.before.before.before.before.if3.true)
+    (λ c. rest_arm 0x24 4 0x24 2 tt {b = c.before.before.before.before.before.args.b} c.before.before.before.before.match.rest c.before.if3.false c.if10.true)
+    (λ c. rest_arm 0x28 8 0x2A 2 tt {b = c.before.before.before.before.before.before.args.b} c.before.before.before.before.before.match.rest c.before.if10.false c.if11.true)
+    (λ c. rest_arm 0x30 4 0x36 3 tt {b = c.before.before.before.before.before.before.before.args.b} c.before.before.before.before.before.before.match.rest c.before.if11.false c.if12.true)
+    (λ c. rest_arm 0x34 4 0x37 3 tt {b = c.before.before.before.before.before.before.before.before.args.b} c.before.before.before.before.before.before.before.match.rest c.before.if12.false c.if13.true)
+    (λ c. rest_arm 0x38 8 0x2A 2 tt {b = c.before.before.before.before.before.before.before.before.before.args.b} c.before.before.before.before.before.before.before.before.match.rest c.before.if13.false c.if14.true)
+    (λ c. rest_arm 0x40 4 0x39 3 tt {b = c.before.before.before.before.before.before.before.before.before.args.b} c.before.before.before.before.before.before.before.before.match.rest c.if14.false c.before.before.before.before.before.before.if2.true)
+    (λ c. rest_arm 0x44 4 0x3A 3 tt {b = c.before.before.before.before.before.args.b} c.before.before.before.before.match.rest c.before.before.if2.false c.if16.true)
+    (λ c. rest_arm 0x48 8 0x31 3 tt {b = c.before.before.before.before.before.before.args.b} c.before.before.before.before.before.match.rest c.before.if16.false c.if17.true)
+    (λ c. rest_arm 0x50 4 0x33 3 tt {b = c.before.before.before.before.before.before.before.args.b} c.before.before.before.before.before.before.match.rest c.before.if17.false c.if18.true)
+    (λ c. rest_arm 0x54 4 0x34 2 tt {b = c.before.before.before.before.before.before.before.before.args.b} c.before.before.before.before.before.before.before.match.rest c.before.if18.false c.if19.true)
+    (λ c. rest_arm 0x58 8 0x31 3 tt {b = c.before.before.before.before.before.before.before.before.before.args.b} c.before.before.before.before.before.before.before.before.match.rest c.before.if19.false c.if20.true)
+    (λ c. rest_arm 0x60 2 0x26 2 tt {b = c.before.before.before.before.before.before.before.before.before.args.b} c.before.before.before.before.before.before.before.before.match.rest c.if20.false c.before.before.before.before.before.if15.true)
+    (λ c. rest_arm 0x62 2 0x0C 2 tt {b = c.before.before.before.before.before.args.b} c.before.before.before.before.match.rest c.before.if15.false c.if21.true)
+    (λ c. rest_arm 0x64 4 0x0D 1 tt {b = c.before.before.before.before.before.before.args.b} c.before.before.before.before.before.match.rest c.before.if21.false c.if22.true)
+    (λ c. rest_arm 0x68 8 0x30 3 tt {b = c.before.before.before.before.before.before.before.args.b} c.before.before.before.before.before.before.match.rest c.before.if22.false c.if23.true)
+    (λ c. rest_arm 0x70 2 0x27 2 tt {b = c.before.before.before.before.before.before.before.before.args.b} c.before.before.before.before.before.before.before.match.rest c.before.if23.false c.if24.true)
+    (λ c. rest_arm 0x72 2 0x0E 2 tt {b = c.before.before.before.before.before.before.before.before.before.args.b} c.before.before.before.before.before.before.before.before.match.rest c.before.if24.false c.if25.true)
+    (λ c. rest_arm 0x74 4 0x0F 1 tt {b = c.before.before.before.before.before.before.before.before.before.args.b} c.before.before.before.before.before.before.before.before.match.rest c.if25.false c.before.before.before.before.before.before.before.if1.true)
+    (λ c. rest_arm 0x78 8 0x30 3 tt {b = c.before.before.before.before.before.args.b} c.before.before.before.before.match.rest c.before.before.before.if1.false c.if28.true)
+    (λ c. rest_arm 0x80 4 0x01 2 tt {b = c.before.before.before.before.before.before.args.b} c.before.before.before.before.before.match.rest c.before.if28.false c.if29.true)
+    (λ c. rest_arm 0x84 4 0x02 1 tt {b = c.before.before.before.before.before.before.before.args.b} c.before.before.before.before.before.before.match.rest c.before.if29.false c.if30.true)
+    (λ c. rest_arm 0x88 8 0x32 3 tt {b = c.before.before.before.before.before.before.before.before.args.b} c.before.before.before.before.before.before.before.match.rest c.before.if30.false c.if31.true)
+    (λ c. rest_arm 0x90 4 0x04 2 tt {b = c.before.before.before.before.before.before.before.before.before.args.b} c.before.before.before.before.before.before.before.before.match.rest c.before.if31.false c.if32.true)
+    (λ c. rest_arm 0x94 4 0x05 1 tt {b = c.before.before.before.before.before.before.before.before.before.before.args.b} c.before.before.before.before.before.before.before.before.before.match.rest c.before.if32.false c.if33.true)
+    (λ c. rest_arm 0x98 8 0x32 3 tt {b = c.before.before.before.before.before.before.before.before.before.before.args.b} c.before.before.before.before.before.before.before.before.before.match.rest c.if33.false c.before.before.before.before.before.before.if27.true)
+    (λ c. rest_arm 0xA0 4 0x07 2 tt {b = c.before.before.before.before.before.args.b} c.before.before.before.before.match.rest c.before.if27.false c.if34.true)
+    (λ c. rest_arm 0xA4 4 0x08 1 tt {b = c.before.before.before.before.before.before.args.b} c.before.before.before.before.before.match.rest c.before.if34.false c.if35.true)
+    (λ c. rest_arm 0xA8 8 0x42 2 tt {b = c.before.before.before.before.before.before.before.args.b} c.before.before.before.before.before.before.match.rest c.before.if35.false c.if36.true)
+    (λ c. rest_arm 0xB0 4 0x0A 2 tt {b = c.before.before.before.before.before.before.before.before.args.b} c.before.before.before.before.before.before.before.match.rest c.before.if36.false c.if37.true)
+    (λ c. rest_arm 0xB4 4 0x0B 1 tt {b = c.before.before.before.before.before.before.before.before.before.args.b} c.before.before.before.before.before.before.before.before.match.rest c.before.if37.false c.if38.true)
+    (λ c. rest_arm 0xB8 8 0x42 2 tt {b = c.before.before.before.before.before.before.before.before.before.args.b} c.before.before.before.before.before.before.before.before.match.rest c.if38.false c.before.before.before.before.before.before.if26.true)
+    (λ c. rest_arm 0xC0 4 0x28 2 tt {b = c.before.before.before.before.before.args.b} c.before.before.before.before.match.rest c.before.before.if26.false c.if40.true)
+    (λ c. rest_arm 0xC4 4 0x29 1 tt {b = c.before.before.before.before.before.before.args.b} c.before.before.before.before.before.match.rest c.before.if40.false c.if41.true)
+    (λ c. rest_arm 0xC8 8 0x40 2 tt {b = c.before.before.before.before.before.before.before.args.b} c.before.before.before.before.before.before.match.rest c.before.if41.false c.if42.true)
+    (λ c. rest_arm 0xD0 4 0x16 2 tt {b = c.before.before.before.before.before.before.before.before.args.b} c.before.before.before.before.before.before.before.match.rest c.before.if42.false c.if43.true)
+    (λ c. rest_arm 0xD4 4 0x17 1 tt {b = c.before.before.before.before.before.before.before.before.before.args.b} c.before.before.before.before.before.before.before.before.match.rest c.before.if43.false c.if44.true)
+    (λ c. rest_arm 0xD8 8 0x40 2 tt {b = c.before.before.before.before.before.before.before.before.before.args.b} c.before.before.before.before.before.before.before.before.match.rest c.if44.false c.before.before.before.before.before.if39.true)
+    (λ c. rest_arm 0xE0 4 0x13 2 tt {b = c.before.before.before.before.before.args.b} c.before.before.before.before.match.rest c.before.if39.false c.if45.true)
+    (λ c. rest_arm 0xE4 4 0x14 1 tt {b = c.before.before.before.before.before.before.args.b} c.before.before.before.before.before.match.rest c.before.if45.false c.if46.true)
+    (λ c. rest_arm 0xE8 8 0x41 2 tt {b = c.before.before.before.before.before.before.before.args.b} c.before.before.before.before.before.before.match.rest c.before.if46.false c.if47.true)
+    (λ c. rest_arm 0xF0 4 0x19 2 tt {b = c.before.before.before.before.before.before.before.before.args.b} c.before.before.before.before.before.before.before.match.rest c.before.if47.false c.if48.true)
+    (λ c. rest_arm 0xF4 4 0x1A 1 tt {b = c.before.before.before.before.before.before.before.before.before.args.b} c.before.before.before.before.before.before.before.before.match.rest c.before.if48.false c.if49.true)
+    (λ c. rest_arm 0xF8 8 0x41 2 tt {b = c.before.before.before.before.before.before.before.before.before.args.b} c.before.before.before.before.before.before.before.before.match.rest c.if49.false c.before.before.before.before.before.before.before.before.before.ranges.b.fits))

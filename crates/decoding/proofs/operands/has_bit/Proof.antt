@@ -3,15 +3,15 @@ use mathlib.Core.Path.{◌≡◌, ◌∙◌, sym, ap}
 use mathlib.Core.Bool.{Bool}
 use Prim.Native.Nat.{ℕ}
 use borrow.Author.Tests.{ne_eqb}
-use Rattle.decoding.specs.Runs.{hasBit}
+use Rattle.decoding.specs.Runs.{has_bit}
 use Rattle.decoding.proofs.operands.has_bit.Statement.{statement}
 use Rattle.decoding.proofs.operands.has_bit.Tie as tie
 
-via : {f k : ℕ} {b : Bool} → f ≡ k → b ≡ hasBit k → b ≡ hasBit f
-via e h = h ∙ sym (ap hasBit e)
+via : {f k : ℕ} {b : Bool} → f ≡ k → b ≡ has_bit k → b ≡ has_bit f
+via e h = h ∙ sym (ap has_bit e)
 
-returns-7 : tie.Need-returns-7
-returns-7 c =
+returns_7 : tie.Need-returns-7
+returns_7 c =
     let f = c.before.args.form in
     let h = c.match.rest in
     simp (
@@ -24,6 +24,6 @@ returns-7 c =
       ne_eqb f 0x42 h.1,
     )
 
-pub has-bit-spec : {M : Type 1} → statement M
-has-bit-spec = tie.close
-    (tie.spec (λ c. search via) (λ c. search via) (λ c. search via) (λ c. search via) (λ c. search via) (λ c. search via) returns-7)
+pub has_bit_spec : {M : Type 1} → statement M
+has_bit_spec = tie.close
+    (tie.spec (λ c. search via) (λ c. search via) (λ c. search via) (λ c. search via) (λ c. search via) (λ c. search via) returns_7)

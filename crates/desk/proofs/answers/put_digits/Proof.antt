@@ -6,43 +6,43 @@ use borrow.Author.Rules.{rules}
 use Rattle.desk.proofs.answers.put_digits.Statement.{statement}
 use Rattle.desk.proofs.answers.put_digits.Tie as tie
 
-abbrev invariant-loop : tie.invariant-loop
-invariant-loop bytes i₀ i = i ≤ length bytes
+abbrev invariant_loop : tie.invariant_loop
+invariant_loop bytes i₀ i = i ≤ length bytes
 
-abbrev decreases-loop : tie.decreases-loop
-decreases-loop bytes i₀ i = length bytes - i
+abbrev decreases_loop : tie.decreases_loop
+decreases_loop bytes i₀ i = length bytes - i
 
-loop-holds : tie.Need-loop-init invariant-loop decreases-loop
-loop-holds c = omega arith
+loop_holds : tie.Need-loop-init invariant_loop decreases_loop
+loop_holds c = omega arith
 
-shared-slice-read-put-pair : tie.Need-shared-slice-read-put-pair invariant-loop decreases-loop
-shared-slice-read-put-pair c = search rules
+shared_slice_read_put_pair : tie.Need-shared-slice-read-put-pair invariant_loop decreases_loop
+shared_slice_read_put_pair c = search rules
 
-put-pair-requires : tie.Need-put-pair-requires invariant-loop decreases-loop
-put-pair-requires c κs = search rules
+put_pair_requires : tie.Need-put-pair-requires invariant_loop decreases_loop
+put_pair_requires c κs = search rules
 
-add-i : tie.Need-overflow-add-i invariant-loop decreases-loop
-add-i c = search rules
+add_i : tie.Need-overflow-add-i invariant_loop decreases_loop
+add_i c = search rules
 
-loop-less : tie.Need-loop-smaller invariant-loop decreases-loop
-loop-less c = omega arith
+loop_less : tie.Need-loop-smaller invariant_loop decreases_loop
+loop_less c = omega arith
 
-loop-again : tie.Need-loop-preserved invariant-loop decreases-loop
-loop-again c = omega arith
+loop_again : tie.Need-loop-preserved invariant_loop decreases_loop
+loop_again c = omega arith
 
-returns : tie.Need-returns invariant-loop decreases-loop
+returns : tie.Need-returns invariant_loop decreases_loop
 returns c = tt
 
-pub put-digits-spec : {M : Type 1} → statement M
-put-digits-spec =
+pub put_digits_spec : {M : Type 1} → statement M
+put_digits_spec =
     tie.close
     (tie.spec
-    invariant-loop
-    decreases-loop
-    loop-holds
-    shared-slice-read-put-pair
-    put-pair-requires
-    add-i
-    loop-less
-    loop-again
+    invariant_loop
+    decreases_loop
+    loop_holds
+    shared_slice_read_put_pair
+    put_pair_requires
+    add_i
+    loop_less
+    loop_again
     returns)

@@ -8,43 +8,43 @@ use borrow.Author.Rules.{rules}
 use Rattle.desk.proofs.answers.zeros.Statement.{statement}
 use Rattle.desk.proofs.answers.zeros.Tie as tie
 
-abbrev invariant-loop : tie.invariant-loop
-invariant-loop bytes i₀ i = i ≤ length bytes
+abbrev invariant_loop : tie.invariant_loop
+invariant_loop bytes i₀ i = i ≤ length bytes
 
-abbrev decreases-loop : tie.decreases-loop
-decreases-loop bytes i₀ i = length bytes - i
+abbrev decreases_loop : tie.decreases_loop
+decreases_loop bytes i₀ i = length bytes - i
 
-loop-holds : tie.Need-loop-init invariant-loop decreases-loop
-loop-holds c = omega arith
+loop_holds : tie.Need-loop-init invariant_loop decreases_loop
+loop_holds c = omega arith
 
-shared-slice-read-if1 : tie.Need-shared-slice-read-if1 invariant-loop decreases-loop
-shared-slice-read-if1 c = search rules
+shared_slice_read_if1 : tie.Need-shared-slice-read-if1 invariant_loop decreases_loop
+shared_slice_read_if1 c = search rules
 
-returns : tie.Need-returns invariant-loop decreases-loop
+returns : tie.Need-returns invariant_loop decreases_loop
 returns c = (omega arith, sym (length-take-le _ _ (omega arith)))
 
-add-i : tie.Need-overflow-add-i invariant-loop decreases-loop
-add-i c = search rules
+add_i : tie.Need-overflow-add-i invariant_loop decreases_loop
+add_i c = search rules
 
-loop-less : tie.Need-loop-smaller invariant-loop decreases-loop
-loop-less c = omega arith
+loop_less : tie.Need-loop-smaller invariant_loop decreases_loop
+loop_less c = omega arith
 
-loop-again : tie.Need-loop-preserved invariant-loop decreases-loop
-loop-again c = omega arith
+loop_again : tie.Need-loop-preserved invariant_loop decreases_loop
+loop_again c = omega arith
 
-returns-2 : tie.Need-returns-2 invariant-loop decreases-loop
-returns-2 c = (omega arith, sym (length-take-le _ _ (omega arith)))
+returns_2 : tie.Need-returns-2 invariant_loop decreases_loop
+returns_2 c = (omega arith, sym (length-take-le _ _ (omega arith)))
 
-pub zeros-spec : {M : Type 1} → statement M
-zeros-spec =
+pub zeros_spec : {M : Type 1} → statement M
+zeros_spec =
     tie.close
     (tie.spec
-    invariant-loop
-    decreases-loop
-    loop-holds
-    shared-slice-read-if1
+    invariant_loop
+    decreases_loop
+    loop_holds
+    shared_slice_read_if1
     returns
-    add-i
-    loop-less
-    loop-again
-    returns-2)
+    add_i
+    loop_less
+    loop_again
+    returns_2)

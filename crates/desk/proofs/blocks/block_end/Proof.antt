@@ -8,36 +8,36 @@ use borrow.Author.Rules.{rules}
 use Rattle.desk.proofs.blocks.block_end.Statement.{statement}
 use Rattle.desk.proofs.blocks.block_end.Tie as tie
 
-abbrev invariant-loop : tie.invariant-loop
-invariant-loop text is-new₀ i₀ is-new i = i ≤ length text
+abbrev invariant_loop : tie.invariant_loop
+invariant_loop text is_new₀ i₀ is_new i = i ≤ length text
 
-abbrev decreases-loop : tie.decreases-loop
-decreases-loop text is-new₀ i₀ is-new i = length text - i
+abbrev decreases_loop : tie.decreases_loop
+decreases_loop text is_new₀ i₀ is_new i = length text - i
 
-loop-holds : tie.Need-loop-init invariant-loop decreases-loop
-loop-holds c = omega arith
+loop_holds : tie.Need-loop-init invariant_loop decreases_loop
+loop_holds c = omega arith
 
-mark-at-requires : tie.Need-mark-at-requires invariant-loop decreases-loop
-mark-at-requires c κs = search rules
+mark_at_requires : tie.Need-mark-at-requires invariant_loop decreases_loop
+mark_at_requires c κs = search rules
 
-returns : tie.Need-returns invariant-loop decreases-loop
+returns : tie.Need-returns invariant_loop decreases_loop
 returns c = (omega arith, sym (length-take-le _ _ (omega arith)))
 
-shared-slice-read-is-new : tie.Need-shared-slice-read-is-new invariant-loop decreases-loop
-shared-slice-read-is-new c = search rules
+shared_slice_read_is_new : tie.Need-shared-slice-read-is-new invariant_loop decreases_loop
+shared_slice_read_is_new c = search rules
 
-add-i : tie.Need-overflow-add-i invariant-loop decreases-loop
-add-i c = search rules
+add_i : tie.Need-overflow-add-i invariant_loop decreases_loop
+add_i c = search rules
 
-loop-less : tie.Need-loop-smaller invariant-loop decreases-loop
-loop-less c = omega arith
+loop_less : tie.Need-loop-smaller invariant_loop decreases_loop
+loop_less c = omega arith
 
-loop-again : tie.Need-loop-preserved invariant-loop decreases-loop
-loop-again c = omega arith
+loop_again : tie.Need-loop-preserved invariant_loop decreases_loop
+loop_again c = omega arith
 
-returns-2 : tie.Need-returns-2 invariant-loop decreases-loop
-returns-2 c = (omega arith, sym (length-take-le _ _ (omega arith)))
+returns_2 : tie.Need-returns-2 invariant_loop decreases_loop
+returns_2 c = (omega arith, sym (length-take-le _ _ (omega arith)))
 
-pub block-end-spec : {M : Type 1} → statement M
-block-end-spec =
-    tie.close (tie.spec invariant-loop decreases-loop loop-holds mark-at-requires returns shared-slice-read-is-new add-i loop-less loop-again returns-2)
+pub block_end_spec : {M : Type 1} → statement M
+block_end_spec =
+    tie.close (tie.spec invariant_loop decreases_loop loop_holds mark_at_requires returns shared_slice_read_is_new add_i loop_less loop_again returns_2)

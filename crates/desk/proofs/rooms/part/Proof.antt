@@ -8,8 +8,8 @@ use Rattle.desk.proofs.rooms.part.Tie as tie
 returns : tie.Need-returns
 returns c = (omega arith, sym (length-take-le _ _ (omega arith)))
 
-returns-2 : tie.Need-returns-2
-returns-2 c = (omega arith, sym (length-take-le _ _ (omega arith)))
+returns_2 : tie.Need-returns-2
+returns_2 c = (omega arith, sym (length-take-le _ _ (omega arith)))
 
-pub part-spec : {M : Type 1} → statement M
-part-spec = tie.close (tie.spec returns returns-2)
+pub part_spec : {M : Type 1} → statement M
+part_spec = tie.close (tie.spec returns returns_2)

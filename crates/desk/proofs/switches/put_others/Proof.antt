@@ -5,31 +5,31 @@ use borrow.Author.Rules.{rules}
 use Rattle.desk.proofs.switches.put_others.Statement.{statement}
 use Rattle.desk.proofs.switches.put_others.Tie as tie
 
-abbrev invariant-loop : tie.invariant-loop
-invariant-loop text given k₀ k = k ≤ 7
+abbrev invariant_loop : tie.invariant_loop
+invariant_loop text given k₀ k = k ≤ 7
 
-abbrev decreases-loop : tie.decreases-loop
-decreases-loop text given k₀ k = 7 - k
+abbrev decreases_loop : tie.decreases_loop
+decreases_loop text given k₀ k = 7 - k
 
-loop-holds : tie.Need-loop-init invariant-loop decreases-loop
-loop-holds c = omega arith
+loop_holds : tie.Need-loop-init invariant_loop decreases_loop
+loop_holds c = omega arith
 
-put-other-requires : tie.Need-put-other-requires invariant-loop decreases-loop
-put-other-requires c κs = search rules
+put_other_requires : tie.Need-put-other-requires invariant_loop decreases_loop
+put_other_requires c κs = search rules
 
-add-k : tie.Need-overflow-add-k invariant-loop decreases-loop
-add-k c = search rules
+add_k : tie.Need-overflow-add-k invariant_loop decreases_loop
+add_k c = search rules
 
-loop-less : tie.Need-loop-smaller invariant-loop decreases-loop
-loop-less c = omega arith
+loop_less : tie.Need-loop-smaller invariant_loop decreases_loop
+loop_less c = omega arith
 
-loop-again : tie.Need-loop-preserved invariant-loop decreases-loop
-loop-again c = omega arith
+loop_again : tie.Need-loop-preserved invariant_loop decreases_loop
+loop_again c = omega arith
 
-returns : tie.Need-returns invariant-loop decreases-loop
+returns : tie.Need-returns invariant_loop decreases_loop
 returns c = search rules
 
-pub put-others-spec : {M : Type 1} → statement M
-put-others-spec =
+pub put_others_spec : {M : Type 1} → statement M
+put_others_spec =
     tie.close
-    (tie.spec invariant-loop decreases-loop loop-holds put-other-requires add-k loop-less loop-again returns)
+    (tie.spec invariant_loop decreases_loop loop_holds put_other_requires add_k loop_less loop_again returns)

@@ -5,7 +5,7 @@ use lib.ListN.{length}
 use borrow.Author.Rules.{rules}
 use Rattle.rules.specs.Output.{line_of}
 use Rattle.differences.specs.Changes.{Change, bytes_of}
-use Rattle.differences.proofs.Pieces.{kept-size, changed-size, pair-kept, pair-changed}
+use Rattle.differences.proofs.Pieces.{kept_size, changed_size, pair_kept, pair_changed}
 use Rattle.differences.proofs.lines.pair_size.Statement.{statement}
 use Rattle.differences.proofs.lines.pair_size.Tie as tie
 
@@ -15,23 +15,23 @@ returns c i j =
     let x = s.args.old.now in
     let y = s.args.new.now in
     sym (ap (λ (d : Change). length (line_of (bytes_of d)))
-    (pair-kept i j x y s.requires.0 s.requires.1 (sym c.before.same_bytes.ensures ∙ c.if1.true))
-    ∙ kept-size i j y s.requires.1)
+    (pair_kept i j x y s.requires.0 s.requires.1 (sym c.before.same_bytes.ensures ∙ c.if1.true))
+    ∙ kept_size i j y s.requires.1)
 
-returns-2 : tie.Need-returns-2
-returns-2 c i j =
+returns_2 : tie.Need-returns-2
+returns_2 c i j =
     let s = c.before.before.before.before in
     let x = s.args.old.now in
     let y = s.args.new.now in
     omega (
       arith,
       ap (λ (d : Change). length (line_of (bytes_of d)))
-          (pair-changed i j x y s.requires.0 s.requires.1 (sym c.before.same_bytes.ensures ∙ c.if1.false)),
-      changed-size i j x y s.requires.0 s.requires.1,
+          (pair_changed i j x y s.requires.0 s.requires.1 (sym c.before.same_bytes.ensures ∙ c.if1.false)),
+      changed_size i j x y s.requires.0 s.requires.1,
     )
 
-pub pair-size-spec : {M : Type 1} → statement M
-pair-size-spec =
+pub pair_size_spec : {M : Type 1} → statement M
+pair_size_spec =
     tie.close
     (tie.spec
     (λ c κs. search rules)
@@ -39,4 +39,4 @@ pair-size-spec =
     (λ c. omega (arith, c.before.before.before.before.requires.0.short))
     (λ c. omega (arith, c.before.before.before.before.requires.0.short, c.before.before.before.before.requires.1.short))
     returns
-    returns-2)
+    returns_2)

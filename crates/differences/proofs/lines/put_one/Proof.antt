@@ -8,31 +8,31 @@ use borrow.Author.Rules.{rules}
 use Rattle.rules.specs.Listing.{unhex}
 use Rattle.rules.specs.Output.{line_of}
 use Rattle.digits.specs.Digits.{laid}
-use Rattle.differences.proofs.Pieces.{one-laid, one-head}
+use Rattle.differences.proofs.Pieces.{one_laid, one_head}
 use Rattle.differences.proofs.lines.put_one.Statement.{statement}
 use Rattle.differences.proofs.lines.put_one.Tie as tie
 
 same_length : tie.Need-same-length
 same_length c = simp length-set (omega
-    (arith, c.before.before.put-text.auto.0, c.before.before.before.before.before.before.put-bytes.auto.0))
+    (arith, c.before.before.put_text.auto.0, c.before.before.before.before.before.before.put_bytes.auto.0))
 
 returns : tie.Need-returns
 returns c =
-    let t = c.before.before.put-text in
-    let p = c.before.before.before.before.before.before.put-bytes in
+    let t = c.before.before.put_text in
+    let p = c.before.before.before.before.before.before.put_bytes in
     let l = c.before.before.before.before.before.before.before.before.before.low in
     let h = c.before.before.before.before.before.before.before.before.before.before.high in
     let s = c.before.before.before.before.before.before.before.before.before.before.before.before.before in
     let d = s.args.out.now in (
-      one-laid d p.new.0 t.new.0 (s.args.kind ∷ h.result ∷ l.result ∷ []) s.args.line.now s.args.at _ _
+      one_laid d p.new.0 t.new.0 (s.args.kind ∷ h.result ∷ l.result ∷ []) s.args.line.now s.args.at _ _
           s.requires.0 p.ensures t.ensures (omega arith) (omega arith) (omega (arith, s.requires.2))
           ∙ ap (λ (f : List ℕ). laid d s.args.at (line_of f))
-          (one-head s.args.kind h.result l.result s.args.i (unhex s.args.line.now) h.ensures l.ensures),
+          (one_head s.args.kind h.result l.result s.args.i (unhex s.args.line.now) h.ensures l.ensures),
       omega arith,
     )
 
-pub put-one-spec : {M : Type 1} → statement M
-put-one-spec =
+pub put_one_spec : {M : Type 1} → statement M
+put_one_spec =
     tie.close
     (tie.spec
     (λ c κs. search rules)

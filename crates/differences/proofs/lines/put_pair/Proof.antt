@@ -8,7 +8,7 @@ use Rattle.rules.specs.Listing.{unhex}
 use Rattle.rules.specs.Output.{line_of}
 use Rattle.digits.specs.Digits.{laid}
 use Rattle.differences.specs.Changes.{Change, kept, changed, paired, bytes_of}
-use Rattle.differences.proofs.Pieces.{kept-size, changed-size, pair-kept, pair-changed}
+use Rattle.differences.proofs.Pieces.{kept_size, changed_size, pair_kept, pair_changed}
 use Rattle.differences.proofs.lines.put_pair.Statement.{statement}
 use Rattle.differences.proofs.lines.put_pair.Tie as tie
 
@@ -16,38 +16,38 @@ abbrev start : tie.After-same-bytes → tie.Start
 start b = b.before.before.before.before
 
 -- which line it is
-is-kept : (i : tie.Then1) → let s = start i.before in
+is_kept : (i : tie.Then1) → let s = start i.before in
     paired s.args.i s.args.j (unhex s.args.old.now) (unhex s.args.new.now) ≡ kept s.args.i s.args.j
     (unhex s.args.new.now)
-is-kept i =
+is_kept i =
     let s = start i.before in
-    pair-kept s.args.i s.args.j s.args.old.now s.args.new.now s.pre.0 s.pre.1
+    pair_kept s.args.i s.args.j s.args.old.now s.args.new.now s.pre.0 s.pre.1
     (sym i.before.same_bytes.ensures ∙ i.if1.true)
 
-is-changed : (i : tie.Else1) → let s = start i.before in
+is_changed : (i : tie.Else1) → let s = start i.before in
     paired s.args.i s.args.j (unhex s.args.old.now) (unhex s.args.new.now)
     ≡ changed s.args.i s.args.j (unhex s.args.old.now) (unhex s.args.new.now)
-is-changed i =
+is_changed i =
     let s = start i.before in
-    pair-changed s.args.i s.args.j s.args.old.now s.args.new.now s.pre.0 s.pre.1
+    pair_changed s.args.i s.args.j s.args.old.now s.args.new.now s.pre.0 s.pre.1
     (sym i.before.same_bytes.ensures ∙ i.if1.false)
 
 abbrev size : Change → ℕ
 size d = length (line_of (bytes_of d))
 
-put-kept-requires : tie.Need-put-kept-requires
-put-kept-requires c κs =
+put_kept_requires : tie.Need-put-kept-requires
+put_kept_requires c κs =
     let i = c.before in
     let s = start i.before in (
       s.pre.1,
       s.pre.2,
       s.pre.3,
       omega
-          (arith, s.pre.4, ap size (is-kept i), kept-size s.args.i s.args.j s.args.new.now s.pre.1),
+          (arith, s.pre.4, ap size (is_kept i), kept_size s.args.i s.args.j s.args.new.now s.pre.1),
     )
 
-put-changed-requires : tie.Need-put-changed-requires
-put-changed-requires c κs =
+put_changed_requires : tie.Need-put-changed-requires
+put_changed_requires c κs =
     let i = c.before in
     let s = start i.before in (
       s.pre.0,
@@ -57,36 +57,36 @@ put-changed-requires c κs =
       omega (
         arith,
         s.pre.4,
-        ap size (is-changed i),
-        changed-size s.args.i s.args.j s.args.old.now s.args.new.now
+        ap size (is_changed i),
+        changed_size s.args.i s.args.j s.args.old.now s.args.new.now
             s.pre.0 s.pre.1,
       ),
     )
 
 returns : tie.Need-returns
 returns c =
-    let p = c.before.before.put-kept in
+    let p = c.before.before.put_kept in
     let i = c.before.before.before.before in
     let s = start i.before in (
-      p.ensures.0 ∙ ap (λ (d : Change). laid s.args.out.now s.args.at (line_of (bytes_of d))) (sym (is-kept i)),
-      omega (arith, p.ensures.1, ap size (is-kept i), kept-size s.args.i s.args.j s.args.new.now s.pre.1),
+      p.ensures.0 ∙ ap (λ (d : Change). laid s.args.out.now s.args.at (line_of (bytes_of d))) (sym (is_kept i)),
+      omega (arith, p.ensures.1, ap size (is_kept i), kept_size s.args.i s.args.j s.args.new.now s.pre.1),
     )
 
-returns-2 : tie.Need-returns-2
-returns-2 c =
-    let p = c.before.before.put-changed in
+returns_2 : tie.Need-returns-2
+returns_2 c =
+    let p = c.before.before.put_changed in
     let i = c.before.before.before.before in
     let s = start i.before in (
-      p.ensures.0 ∙ ap (λ (d : Change). laid s.args.out.now s.args.at (line_of (bytes_of d))) (sym (is-changed i)),
+      p.ensures.0 ∙ ap (λ (d : Change). laid s.args.out.now s.args.at (line_of (bytes_of d))) (sym (is_changed i)),
       omega (
         arith,
         p.ensures.1,
-        ap size (is-changed i),
-        changed-size s.args.i s.args.j s.args.old.now s.args.new.now s.pre.0 s.pre.1,
+        ap size (is_changed i),
+        changed_size s.args.i s.args.j s.args.old.now s.args.new.now s.pre.0 s.pre.1,
       ),
     )
 
-pub put-pair-spec : {M : Type 1} → statement M
-put-pair-spec =
+pub put_pair_spec : {M : Type 1} → statement M
+put_pair_spec =
     tie.close
-    (tie.spec (λ c κs. search rules) put-kept-requires put-changed-requires (λ c. search rules) returns (λ c. search rules) returns-2)
+    (tie.spec (λ c κs. search rules) put_kept_requires put_changed_requires (λ c. search rules) returns (λ c. search rules) returns_2)

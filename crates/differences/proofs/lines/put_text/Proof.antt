@@ -8,21 +8,21 @@ use lib.ListN.{length, get_or, take, length-set}
 use lib.Seq.{take-length, take-suc, length-take-le}
 use borrow.Author.Rules.{rules}
 use Rattle.digits.specs.Digits.{laid}
-use Rattle.digits.proofs.Rooms.{length-laid, laid_more, laid_one, laid-nothing}
+use Rattle.digits.proofs.Rooms.{length_laid, laid_more, laid_one, laid_nothing}
 use Rattle.differences.proofs.lines.put_text.Statement.{statement}
 use Rattle.differences.proofs.lines.put_text.Tie as tie
 
-abbrev invariant-loop : tie.invariant-loop
-invariant-loop out₀ at s k₀ out k = (k ≤ length s) × (out ≡ laid out₀ at (take k s)) × (length out ≡ length out₀)
+abbrev invariant_loop : tie.invariant_loop
+invariant_loop out₀ at s k₀ out k = (k ≤ length s) × (out ≡ laid out₀ at (take k s)) × (length out ≡ length out₀)
 
-abbrev decreases-loop : tie.decreases-loop
-decreases-loop out₀ at s k₀ out k = length s - k
+abbrev decreases_loop : tie.decreases_loop
+decreases_loop out₀ at s k₀ out k = length s - k
 
-loop-holds : tie.Need-loop-init invariant-loop decreases-loop
-loop-holds c = (omega arith, sym (laid-nothing _ _), refl)
+loop_holds : tie.Need-loop-init invariant_loop decreases_loop
+loop_holds c = (omega arith, sym (laid_nothing _ _), refl)
 
-loop-again : tie.Need-loop-preserved invariant-loop decreases-loop
-loop-again c =
+loop_again : tie.Need-loop-preserved invariant_loop decreases_loop
+loop_again c =
     let l = c.before.before.loop in
     let s = c.before.before.before in
     let a = s.args in
@@ -36,25 +36,25 @@ loop-again c =
       simp length-set l.invariant.2,
     )
 
-returns : tie.Need-returns invariant-loop decreases-loop
+returns : tie.Need-returns invariant_loop decreases_loop
 returns c =
     let l = c.before.loop in
     let a = c.before.before.args in
     let e : l.k ≡ length a.s.now = omega arith in
     l.invariant.1 ∙ rw (e, take-length a.s.now)
 
-pub put-text-spec : {M : Type 1} → statement M
-put-text-spec =
+pub put_text_spec : {M : Type 1} → statement M
+put_text_spec =
     tie.close
     (tie.spec
-    invariant-loop
-    decreases-loop
-    loop-holds
+    invariant_loop
+    decreases_loop
+    loop_holds
     (λ c. search rules)
     (λ c. omega (arith, c.before.before.before.requires))
     (λ c. omega (arith, c.before.before.before.requires, c.before.before.loop.invariant.2))
     (λ c. search rules)
     (λ c. search rules)
-    loop-again
+    loop_again
     (λ c. c.before.loop.invariant.2)
     returns)

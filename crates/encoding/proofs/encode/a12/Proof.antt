@@ -3,5 +3,5 @@ use borrow.Author.Rules.{rules}
 use Rattle.encoding.proofs.encode.a12.Statement.{statement}
 use Rattle.encoding.proofs.encode.a12.Tie as tie
 
-pub a12-spec : {M : Type 1} → statement M
-a12-spec = tie.close (tie.spec (λ c κs. search rules) (λ c κs. search rules) (λ c. cc))
+pub a12_spec : {M : Type 1} → statement M
+a12_spec = tie.close (tie.spec (λ c κs. search rules) (λ c κs. search rules) (λ c. cc))

@@ -3,5 +3,5 @@ use borrow.Author.Rules.{rules}
 use Rattle.encoding.proofs.encode.bit_low.Statement.{statement}
 use Rattle.encoding.proofs.encode.bit_low.Tie as tie
 
-pub bit-low-spec : {M : Type 1} → statement M
-bit-low-spec = tie.close (tie.spec (λ c κs. search rules) (λ c κs. search rules) (λ c κs. search rules) (λ c. cc))
+pub bit_low_spec : {M : Type 1} → statement M
+bit_low_spec = tie.close (tie.spec (λ c κs. search rules) (λ c κs. search rules) (λ c κs. search rules) (λ c. cc))

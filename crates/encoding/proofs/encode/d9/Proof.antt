@@ -3,5 +3,5 @@ use borrow.Author.Rules.{rules}
 use Rattle.encoding.proofs.encode.d9.Statement.{statement}
 use Rattle.encoding.proofs.encode.d9.Tie as tie
 
-pub d9-spec : {M : Type 1} → statement M
-d9-spec = tie.close (tie.spec (λ c κs. search rules) (λ c κs. search rules) (λ c. cc))
+pub d9_spec : {M : Type 1} → statement M
+d9_spec = tie.close (tie.spec (λ c κs. search rules) (λ c κs. search rules) (λ c. cc))

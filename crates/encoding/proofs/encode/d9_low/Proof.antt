@@ -3,5 +3,5 @@ use borrow.Author.Rules.{rules}
 use Rattle.encoding.proofs.encode.d9_low.Statement.{statement}
 use Rattle.encoding.proofs.encode.d9_low.Tie as tie
 
-pub d9-low-spec : {M : Type 1} → statement M
-d9-low-spec = tie.close (tie.spec (λ c κs. search rules) (λ c κs. search rules) (λ c κs. search rules) (λ c. cc))
+pub d9_low_spec : {M : Type 1} → statement M
+d9_low_spec = tie.close (tie.spec (λ c κs. search rules) (λ c κs. search rules) (λ c κs. search rules) (λ c. cc))

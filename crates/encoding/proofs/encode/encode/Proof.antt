@@ -6,7 +6,7 @@ use borrow.Author.Rules.{rules}
 use Rattle.laws.specs.Bits.{byte_of, bits}
 use Rattle.rules.specs.declared.Instr.{Instr}
 use Rattle.rules.specs.declared.Code.{Code}
-use Rattle.rules.specs.Forms.{formAt}
+use Rattle.rules.specs.Forms.{form_at}
 use Rattle.rules.specs.Patterns.{rows_of}
 use Rattle.rules.specs.Instructions.{enc_of}
 use Rattle.encoding.proofs.encode.encode.Statement.{statement}
@@ -15,9 +15,9 @@ use Rattle.encoding.proofs.encode.encode.Tie as tie
 via : (a b c : ℕ) {i j : Instr} {r m : Code} → i ≡ j → r ≡ m → m ≡ enc_of j a b c → r ≡ enc_of i a b c
 via a b c e f g = f ∙ g ∙ sym (ap (λ (k : Instr). enc_of k a b c) e)
 
-pub encode-spec : {M : Type 1} → statement M
-unfolding enc_of rows_of formAt byte_of bits
-encode-spec =
+pub encode_spec : {M : Type 1} → statement M
+unfolding enc_of rows_of form_at byte_of bits
+encode_spec =
     tie.close
     (tie.spec
     (λ c. search rules) (λ c κs. search rules) (λ c. search rules) (λ c κs. search rules) (λ c. search rules) (λ c κs. search rules) (λ c. search rules) (λ c κs. search rules) (λ c. search rules) (λ c κs. search rules)

@@ -3,5 +3,5 @@ use borrow.Author.Rules.{rules}
 use Rattle.encoding.proofs.encode.high_low.Statement.{statement}
 use Rattle.encoding.proofs.encode.high_low.Tie as tie
 
-pub high-low-spec : {M : Type 1} → statement M
-high-low-spec = tie.close (tie.spec (λ c κs. search rules) (λ c κs. search rules) (λ c κs. search rules) (λ c. cc))
+pub high_low_spec : {M : Type 1} → statement M
+high_low_spec = tie.close (tie.spec (λ c κs. search rules) (λ c κs. search rules) (λ c κs. search rules) (λ c. cc))

@@ -1,12 +1,12 @@
 -- `encoding::encode::lead_a12` meets its contract. Assumes nothing.
 use mathlib.Core.Path.{sym}
 use borrow.Author.Rules.{rules}
-use Rattle.laws.proofs.Bits.{bit-law}
+use Rattle.laws.proofs.Bits.{bit_law}
 use Rattle.encoding.proofs.encode.lead_a12.Statement.{statement}
 use Rattle.encoding.proofs.encode.lead_a12.Tie as tie
 
 returns : tie.Need-returns
-returns c = sym (bit-law _ _ 11 _ 8)
+returns c = sym (bit_law _ _ 11 _ 8)
 
-pub lead-a12-spec : {M : Type 1} → statement M
-lead-a12-spec = tie.close (tie.spec (λ c. search rules) (λ c. search rules) (λ c. search rules) (λ c. search rules) (λ c. search rules) (λ c. search rules) (λ c. search rules) returns)
+pub lead_a12_spec : {M : Type 1} → statement M
+lead_a12_spec = tie.close (tie.spec (λ c. search rules) (λ c. search rules) (λ c. search rules) (λ c. search rules) (λ c. search rules) (λ c. search rules) (λ c. search rules) returns)

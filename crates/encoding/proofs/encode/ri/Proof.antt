@@ -3,5 +3,5 @@ use borrow.Author.Rules.{rules}
 use Rattle.encoding.proofs.encode.ri.Statement.{statement}
 use Rattle.encoding.proofs.encode.ri.Tie as tie
 
-pub ri-spec : {M : Type 1} → statement M
-ri-spec = tie.close (tie.spec (λ c κs. search rules) (λ c. cc))
+pub ri_spec : {M : Type 1} → statement M
+ri_spec = tie.close (tie.spec (λ c κs. search rules) (λ c. cc))

@@ -3,5 +3,5 @@ use borrow.Author.Rules.{rules}
 use Rattle.encoding.proofs.encode.ri_low.Statement.{statement}
 use Rattle.encoding.proofs.encode.ri_low.Tie as tie
 
-pub ri-low-spec : {M : Type 1} → statement M
-ri-low-spec = tie.close (tie.spec (λ c κs. search rules) (λ c κs. search rules) (λ c. cc))
+pub ri_low_spec : {M : Type 1} → statement M
+ri_low_spec = tie.close (tie.spec (λ c κs. search rules) (λ c κs. search rules) (λ c. cc))

@@ -3,5 +3,5 @@ use borrow.Author.Rules.{rules}
 use Rattle.encoding.proofs.encode.ri_low2.Statement.{statement}
 use Rattle.encoding.proofs.encode.ri_low2.Tie as tie
 
-pub ri-low2-spec : {M : Type 1} → statement M
-ri-low2-spec = tie.close (tie.spec (λ c κs. search rules) (λ c κs. search rules) (λ c κs. search rules) (λ c. cc))
+pub ri_low2_spec : {M : Type 1} → statement M
+ri_low2_spec = tie.close (tie.spec (λ c κs. search rules) (λ c κs. search rules) (λ c κs. search rules) (λ c. cc))

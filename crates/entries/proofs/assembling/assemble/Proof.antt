@@ -2,52 +2,52 @@
 use mathlib.Core.Path.{◌≡◌, sym, ap, ◌∙◌}
 use lib.ListN.{length}
 use borrow.Author.Rules.{rules}
-use Rattle.rules.specs.Listing.{readListing}
-use Rattle.entries.proofs.Phases.{listed-read, listed-refused, leaves-unread, leaves-read}
+use Rattle.rules.specs.Listing.{read_listing}
+use Rattle.entries.proofs.Phases.{listed_read, listed_refused, leaves_unread, leaves_read}
 use Rattle.entries.proofs.assembling.assemble.Statement.{statement}
 use Rattle.entries.proofs.assembling.assemble.Tie as tie
 
-assemble-read-requires : tie.Need-assemble-read-requires
-assemble-read-requires c κs =
+assemble_read_requires : tie.Need-assemble-read-requires
+assemble_read_requires c κs =
     let s = c.before.before.before.before.before.before.before.before.before.before.before.before in
-    (listed-read _ _ _ (readListing s.args.listing.now) _ c.before.before.before.before.count.given.1 c.before.before.before.before.before.before.read-listing.ensures.0).2.held
+    (listed_read _ _ _ (read_listing s.args.listing.now) _ c.before.before.before.before.count.given.1 c.before.before.before.before.before.before.read_listing.ensures.0).2.held
 
 returns : tie.Need-returns
 returns c =
     let s = c.before.before.before.before.before.before.before.before.before in
-    leaves-unread s.args.listing.now (length s.args.image.now) _ s.args.image.now
-    (listed-refused _ _ _ (readListing s.args.listing.now) _ c.before.r.given.1 c.before.before.before.read-listing.ensures.0)
+    leaves_unread s.args.listing.now (length s.args.image.now) _ s.args.image.now
+    (listed_refused _ _ _ (read_listing s.args.listing.now) _ c.before.r.given.1 c.before.before.before.read_listing.ensures.0)
 
-returns-2 : tie.Need-returns-2
-returns-2 c =
+returns_2 : tie.Need-returns-2
+returns_2 c =
     let s = c.before.before.before.before.before.before.before.before.before.before.before.before.before.before.before in
-    let h = listed-read _ _ _ (readListing s.args.listing.now) _ c.before.before.before.before.before.before.before.count.given.1 c.before.before.before.before.before.before.before.before.before.read-listing.ensures.0 in
-    leaves-read s.args.listing.now (length s.args.image.now) h.0 _ h.1 h.2.input c.before.before.assemble-read.ensures
+    let h = listed_read _ _ _ (read_listing s.args.listing.now) _ c.before.before.before.before.before.before.before.count.given.1 c.before.before.before.before.before.before.before.before.before.read_listing.ensures.0 in
+    leaves_read s.args.listing.now (length s.args.image.now) h.0 _ h.1 h.2.input c.before.before.assemble_read.ensures
 
-read-listing-requires : tie.Need-read-listing-requires
-read-listing-requires c κs = search rules
+read_listing_requires : tie.Need-read-listing-requires
+read_listing_requires c κs = search rules
 
-enum-known-r : tie.Need-enum-known-r
-enum-known-r c = search rules
+enum_known_r : tie.Need-enum-known-r
+enum_known_r c = search rules
 
-enum-known-count : tie.Need-enum-known-count
-enum-known-count c = search rules
+enum_known_count : tie.Need-enum-known-count
+enum_known_count c = search rules
 
-slice-aggregate-assemble-read : tie.Need-slice-aggregate-assemble-read
-slice-aggregate-assemble-read c = search rules
+slice_aggregate_assemble_read : tie.Need-slice-aggregate-assemble-read
+slice_aggregate_assemble_read c = search rules
 
 same_length : tie.Need-same-length
 same_length c = search rules
 
-pub assemble-spec : {M : Type 1} → statement M
-assemble-spec =
+pub assemble_spec : {M : Type 1} → statement M
+assemble_spec =
     tie.close
     (tie.spec
-    read-listing-requires
-    enum-known-r
-    enum-known-count
-    slice-aggregate-assemble-read
-    assemble-read-requires
+    read_listing_requires
+    enum_known_r
+    enum_known_count
+    slice_aggregate_assemble_read
+    assemble_read_requires
     returns
     same_length
-    returns-2)
+    returns_2)

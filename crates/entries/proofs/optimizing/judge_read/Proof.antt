@@ -7,34 +7,34 @@ use lib.ListN.{length}
 use borrow.Author.Rules.{rules}
 use Rattle.rules.specs.Judging.{judge, assembles}
 use Rattle.slots.specs.Slots.{Slots, program_of}
-use Rattle.slots.specs.State.{startsIn, formsIn, carryIn, ownersIn, offsetsIn, table_of}
-use Rattle.slots.proofs.State.{table-labelled}
-use Rattle.slots.specs.Links.{contextsRead, Beside, Together}
+use Rattle.slots.specs.State.{starts_in, forms_in, carry_in, owners_in, offsets_in, table_of}
+use Rattle.slots.proofs.State.{table_labelled}
+use Rattle.slots.specs.Links.{contexts_read, Beside, Together}
 use Rattle.image.specs.Tables.{Tables, tables_of}
 use Rattle.env.specs.Tables.{Any}
-use Rattle.env.proofs.Programs.{length-program}
+use Rattle.env.proofs.Programs.{length_program}
 use Rattle.asm.specs.Assembling.{InPlace}
-use Rattle.asm.proofs.Carrying.{placed-any}
+use Rattle.asm.proofs.Carrying.{placed_any}
 use Rattle.attempts.specs.Standing.{Standing}
-use Rattle.output.specs.Lines.{besideIn}
+use Rattle.output.specs.Lines.{beside_in}
 use Rattle.finishing.specs.Ending.{Assembled}
-use Rattle.finishing.proofs.Ended.{bad-no, assembled-by}
-use Rattle.finishing.proofs.Deliveries.{delivers-no}
-use Rattle.entries.proofs.Stands.{own-together, anchored-stands}
-use Rattle.entries.proofs.Results.{fitted-program, judged-no, judged-delivers, judged-left, left-no}
+use Rattle.finishing.proofs.Ended.{bad_no, assembled_by}
+use Rattle.finishing.proofs.Deliveries.{delivers_no}
+use Rattle.entries.proofs.Stands.{own_together, anchored_stands}
+use Rattle.entries.proofs.Results.{fitted_program, judged_no, judged_delivers, judged_left, left_no}
 use Rattle.entries.proofs.optimizing.judge_read.Statement.{statement}
 use Rattle.entries.proofs.optimizing.judge_read.Tie as tie
 
 abbrev here : (c : tie.Start) → Slots
 here c = table_of c.args.frames.now c.args.state.now c.args.count
 
-judge-requires : tie.Need-judge-requires
-judge-requires c κs =
+judge_requires : tie.Need-judge-requires
+judge_requires c κs =
     let s = c.before.before.before.before.before.before.before in
-    (s.requires.0, own-together (here s) s.requires.1.own, search rules, search rules, search rules, s.requires.3)
+    (s.requires.0, own_together (here s) s.requires.1.own, search rules, search rules, search rules, s.requires.3)
 
-enum-known-r : tie.Need-enum-known-r
-enum-known-r c = search rules
+enum_known_r : tie.Need-enum-known-r
+enum_known_r c = search rules
 
 enum_told : tie.Need-enum-told
 enum_told c = search rules
@@ -46,9 +46,9 @@ returns c =
     let p = program_of (here s) in
     let out = s.args.out.now in
     let image = s.args.image.now in
-    let beside = besideIn s.args.wanted.marked s.args.lines.now s.args.count in
-    let e = judged-no s.args.wanted.settings beside (length out) (length image) s.args.wanted.list p _ (bad-no (judge p) _ (sym c.before.r.given.1 ∙ j.judge.ensures.0.answer)) in
-    (delivers-no _ _ out image e, left-no _ _ _ s.args.count e)
+    let beside = beside_in s.args.wanted.marked s.args.lines.now s.args.count in
+    let e = judged_no s.args.wanted.settings beside (length out) (length image) s.args.wanted.list p _ (bad_no (judge p) _ (sym c.before.r.given.1 ∙ j.judge.ensures.0.answer)) in
+    (delivers_no _ _ out image e, left_no _ _ _ s.args.count e)
 
 -- the program is good
 module _ (e : tie.After-enum-told) where
@@ -65,15 +65,15 @@ module _ (e : tie.After-enum-told) where
   tables = tables_of start.args.frames.now state start.args.count judged.judge.last.1.1.1.1.0 judged.judge.last.1.1.1.1.1.1.0 judged.judge.last.1.1.1.1.1.0
 
   good : Assembled tables
-  good = assembled-by _ _ e.enum_told.given.1 judged.judge.ensures.0
+  good = assembled_by _ _ e.enum_told.given.1 judged.judge.ensures.0
 
-  placed : Any start.args.frames.now (startsIn state) start.args.count (formsIn state) (λ t. InPlace t)
+  placed : Any start.args.frames.now (starts_in state) start.args.count (forms_in state) (λ t. InPlace t)
   placed =
-      placed-any start.args.frames.now (startsIn state) start.args.count (formsIn state) (carryIn state) (ownersIn state) (offsetsIn state)
-      (contextsRead start.args.frames.now (startsIn state) start.args.count) (record { context = good.ready.context })
+      placed_any start.args.frames.now (starts_in state) start.args.count (forms_in state) (carry_in state) (owners_in state) (offsets_in state)
+      (contexts_read start.args.frames.now (starts_in state) start.args.count) (record { context = good.ready.context })
 
-anchor-requires : tie.Need-anchor-requires
-anchor-requires c κs =
+anchor_requires : tie.Need-anchor-requires
+anchor_requires c κs =
     let e = c.before.before.before.before.before.before in
     let s = start e in
     (((good e).ready, s.pre.1, (s.pre.3 _ _ _).0), (s.pre.2.owners, s.pre.2.offsets, refl))
@@ -93,28 +93,28 @@ module _ (a : tie.After-anchor) where
   stands =
       let s = start told in
       let l = a.anchor.ensures.1 in
-      let is = table-labelled s.args.frames.now (state told) anchored s.args.count l in
-      anchored-stands (here s) new a.anchor.ensures.0 (good told).good
+      let is = table_labelled s.args.frames.now (state told) anchored s.args.count l in
+      anchored_stands (here s) new a.anchor.ensures.0 (good told).good
       (ap length l.forms ∙ s.pre.2.forms) (ap length l.carry ∙ s.pre.2.carry)
-      (subst (λ (z : Slots). InPlace z) (sym is) (placed told _ _ _)) (subst (λ (z : Slots). Together z) (sym is) (own-together _ s.pre.1.own))
+      (subst (λ (z : Slots). InPlace z) (sym is) (placed told _ _ _)) (subst (λ (z : Slots). Together z) (sym is) (own_together _ s.pre.1.own))
 
-  beside : Beside (start told).args.frames.now (startsIn anchored) (start told).args.count (judged told).judge.last.1.1.1.1.0
+  beside : Beside (start told).args.frames.now (starts_in anchored) (start told).args.count (judged told).judge.last.1.1.1.1.0
   beside =
       let s = start told in
       subst (λ (z : List ℕ). Beside s.args.frames.now z s.args.count (judged told).judge.last.1.1.1.1.0)
       (sym a.anchor.ensures.1.starts) ((judged told).judge.ensures.1 told.enum_told.given.1)
 
-rewrite-anchored-requires : tie.Need-rewrite-anchored-requires
-rewrite-anchored-requires c κs = let a = c.before.before.before.before in ((stands a).0, (stands a).1, beside a)
+rewrite_anchored_requires : tie.Need-rewrite-anchored-requires
+rewrite_anchored_requires c κs = let a = c.before.before.before.before in ((stands a).0, (stands a).1, beside a)
 
 same_length : tie.Need-same-length
 same_length c = search rules
 
-same-length-2 : tie.Need-same-length-2
-same-length-2 c = search rules
+same_length_2 : tie.Need-same-length-2
+same_length_2 c = search rules
 
-returns-2 : tie.Need-returns-2
-returns-2 c =
+returns_2 : tie.Need-returns-2
+returns_2 c =
     let w = c.before.before.before.before in
     let a = w.before.before.before.before.before in
     let e = told a in
@@ -123,22 +123,22 @@ returns-2 c =
     let room = s.args.wanted.list in
     let n = s.args.count in
     let p = program_of (here s) in
-    let marks = besideIn s.args.wanted.marked s.args.lines.now n in
-    let d = fitted-program asked marks _ _ n room a.anchor.ensures.0.program w.rewrite-anchored.ensures in (
-      judged-delivers asked marks p n room (length-program (here s)) (good e).good s.args.out.now s.args.image.now d.0,
-      judged-left asked marks p n room (length-program (here s)) (good e).good s.args.out.now s.args.image.now _ n d.1,
+    let marks = beside_in s.args.wanted.marked s.args.lines.now n in
+    let d = fitted_program asked marks _ _ n room a.anchor.ensures.0.program w.rewrite_anchored.ensures in (
+      judged_delivers asked marks p n room (length_program (here s)) (good e).good s.args.out.now s.args.image.now d.0,
+      judged_left asked marks p n room (length_program (here s)) (good e).good s.args.out.now s.args.image.now _ n d.1,
     )
 
-pub judge-read-spec : {M : Type 1} → statement M
-judge-read-spec =
+pub judge_read_spec : {M : Type 1} → statement M
+judge_read_spec =
     tie.close
     (tie.spec
-    judge-requires
-    enum-known-r
+    judge_requires
+    enum_known_r
     returns
     enum_told
-    anchor-requires
-    rewrite-anchored-requires
+    anchor_requires
+    rewrite_anchored_requires
     same_length
-    same-length-2
-    returns-2)
+    same_length_2
+    returns_2)

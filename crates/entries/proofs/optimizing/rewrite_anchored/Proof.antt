@@ -5,25 +5,25 @@ use mathlib.Core.List.{List}
 use Prim.Native.Nat.{ℕ}
 use borrow.Author.Rules.{rules}
 use Rattle.rules.specs.Judging.{assembles}
-use Rattle.output.specs.Lines.{besideIn}
+use Rattle.output.specs.Lines.{beside_in}
 use Rattle.output.specs.Showing.{Shown}
 use Rattle.slots.specs.Slots.{Slots, program_of}
-use Rattle.slots.specs.State.{startsIn, table_of}
+use Rattle.slots.specs.State.{starts_in, table_of}
 use Rattle.slots.specs.Links.{Beside}
 use Rattle.attempts.specs.Standing.{Standing}
-use Rattle.entries.proofs.Stands.{shown-stands}
-use Rattle.entries.proofs.Results.{optimized-fitted, optimized-left}
+use Rattle.entries.proofs.Stands.{shown_stands}
+use Rattle.entries.proofs.Results.{optimized_fitted, optimized_left}
 use Rattle.entries.proofs.optimizing.rewrite_anchored.Statement.{statement}
 use Rattle.entries.proofs.optimizing.rewrite_anchored.Tie as tie
 
 abbrev here : (c : tie.Start) → Slots
 here c = table_of c.args.frames.now c.args.state.now c.args.count
 
-optimize-requires : tie.Need-optimize-requires
-optimize-requires c κs = search rules
+optimize_requires : tie.Need-optimize-requires
+optimize_requires c κs = search rules
 
-show-requires : tie.Need-show-requires
-show-requires c κs = let o = c.before.optimize.ensures in (o.stands.sound, o.stands.forms-full)
+show_requires : tie.Need-show-requires
+show_requires c κs = let o = c.before.optimize.ensures in (o.stands.sound, o.stands.forms_full)
 
 -- the slots that are left
 module _ (h : tie.After-show) where
@@ -46,21 +46,21 @@ module _ (h : tie.After-show) where
   stands =
       let o = rewrote.optimize.ensures in
       subst (λ (z : Slots). Standing z × (assembles (program_of z) ≡ true)) (sym h.show.ensures.1.0)
-      (shown-stands start.args.wanted.settings old _ h.show.ensures.1.1 o.stands o.good h.show.ensures.0.0)
+      (shown_stands start.args.wanted.settings old _ h.show.ensures.1.1 o.stands o.good h.show.ensures.0.0)
 
   beside : Beside start.args.frames.now left.starts start.args.count start.args.links.now
   beside =
       subst (λ (z : List ℕ). Beside start.args.frames.now z start.args.count start.args.links.now)
-      (sym (h.show.ensures.0.1 ∙ rewrote.optimize.ensures.starts-kept)) start.pre.2
+      (sym (h.show.ensures.0.1 ∙ rewrote.optimize.ensures.starts_kept)) start.pre.2
 
-judge-end-requires : tie.Need-judge-end-requires
-judge-end-requires c κs = let h = c.before.before.before in ((stands h).0, (stands h).1, beside h)
+judge_end_requires : tie.Need-judge-end-requires
+judge_end_requires c κs = let h = c.before.before.before in ((stands h).0, (stands h).1, beside h)
 
 same_length : tie.Need-same-length
 same_length c = search rules
 
-same-length-2 : tie.Need-same-length-2
-same-length-2 c = search rules
+same_length_2 : tie.Need-same-length-2
+same_length_2 c = search rules
 
 returns : tie.Need-returns
 returns c =
@@ -68,11 +68,11 @@ returns c =
     let h = e.before.before.before.before in
     let s = start h in
     let asked = s.args.wanted.settings in
-    let marks = besideIn s.args.wanted.marked s.args.lines.now s.args.count in (
-      optimized-fitted asked marks (here s) (old h) (left h) _ (rewrote h).optimize.ensures (shown h) s.args.wanted.list e.judge-end.ensures,
-      optimized-left asked marks (here s) (old h) (left h) _ (rewrote h).optimize.ensures (shown h),
+    let marks = beside_in s.args.wanted.marked s.args.lines.now s.args.count in (
+      optimized_fitted asked marks (here s) (old h) (left h) _ (rewrote h).optimize.ensures (shown h) s.args.wanted.list e.judge_end.ensures,
+      optimized_left asked marks (here s) (old h) (left h) _ (rewrote h).optimize.ensures (shown h),
     )
 
-pub rewrite-anchored-spec : {M : Type 1} → statement M
-rewrite-anchored-spec =
-    tie.close (tie.spec optimize-requires show-requires judge-end-requires same_length same-length-2 returns)
+pub rewrite_anchored_spec : {M : Type 1} → statement M
+rewrite_anchored_spec =
+    tie.close (tie.spec optimize_requires show_requires judge_end_requires same_length same_length_2 returns)

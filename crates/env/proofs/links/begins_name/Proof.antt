@@ -5,7 +5,7 @@ use mathlib.Core.List.{[], ◌∷◌}
 use native.Mathlib.Omega.{arith}
 use borrow.Author.Rules.{rules}
 use types.Run.{OneOf}
-use Rattle.laws.proofs.Tests.{false-true, true-false}
+use Rattle.laws.proofs.Tests.{false_true, true_false}
 use Rattle.env.proofs.links.begins_name.Statement.{statement}
 use Rattle.env.proofs.links.begins_name.Tie as tie
 
@@ -14,10 +14,10 @@ no_key : OneOf (0 ∷ 2 ∷ 3 ∷ 4 ∷ []) 1 → ⊥
 no_key k = ⊎_elim (λ q. omega arith) (⊎_elim (λ q. omega arith) (⊎_elim (λ q. omega arith) (λ q. omega arith))) k
 
 returns : tie.Need-returns
-returns c = (λ e. sym c.before.before.tag_of.ensures ∙ c.enum_told.given.1, λ e. true-false e)
+returns c = (λ e. sym c.before.before.tag_of.ensures ∙ c.enum_told.given.1, λ e. true_false e)
 
-returns-2 : tie.Need-returns-2
-returns-2 c = (λ e. false-true e, λ e t. no_key (rw (c.before.tag_of.ensures ∙ t) at c.match.keys2))
+returns_2 : tie.Need-returns-2
+returns_2 c = (λ e. false_true e, λ e t. no_key (rw (c.before.tag_of.ensures ∙ t) at c.match.keys2))
 
-pub begins-name-spec : {M : Type 1} → statement M
-begins-name-spec = tie.close (tie.spec (λ c κs. search rules) (λ c. search rules) returns returns-2)
+pub begins_name_spec : {M : Type 1} → statement M
+begins_name_spec = tie.close (tie.spec (λ c κs. search rules) (λ c. search rules) returns returns_2)

@@ -7,11 +7,11 @@ use Rattle.expression.proofs.Signed.{read64}
 use Rattle.env.proofs.variables.wide.Statement.{statement}
 use Rattle.env.proofs.variables.wide.Tie as tie
 
-cast-result : tie.Need-overflow-cast-result
-cast-result c = subst (SFits w64) (sym (to_z-of_z c.ranges.z)) (sfits_widen tt c.ranges.z)
+cast_result : tie.Need-overflow-cast-result
+cast_result c = subst (SFits w64) (sym (to_z-of_z c.ranges.z)) (sfits_widen tt c.ranges.z)
 
 returns : tie.Need-returns
 returns c = read64 refl c.ranges.z
 
 pub wide_spec : {M : Type 1} → statement M
-wide_spec = tie.close (tie.spec cast-result returns)
+wide_spec = tie.close (tie.spec cast_result returns)

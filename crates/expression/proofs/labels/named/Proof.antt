@@ -6,9 +6,9 @@ use borrow.Author.Tests.{lt-leb}
 use borrow.Author.Rules.{rules}
 use Rattle.rules.specs.Expressions.{name_of}
 use Rattle.rules.specs.Names.{key_of}
-use Rattle.rules.specs.Judging.{isSeen}
+use Rattle.rules.specs.Judging.{is_seen}
 use Rattle.expression.specs.Environment.{keys_of}
-use Rattle.expression.specs.Naming.{leafTally}
+use Rattle.expression.specs.Naming.{leaf_tally}
 use Rattle.expression.proofs.labels.named.Statement.{statement}
 use Rattle.expression.proofs.labels.named.Tie as tie
 
@@ -18,25 +18,25 @@ returns c = simp (lt-leb 3 _ c.if1.true)
 -- the test, of the name that is read
 tested : (c : tie.After-is-seen) →
     let a = c.before.before.before.before.before.before.args in
-    c.is_seen.result ≡ isSeen (keys_of a.names.now a.contexts.now a.limit) (key_of a.context (name_of a.s.now))
+    c.is_seen.result ≡ is_seen (keys_of a.names.now a.contexts.now a.limit) (key_of a.context (name_of a.s.now))
 tested c =
     let a = c.before.before.before.before.before.before.args in
-    c.is_seen.ensures ∙ ap (λ (m : ℕ). isSeen (keys_of a.names.now a.contexts.now a.limit) (key_of a.context m)) c.before.pair.ensures
+    c.is_seen.ensures ∙ ap (λ (m : ℕ). is_seen (keys_of a.names.now a.contexts.now a.limit) (key_of a.context m)) c.before.pair.ensures
 
-returns-2 : tie.Need-returns-2
-returns-2 c =
+returns_2 : tie.Need-returns-2
+returns_2 c =
     let t = c.before.before in
     let a = t.before.before.before.before.before.before.args in
-    c.leaf.ensures ∙ ap (λ (b : Bool). leafTally 3 (cond b 1 0) a.s.now) (sym c.before.if2.true ∙ tested t)
+    c.leaf.ensures ∙ ap (λ (b : Bool). leaf_tally 3 (cond b 1 0) a.s.now) (sym c.before.if2.true ∙ tested t)
 
-returns-3 : tie.Need-returns-3
-returns-3 c =
+returns_3 : tie.Need-returns-3
+returns_3 c =
     let t = c.before.before in
     let a = t.before.before.before.before.before.before.args in
-    c.leaf2.ensures ∙ ap (λ (b : Bool). leafTally 3 (cond b 1 0) a.s.now) (sym c.before.if2.false ∙ tested t)
+    c.leaf2.ensures ∙ ap (λ (b : Bool). leaf_tally 3 (cond b 1 0) a.s.now) (sym c.before.if2.false ∙ tested t)
 
-pub named-spec : {M : Type 1} → statement M
-named-spec =
+pub named_spec : {M : Type 1} → statement M
+named_spec =
     tie.close
     (tie.spec
     returns
@@ -46,5 +46,5 @@ named-spec =
     (λ c κs. search rules)
     (λ c κs. search rules)
     (λ c κs. search rules)
-    returns-2
-    returns-3)
+    returns_2
+    returns_3)

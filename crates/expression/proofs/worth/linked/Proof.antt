@@ -13,9 +13,9 @@ returns c = c.none.ensures ∙ simp (lt-leb 3 _ c.before.if1.true)
 meant : Outcome → Valued
 meant v = record { value = v; taken = 3 }
 
-returns-2 : tie.Need-returns-2
+returns_2 : tie.Need-returns-2
 unfolding meant
-returns-2 c = simp (le-leb 3 _ c.before.before.if1.false) (ap meant c.stands-for.ensures)
+returns_2 c = simp (le-leb 3 _ c.before.before.if1.false) (ap meant c.stands_for.ensures)
 
-pub linked-spec : {M : Type 1} → statement M
-linked-spec = tie.close (tie.spec (λ c κs. search rules) returns (λ c. search rules) (λ c κs. search rules) returns-2)
+pub linked_spec : {M : Type 1} → statement M
+linked_spec = tie.close (tie.spec (λ c κs. search rules) returns (λ c. search rules) (λ c κs. search rules) returns_2)

@@ -2,8 +2,8 @@
 use mathlib.Core.Path.{sym, ◌∙◌}
 use borrow.Author.Rules.{rules}
 use Rattle.image.specs.Tables.{Tables, tables_of}
-use Rattle.image.specs.Encoding.{encodeAt}
-use Rattle.image.proofs.Passes.{passes-is, refused-is}
+use Rattle.image.specs.Encoding.{encode_at}
+use Rattle.image.proofs.Passes.{passes_is, refused_is}
 use Rattle.image.proofs.checking.encodes_at.Statement.{statement}
 use Rattle.image.proofs.checking.encodes_at.Tie as tie
 
@@ -16,13 +16,13 @@ returns : tie.Need-returns
 returns c =
     let k = c.before.before in
     let s = k.before.before in
-    passes-is (encodeAt (here s) s.args.at.0) (sym c.enum_told.given.1 ∙ k.check-at.ensures)
+    passes_is (encode_at (here s) s.args.at.0) (sym c.enum_told.given.1 ∙ k.check_at.ensures)
 
-returns-2 : tie.Need-returns-2
-returns-2 c =
+returns_2 : tie.Need-returns-2
+returns_2 c =
     let k = c.before.before in
     let s = k.before.before in
-    refused-is (encodeAt (here s) s.args.at.0) c.enum-told2.given.0.0 (sym c.enum-told2.given.1 ∙ k.check-at.ensures)
+    refused_is (encode_at (here s) s.args.at.0) c.enum_told2.given.0.0 (sym c.enum_told2.given.1 ∙ k.check_at.ensures)
 
-pub encodes-at-spec : {M : Type 1} → statement M
-encodes-at-spec = tie.close (tie.spec (λ c κs. let s = c.before in (s.requires.0, s.requires.1)) (λ c. search rules) (λ c. search rules) returns returns-2)
+pub encodes_at_spec : {M : Type 1} → statement M
+encodes_at_spec = tie.close (tie.spec (λ c κs. let s = c.before in (s.requires.0, s.requires.1)) (λ c. search rules) (λ c. search rules) returns returns_2)

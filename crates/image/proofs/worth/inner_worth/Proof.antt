@@ -12,5 +12,5 @@ use Rattle.image.proofs.worth.inner_worth.Tie as tie
 returns : tie.Need-returns
 returns c = ap Is (to_z_pos w32 {n = c.args.position + c.args.offset} (omega arith))
 
-pub inner-worth-spec : {M : Type 1} → statement M
-inner-worth-spec = tie.close (tie.spec (λ c. search rules) (λ c. search rules) returns)
+pub inner_worth_spec : {M : Type 1} → statement M
+inner_worth_spec = tie.close (tie.spec (λ c. search rules) (λ c. search rules) returns)

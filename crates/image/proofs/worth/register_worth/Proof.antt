@@ -11,5 +11,5 @@ use Rattle.image.proofs.worth.register_worth.Tie as tie
 returns : tie.Need-returns
 returns c = ap Is (to_z_pos w32 {n = c.args.register} (omega arith))
 
-pub register-worth-spec : {M : Type 1} → statement M
-register-worth-spec = tie.close (tie.spec (λ c. search rules) returns)
+pub register_worth_spec : {M : Type 1} → statement M
+register_worth_spec = tie.close (tie.spec (λ c. search rules) returns)

@@ -10,36 +10,36 @@ use borrow.Author.Rules.{rules}
 use Rattle.image.proofs.writing.write_code.Statement.{statement}
 use Rattle.image.proofs.writing.write_code.Tie as tie
 
-abbrev invariant-loop : tie.invariant-loop
-invariant-loop image₀ from bytes n k₀ image k = (k ≤ n) × (length image ≡ length image₀) × (image ≡ paste image₀ from bytes k)
+abbrev invariant_loop : tie.invariant_loop
+invariant_loop image₀ from bytes n k₀ image k = (k ≤ n) × (length image ≡ length image₀) × (image ≡ paste image₀ from bytes k)
 
-abbrev decreases-loop : tie.decreases-loop
-decreases-loop image₀ from bytes n k₀ image k = n - k
+abbrev decreases_loop : tie.decreases_loop
+decreases_loop image₀ from bytes n k₀ image k = n - k
 
-abbrev three : tie.Start invariant-loop decreases-loop → List ℕ
+abbrev three : tie.Start invariant_loop decreases_loop → List ℕ
 three s = let e = s.args.code in e.b0 ∷ e.b1 ∷ e.b2 ∷ []
 
-loop-holds : tie.Need-loop-init invariant-loop decreases-loop
-loop-holds c = (omega arith, refl, paste-zero c.args.image.now c.args.q.0 (three c))
+loop_holds : tie.Need-loop-init invariant_loop decreases_loop
+loop_holds c = (omega arith, refl, paste-zero c.args.image.now c.args.q.0 (three c))
 
 -- the byte's address is within the room
-inside : (c : tie.In-loop invariant-loop decreases-loop) → let s = c.before.before in (s.args.q.0 + c.before.loop.k < length s.args.image.now) × (c.before.loop.k < 3)
+inside : (c : tie.In-loop invariant_loop decreases_loop) → let s = c.before.before in (s.args.q.0 + c.before.loop.k < length s.args.image.now) × (c.before.loop.k < 3)
 inside c =
     let s = c.before.before in
-    let some : 0 < s.args.code.len = omega (arith, c.loop-test.true) in
-    (omega (arith, s.requires.1 some, c.loop-test.true), omega (arith, s.requires.0, c.loop-test.true))
+    let some : 0 < s.args.code.len = omega (arith, c.loop_test.true) in
+    (omega (arith, s.requires.1 some, c.loop_test.true), omega (arith, s.requires.0, c.loop_test.true))
 
-array-read-image : tie.Need-array-read-image invariant-loop decreases-loop
-array-read-image c = (inside c).1
+array_read_image : tie.Need-array-read-image invariant_loop decreases_loop
+array_read_image c = (inside c).1
 
-add-image : tie.Need-overflow-add-image invariant-loop decreases-loop
-add-image c = record { fits = omega (arith, (inside c).0) }
+add_image : tie.Need-overflow-add-image invariant_loop decreases_loop
+add_image c = record { fits = omega (arith, (inside c).0) }
 
-slice-write-image : tie.Need-slice-write-image invariant-loop decreases-loop
-slice-write-image c = omega (arith, (inside c).0, c.before.loop.invariant.1)
+slice_write_image : tie.Need-slice-write-image invariant_loop decreases_loop
+slice_write_image c = omega (arith, (inside c).0, c.before.loop.invariant.1)
 
-loop-again : tie.Need-loop-preserved invariant-loop decreases-loop
-loop-again c =
+loop_again : tie.Need-loop-preserved invariant_loop decreases_loop
+loop_again c =
     let l = c.before.loop in
     let s = c.before.before in
     let old = s.args.image.now in (
@@ -48,7 +48,7 @@ loop-again c =
       rw l.invariant.2 (paste-suc old s.args.q.0 (three s) l.k 0 (inside c).0 (inside c).1 ∙ ap (paste old s.args.q.0 (three s)) (sym (add-one l.k))),
     )
 
-returns : tie.Need-returns invariant-loop decreases-loop
+returns : tie.Need-returns invariant_loop decreases_loop
 returns c =
     let l = c.before.loop in
     let s = c.before.before in
@@ -58,18 +58,18 @@ returns c =
     l.invariant.2 ∙ ap (paste old s.args.q.0 (three s)) e
     ∙ ap (λ m. take s.args.q.0 old ++ take n (three s) ++ drop (s.args.q.0 + m) old) (sym (length-take-le n (three s) s.requires.0))
 
-pub write-code-spec : {M : Type 1} → statement M
-write-code-spec =
+pub write_code_spec : {M : Type 1} → statement M
+write_code_spec =
     tie.close
     (tie.spec
-    invariant-loop
-    decreases-loop
-    loop-holds
-    array-read-image
-    add-image
-    slice-write-image
+    invariant_loop
+    decreases_loop
+    loop_holds
+    array_read_image
+    add_image
+    slice_write_image
     (λ c. search rules)
     (λ c. search rules)
-    loop-again
+    loop_again
     (λ c. search rules)
     returns)

@@ -8,7 +8,7 @@ use lib.ListN.{length, set, length-set}
 use lib.Seq.{sets-eq}
 use borrow.Author.Rules.{rules}
 use Rattle.rules.specs.Encoding.{byte, word}
-use Rattle.image.specs.Encoding.{writeOf}
+use Rattle.image.specs.Encoding.{write_of}
 use Rattle.image.specs.Image.{put}
 use Rattle.image.proofs.writing.write_item.Statement.{statement}
 use Rattle.image.proofs.writing.write_item.Tie as tie
@@ -20,8 +20,8 @@ one c =
     let is = c.before.enum_told.given.1 in
     (rw is at s.requires.0, rw is at s.requires.1)
 
-slice-write-image : tie.Need-slice-write-image
-slice-write-image c = omega (arith, (one c).0)
+slice_write_image : tie.Need-slice-write-image
+slice_write_image c = omega (arith, (one c).0)
 
 returns : tie.Need-returns
 returns c =
@@ -29,23 +29,23 @@ returns c =
     let room = s.args.image.now in
     ap (set room s.args.q.0) (c.low.ensures ∙ mod-eq_of_lt (one c).1)
     ∙ sets-eq (byte s.args.v) room s.args.q.0 (one c).0
-    ∙ ap (λ w. put room s.args.q.0 (writeOf w s.args.v)) (sym c.before.enum_told.given.1)
+    ∙ ap (λ w. put room s.args.q.0 (write_of w s.args.v)) (sym c.before.enum_told.given.1)
 
 -- two bytes have room
 two : (c : tie.After-high) → let s = c.before.before.before.before.before in s.args.q.0 + 2 ≤ length s.args.image.now
-two c = let s = c.before.before.before.before.before in rw c.before.before.enum-told2.given.1 at s.requires.0
+two c = let s = c.before.before.before.before.before in rw c.before.before.enum_told2.given.1 at s.requires.0
 
-add-image : tie.Need-overflow-add-image
-add-image c = record { fits = omega (arith, two c) }
+add_image : tie.Need-overflow-add-image
+add_image c = record { fits = omega (arith, two c) }
 
-slice-write-image-2 : tie.Need-slice-write-image-2
-slice-write-image-2 c = omega (arith, two c)
+slice_write_image_2 : tie.Need-slice-write-image-2
+slice_write_image_2 c = omega (arith, two c)
 
-slice-write-image-3 : tie.Need-slice-write-image-3
-slice-write-image-3 c = simp length-set (omega (arith, two c))
+slice_write_image_3 : tie.Need-slice-write-image-3
+slice_write_image_3 c = simp length-set (omega (arith, two c))
 
-returns-2 : tie.Need-returns-2
-returns-2 c =
+returns_2 : tie.Need-returns-2
+returns_2 c =
     let s = c.before.before.before.before.before in
     let room = s.args.image.now in
     let q = s.args.q.0 in
@@ -54,22 +54,22 @@ returns-2 c =
     ∙ ap (λ b. set (set room q (v % 256)) (q + 1) b) c.high.ensures
     ∙ ap (λ n. set (set room q (v % 256)) n (v / 256)) (add-one q)
     ∙ sets-eq (word v) room q (two c)
-    ∙ ap (λ w. put room q (writeOf w v)) (sym c.before.before.enum-told2.given.1)
+    ∙ ap (λ w. put room q (write_of w v)) (sym c.before.before.enum_told2.given.1)
 
-pub write-item-spec : {M : Type 1} → statement M
-write-item-spec =
+pub write_item_spec : {M : Type 1} → statement M
+write_item_spec =
     tie.close
     (tie.spec
     (λ c. search rules)
     (λ c κs. search rules)
-    slice-write-image
+    slice_write_image
     (λ c. search rules)
     (λ c κs. search rules)
     (λ c κs. search rules)
-    slice-write-image-2
-    add-image
-    slice-write-image-3
+    slice_write_image_2
+    add_image
+    slice_write_image_3
     (λ c. search rules)
     returns
     (λ c. search rules)
-    returns-2)
+    returns_2)

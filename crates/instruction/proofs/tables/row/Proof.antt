@@ -2,21 +2,21 @@
 use mathlib.Core.Path.{◌≡◌, ◌∙◌, sym, ap}
 use Prim.Native.Nat.{ℕ}
 use Rattle.laws.proofs.Tests.{past}
-use Rattle.rules.specs.Forms.{formAt}
-use Rattle.instruction.specs.Tables.{rowAt}
+use Rattle.rules.specs.Forms.{form_at}
+use Rattle.instruction.specs.Tables.{row_at}
 use Rattle.instruction.proofs.Rows.{no_row}
 use Rattle.instruction.proofs.tables.row.Statement.{statement}
 use Rattle.instruction.proofs.tables.row.Tie as tie
 
-via : {f k n : ℕ} → f ≡ k → n ≡ rowAt k → n ≡ rowAt f
-via e h = h ∙ sym (ap rowAt e)
+via : {f k n : ℕ} → f ≡ k → n ≡ row_at k → n ≡ row_at f
+via e h = h ∙ sym (ap row_at e)
 
-returns-71 : tie.Need-returns-71
-returns-71 c = sym (no_row c.before.args.form (past 70 c.before.args.form c.match.rest))
+returns_71 : tie.Need-returns-71
+returns_71 c = sym (no_row c.before.args.form (past 70 c.before.args.form c.match.rest))
 
-pub row-spec : {M : Type 1} → statement M
-unfolding formAt
-row-spec =
+pub row_spec : {M : Type 1} → statement M
+unfolding form_at
+row_spec =
     tie.close
     (tie.spec
     (λ c. search via) (λ c. search via) (λ c. search via) (λ c. search via) (λ c. search via) (λ c. search via) (λ c. search via) (λ c. search via) (λ c. search via) (λ c. search via)
@@ -26,4 +26,4 @@ row-spec =
     (λ c. search via) (λ c. search via) (λ c. search via) (λ c. search via) (λ c. search via) (λ c. search via) (λ c. search via) (λ c. search via) (λ c. search via) (λ c. search via)
     (λ c. search via) (λ c. search via) (λ c. search via) (λ c. search via) (λ c. search via) (λ c. search via) (λ c. search via) (λ c. search via) (λ c. search via) (λ c. search via)
     (λ c. search via) (λ c. search via) (λ c. search via) (λ c. search via) (λ c. search via) (λ c. search via) (λ c. search via) (λ c. search via) (λ c. search via) (λ c. search via)
-    returns-71)
+    returns_71)

@@ -32,34 +32,34 @@ returns c =
     let k = c.before.before in
     short (text k) (start k).args.listing.now (count k) (chars k) (counted k) (omega (arith, c.if1.true))
 
-write-lines-requires : tie.Need-write-lines-requires
-write-lines-requires c κs =
+write_lines_requires : tie.Need-write-lines-requires
+write_lines_requires c κs =
     let k = c.before.before.before in
     roomy (text k) (start k).args.listing.now (count k) (chars k) (counted k) (omega (arith, c.before.if1.false))
 
-returns-2 : tie.Need-returns-2
-returns-2 c =
+returns_2 : tie.Need-returns-2
+returns_2 c =
     let m = c.before.before.before in
     let a = m.before.before.before.args in
     unread a.text.now a.listing.now c.before.r.given.0.0
     (subst (λ x. Measured a.text.now x) c.before.r.given.1 m.measure.ensures)
 
-returns-3 : tie.Need-returns-3
-returns-3 c =
+returns_3 : tie.Need-returns-3
+returns_3 c =
     let w = c.before.before in
     let k = w.before.before.before.before in
-    done (text k) (start k).args.listing.now (count k) (chars k) (counted k) w.write-lines.new.1.0 (omega (arith, w.before.before.if1.false))
-    w.write-lines.ensures
+    done (text k) (start k).args.listing.now (count k) (chars k) (counted k) w.write_lines.new.1.0 (omega (arith, w.before.before.if1.false))
+    w.write_lines.ensures
 
-pub read-people-spec : {M : Type 1} → statement M
-read-people-spec =
+pub read_people_spec : {M : Type 1} → statement M
+read_people_spec =
     tie.close
     (tie.spec
     (λ c κs. search rules)
     (λ c. search rules)
     (λ c. search rules)
     returns
-    write-lines-requires
-    returns-2
+    write_lines_requires
+    returns_2
     (λ c. search rules)
-    returns-3)
+    returns_3)

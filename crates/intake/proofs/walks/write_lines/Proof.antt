@@ -6,28 +6,28 @@ use native.Mathlib.Omega.{arith}
 use lib.ListN.{length, take, drop}
 use lib.Seq.{length-take-le}
 use borrow.Author.Rules.{rules}
-use Rattle.laws.proofs.Stores.{rest-is}
+use Rattle.laws.proofs.Stores.{rest_is}
 use Rattle.intake.specs.Turns.{Framed, Turned}
-use Rattle.intake.proofs.Steps.{ends-in, step}
+use Rattle.intake.proofs.Steps.{ends_in, step}
 use Rattle.intake.proofs.Written.{Stands, begins, ends, unrefused, room_for, goes_on}
 use Rattle.intake.proofs.walks.write_lines.Statement.{statement}
 use Rattle.intake.proofs.walks.write_lines.Tie as tie
 
-abbrev invariant-loop : tie.invariant-loop
-invariant-loop text listing₀ room₀ q₀ i₀ sum₀ listing room q i sum = (length room ≡ 120) × Stands text listing₀ q i sum listing
+abbrev invariant_loop : tie.invariant_loop
+invariant_loop text listing₀ room₀ q₀ i₀ sum₀ listing room q i sum = (length room ≡ 120) × Stands text listing₀ q i sum listing
 
-abbrev decreases-loop : tie.decreases-loop
-decreases-loop text listing₀ room₀ q₀ i₀ sum₀ listing room q i sum = length text - q
+abbrev decreases_loop : tie.decreases_loop
+decreases_loop text listing₀ room₀ q₀ i₀ sum₀ listing room q i sum = length text - q
 
-loop-holds : tie.Need-loop-init invariant-loop decreases-loop
-loop-holds c = let s = c.before.before in (refl, begins s.args.text.now s.args.listing.now s.requires)
+loop_holds : tie.Need-loop-init invariant_loop decreases_loop
+loop_holds c = let s = c.before.before in (refl, begins s.args.text.now s.args.listing.now s.requires)
 
 -- the line at q was judged
-module _ (j : tie.After-judge-line invariant-loop decreases-loop) where
-  abbrev loop : tie.At-loop invariant-loop decreases-loop
+module _ (j : tie.After-judge-line invariant_loop decreases_loop) where
+  abbrev loop : tie.At-loop invariant_loop decreases_loop
   loop = j.before.before.before.before
 
-  abbrev start : tie.Start invariant-loop decreases-loop
+  abbrev start : tie.Start invariant_loop decreases_loop
   start = loop.before.before.before
 
   abbrev text : List ℕ
@@ -43,20 +43,20 @@ module _ (j : tie.After-judge-line invariant-loop decreases-loop) where
   sum = loop.loop.sum
 
   abbrev room : List ℕ
-  room = j.judge-line.last.1.1.1.0
+  room = j.judge_line.last.1.1.1.0
 
   some : q < length text
-  some = omega (arith, j.before.before.before.loop-test.taken)
+  some = omega (arith, j.before.before.before.loop_test.taken)
 
   so_far : Stands text start.args.listing.now q i sum loop.loop.listing
   so_far = loop.loop.inv.1
 
-  said : Turned i sum (drop q text) room j.judge-line.result
-  said = subst (λ t. Turned i sum t room j.judge-line.result) (rest-is q text) j.judge-line.ensures
+  said : Turned i sum (drop q text) room j.judge_line.result
+  said = subst (λ t. Turned i sum t room j.judge_line.result) (rest_is q text) j.judge_line.ensures
 
 -- it is read
-module _ (e : tie.After-end invariant-loop decreases-loop) where
-  abbrev j : tie.After-judge-line invariant-loop decreases-loop
+module _ (e : tie.After-end invariant_loop decreases_loop) where
+  abbrev j : tie.After-judge-line invariant_loop decreases_loop
   j = e.before.before
 
   abbrev end : ℕ
@@ -73,72 +73,72 @@ module _ (e : tie.After-end invariant-loop decreases-loop) where
 
   -- the frame is no longer than its room
   there : n ≤ length (room j)
-  there = omega (arith, read.short, read.room-size)
+  there = omega (arith, read.short, read.room_size)
 
-judge-line-requires : tie.Need-judge-line-requires invariant-loop decreases-loop
-judge-line-requires c κs = let l = c.before.before.before in (l.loop.invariant.1.so_far.short, l.loop.invariant.0)
+judge_line_requires : tie.Need-judge-line-requires invariant_loop decreases_loop
+judge_line_requires c κs = let l = c.before.before.before in (l.loop.invariant.1.so_far.short, l.loop.invariant.0)
 
-returns : tie.Need-returns invariant-loop decreases-loop
+returns : tie.Need-returns invariant_loop decreases_loop
 returns c =
     let j = c.before.before in
     let w = subst (λ x. Turned (i j) (sum j) (drop (q j) (text j)) (room j) x) c.enum_told.given.1 (said j) in
     unrefused (so_far j) (some j) _ w
 
-add-put-line : tie.Need-overflow-add-put-line invariant-loop decreases-loop
-add-put-line c = let u = (so_far (j c.before.before)).so_far in omega (arith, u.few, u.short)
+add_put_line : tie.Need-overflow-add-put-line invariant_loop decreases_loop
+add_put_line c = let u = (so_far (j c.before.before)).so_far in omega (arith, u.few, u.short)
 
-slice-aggregate-put-line : tie.Need-slice-aggregate-put-line invariant-loop decreases-loop
-slice-aggregate-put-line c = let e = c.before.before.before in sym (length-take-le (n e) (room (j e)) (there e))
+slice_aggregate_put_line : tie.Need-slice-aggregate-put-line invariant_loop decreases_loop
+slice_aggregate_put_line c = let e = c.before.before.before in sym (length-take-le (n e) (room (j e)) (there e))
 
-put-line-requires : tie.Need-put-line-requires invariant-loop decreases-loop
-put-line-requires c κs =
+put_line_requires : tie.Need-put-line-requires invariant_loop decreases_loop
+put_line_requires c κs =
     let e = c.before.before.before in
     omega (arith, fits e, (so_far (j e)).size, length-take-le (n e) (room (j e)) (there e))
 
 -- the line is written
-module _ (c : tie.After-slice-known2 invariant-loop decreases-loop) where
-  abbrev w : tie.After-put-line invariant-loop decreases-loop
+module _ (c : tie.After-slice-known2 invariant_loop decreases_loop) where
+  abbrev w : tie.After-put-line invariant_loop decreases_loop
   w = c.before.before
 
-  abbrev e : tie.After-end invariant-loop decreases-loop
+  abbrev e : tie.After-end invariant_loop decreases_loop
   e = w.before.before.before.before
 
-  next : Stands (text (j e)) (start (j e)).args.listing.now (q (j e) + end e) (i (j e) + 1) (sum (j e) + 2 * n e) w.put-line.last.0
-  next = goes_on (so_far (j e)) (some (j e)) (read e) w.put-line.last.0 w.put-line.ensures w.put-line.kept.0
+  next : Stands (text (j e)) (start (j e)).args.listing.now (q (j e) + end e) (i (j e) + 1) (sum (j e) + 2 * n e) w.put_line.last.0
+  next = goes_on (so_far (j e)) (some (j e)) (read e) w.put_line.last.0 w.put_line.ensures w.put_line.kept.0
 
-loop-less : tie.Need-loop-smaller invariant-loop decreases-loop
-loop-less c = let x = e c in omega (arith, ends-in (so_far (j x)).so_far (some (j x)) (read x))
+loop_less : tie.Need-loop-smaller invariant_loop decreases_loop
+loop_less c = let x = e c in omega (arith, ends_in (so_far (j x)).so_far (some (j x)) (read x))
 
-loop-again : tie.Need-loop-preserved invariant-loop decreases-loop
-loop-again c = ((read (e c)).room-size, next c)
+loop_again : tie.Need-loop-preserved invariant_loop decreases_loop
+loop_again c = ((read (e c)).room_size, next c)
 
-returns-2 : tie.Need-returns-2 invariant-loop decreases-loop
-returns-2 c = ends c.before.loop.invariant.1 (omega (arith, c.loop-test.false))
+returns_2 : tie.Need-returns-2 invariant_loop decreases_loop
+returns_2 c = ends c.before.loop.invariant.1 (omega (arith, c.loop_test.false))
 
-pub write-lines-spec : {M : Type 1} → statement M
-write-lines-spec =
+pub write_lines_spec : {M : Type 1} → statement M
+write_lines_spec =
     tie.close
     (tie.spec
-    invariant-loop
-    decreases-loop
-    loop-holds
+    invariant_loop
+    decreases_loop
+    loop_holds
     (λ c. search rules)
     (λ c. search rules)
     (λ c. search rules)
-    judge-line-requires
+    judge_line_requires
     (λ c. search rules)
     (λ c. c.before.before.before.before.before.before.loop.invariant.1.size)
     returns
     (λ c. search rules)
-    add-put-line
+    add_put_line
     (λ c. there c.before.before)
-    slice-aggregate-put-line
-    put-line-requires
+    slice_aggregate_put_line
+    put_line_requires
     (λ c. omega (arith, (next c).so_far.within))
     (λ c. omega (arith, (next c).so_far.few))
     (λ c. omega (arith, (next c).so_far.short))
     (λ c. omega (arith, (next c).so_far.short))
-    loop-less
-    loop-again
+    loop_less
+    loop_again
     (λ c. c.before.loop.invariant.1.size)
-    returns-2)
+    returns_2)

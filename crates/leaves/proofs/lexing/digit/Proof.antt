@@ -1,5 +1,5 @@
 use mathlib.Core.Path.{refl}
-use Rattle.grammar.proofs.Lexes.{digit-range}
+use Rattle.grammar.proofs.Lexes.{digit_range}
 use native.Mathlib.Omega.{arith}
 use borrow.Author.Rules.{rules}
 use Rattle.leaves.proofs.lexing.digit.Statement.{statement}
@@ -7,14 +7,14 @@ use Rattle.leaves.proofs.lexing.digit.Tie as tie
 use Rattle.leaves.proofs.lexing.digit.Reads as reads
 use Rattle.leaves.proofs.lexing.digit.Lts as lts
 
-sub-d : tie.Need-overflow-sub-d
-sub-d c = omega (arith, digit-range c.args.c c.requires)
+sub_d : tie.Need-overflow-sub-d
+sub_d c = omega (arith, digit_range c.args.c c.requires)
 
-cast-result : tie.Need-overflow-cast-result
-cast-result c = search rules
+cast_result : tie.Need-overflow-cast-result
+cast_result c = search rules
 
 returns : tie.Need-returns
-returns c = (refl, omega (arith, digit-range c.args.c c.requires))
+returns c = (refl, omega (arith, digit_range c.args.c c.requires))
 
-pub digit-spec : {M : Type 1} → statement M
-digit-spec = tie.close (tie.spec sub-d cast-result returns)
+pub digit_spec : {M : Type 1} → statement M
+digit_spec = tie.close (tie.spec sub_d cast_result returns)

@@ -11,17 +11,17 @@ use Rattle.leaves.proofs.lexing.tens.Lts as lts
 returns : tie.Need-returns
 returns c = search rules
 
-returns-2 : tie.Need-returns-2
-returns-2 c = search rules
+returns_2 : tie.Need-returns-2
+returns_2 c = search rules
 
-returns-3 : tie.Need-returns-3
-returns-3 c = search rules
+returns_3 : tie.Need-returns-3
+returns_3 c = search rules
 
-returns-4 : tie.Need-returns-4
-returns-4 c = search rules
+returns_4 : tie.Need-returns-4
+returns_4 c = search rules
 
-returns-5 : tie.Need-returns-5
-returns-5 c = let k : c.before.args.k ≡ 4 = omega arith in sym (ap tens k)
+returns_5 : tie.Need-returns-5
+returns_5 c = let k : c.before.args.k ≡ 4 = omega arith in sym (ap tens k)
 
-pub tens-spec : {M : Type 1} → statement M
-tens-spec = tie.close (tie.spec returns returns-2 returns-3 returns-4 returns-5)
+pub tens_spec : {M : Type 1} → statement M
+tens_spec = tie.close (tie.spec returns returns_2 returns_3 returns_4 returns_5)

@@ -2,7 +2,7 @@ use mathlib.Core.Path.{◌≡◌, refl, sym, ap, ◌∙◌, subst}
 use mathlib.Core.List.{List}
 use Prim.Native.Nat.{ℕ, ◌+◌, ◌-◌, ◌≤◌, ◌<◌}
 use lib.ListN.{length, get_or, set, length-set}
-use Rattle.leaves.proofs.Puts.{Moved, moved-start, moved_more, moved-put}
+use Rattle.leaves.proofs.Puts.{Moved, moved_start, moved_more, moved_put}
 use native.Mathlib.Omega.{arith}
 use borrow.Author.Rules.{rules}
 use Rattle.leaves.proofs.storing.insert.Statement.{statement}
@@ -10,36 +10,36 @@ use Rattle.leaves.proofs.storing.insert.Tie as tie
 use Rattle.leaves.proofs.storing.insert.Reads as reads
 use Rattle.leaves.proofs.storing.insert.Lts as lts
 
-abbrev invariant-loop : tie.invariant-loop
-invariant-loop out₀ at end code i₀ out i = (at ≤ i) × ((i ≤ end) × Moved out₀ out end i)
+abbrev invariant_loop : tie.invariant_loop
+invariant_loop out₀ at end code i₀ out i = (at ≤ i) × ((i ≤ end) × Moved out₀ out end i)
 
-abbrev decreases-loop : tie.decreases-loop
-decreases-loop out₀ at end code i₀ out i = i
+abbrev decreases_loop : tie.decreases_loop
+decreases_loop out₀ at end code i₀ out i = i
 
-returns : tie.Need-returns invariant-loop decreases-loop
+returns : tie.Need-returns invariant_loop decreases_loop
 returns c =
     record { size = c.before.requires.0; full = λ h. refl; ends = λ h. absurd (omega arith); stands = λ h. absurd (omega arith) }
 
-loop-holds : tie.Need-loop-init invariant-loop decreases-loop
-loop-holds c = (c.before.requires.1 (omega arith), (omega arith, moved-start c.before.args.out.now c.before.args.end))
+loop_holds : tie.Need-loop-init invariant_loop decreases_loop
+loop_holds c = (c.before.requires.1 (omega arith), (omega arith, moved_start c.before.args.out.now c.before.args.end))
 
-sub_out : tie.Need-overflow-sub-out invariant-loop decreases-loop
+sub_out : tie.Need-overflow-sub-out invariant_loop decreases_loop
 sub_out c = omega arith
 
-element-copy-out-out : tie.Need-element-copy-out-out invariant-loop decreases-loop
-element-copy-out-out c = omega arith
+element_copy_out_out : tie.Need-element-copy-out-out invariant_loop decreases_loop
+element_copy_out_out c = omega arith
 
-element-write-out : tie.Need-element-write-out invariant-loop decreases-loop
-element-write-out c = omega arith
+element_write_out : tie.Need-element-write-out invariant_loop decreases_loop
+element_write_out c = omega arith
 
-sub-i : tie.Need-overflow-sub-i invariant-loop decreases-loop
-sub-i c = omega arith
+sub_i : tie.Need-overflow-sub-i invariant_loop decreases_loop
+sub_i c = omega arith
 
-loop-less : tie.Need-loop-smaller invariant-loop decreases-loop
-loop-less c = omega arith
+loop_less : tie.Need-loop-smaller invariant_loop decreases_loop
+loop_less c = omega arith
 
-loop-again : tie.Need-loop-preserved invariant-loop decreases-loop
-loop-again c =
+loop_again : tie.Need-loop-preserved invariant_loop decreases_loop
+loop_again c =
     let l = c.before.before in
     let a = l.before.before.args in
     let i = l.loop.i in
@@ -53,14 +53,14 @@ loop-again c =
       ),
     )
 
-element-write-out-2 : tie.Need-element-write-out-2 invariant-loop decreases-loop
-element-write-out-2 c = omega arith
+element_write_out_2 : tie.Need-element-write-out-2 invariant_loop decreases_loop
+element_write_out_2 c = omega arith
 
-add-result : tie.Need-overflow-add-result invariant-loop decreases-loop
-add-result c = search rules
+add_result : tie.Need-overflow-add-result invariant_loop decreases_loop
+add_result c = search rules
 
-returns-2 : tie.Need-returns-2 invariant-loop decreases-loop
-returns-2 c =
+returns_2 : tie.Need-returns-2 invariant_loop decreases_loop
+returns_2 c =
     let l = c.before in
     let a = l.before.before.args in
     let b = a.out.now in
@@ -70,23 +70,23 @@ returns-2 c =
       size = length-set l.loop.out a.at a.code ∙ m.size ∙ l.before.before.requires.0;
       full = λ h. absurd (omega arith);
       ends = λ h. refl;
-      stands = λ h. moved-put b l.loop.out a.end a.at a.code (omega arith) (omega (arith, l.before.before.requires.0)) m;
+      stands = λ h. moved_put b l.loop.out a.end a.at a.code (omega arith) (omega (arith, l.before.before.requires.0)) m;
     }
 
-pub insert-spec : {M : Type 1} → statement M
-insert-spec =
+pub insert_spec : {M : Type 1} → statement M
+insert_spec =
     tie.close
     (tie.spec
-    invariant-loop
-    decreases-loop
+    invariant_loop
+    decreases_loop
     returns
-    loop-holds
+    loop_holds
     sub_out
-    element-copy-out-out
-    element-write-out
-    sub-i
-    loop-less
-    loop-again
-    element-write-out-2
-    add-result
-    returns-2)
+    element_copy_out_out
+    element_write_out
+    sub_i
+    loop_less
+    loop_again
+    element_write_out_2
+    add_result
+    returns_2)

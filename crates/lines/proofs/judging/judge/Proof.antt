@@ -3,17 +3,17 @@ use borrow.Author.Rules.{rules}
 use Rattle.lines.proofs.judging.judge.Statement.{statement}
 use Rattle.lines.proofs.judging.judge.Tie as tie
 
-judge-new-requires : tie.Need-judge-new-requires
-judge-new-requires c κs = search rules
+judge_new_requires : tie.Need-judge-new-requires
+judge_new_requires c κs = search rules
 
 returns : tie.Need-returns
-returns c = rw c.before.if1.true c.judge-new.ensures
+returns c = rw c.before.if1.true c.judge_new.ensures
 
-judge-old-requires : tie.Need-judge-old-requires
-judge-old-requires c κs = search rules
+judge_old_requires : tie.Need-judge-old-requires
+judge_old_requires c κs = search rules
 
-returns-2 : tie.Need-returns-2
-returns-2 c = rw c.before.if1.false c.judge-old.ensures
+returns_2 : tie.Need-returns-2
+returns_2 c = rw c.before.if1.false c.judge_old.ensures
 
-pub judge-spec : {M : Type 1} → statement M
-judge-spec = tie.close (tie.spec judge-new-requires returns judge-old-requires returns-2)
+pub judge_spec : {M : Type 1} → statement M
+judge_spec = tie.close (tie.spec judge_new_requires returns judge_old_requires returns_2)

@@ -15,10 +15,10 @@ returns c =
     let y = w.before.before.before in
     let x = y.before in
     let s = x.before.before in
-    w.put-line.ensures
+    w.put_line.ensures
     ∙ ap (λ (p : List ℕ). laid s.args.out.now s.args.at (line_of (0x7B ∷ s.args.number ∷ p)))
-    (pair_is s.args.place.0 x.low_byte.result y.low-byte2.result s.requires.1 x.low_byte.ensures y.low-byte2.ensures)
+    (pair_is s.args.place.0 x.low_byte.result y.low_byte2.result s.requires.1 x.low_byte.ensures y.low_byte2.ensures)
 
-pub put-replaced-spec : {M : Type 1} → statement M
-put-replaced-spec = tie.close
+pub put_replaced_spec : {M : Type 1} → statement M
+put_replaced_spec = tie.close
     (tie.spec (λ c κs. search rules) (λ c κs. search rules) (λ c. search rules) (λ c κs. search rules) (λ c. search rules) returns)

@@ -8,36 +8,36 @@ use lib.ListN.{length, take, get_or, length-set}
 use lib.Seq.{take-length, length-take-le, take-suc}
 use borrow.Author.Rules.{rules}
 use Rattle.digits.specs.Digits.{laid}
-use Rattle.digits.proofs.Rooms.{laid_one, laid_more, laid-nothing}
+use Rattle.digits.proofs.Rooms.{laid_one, laid_more, laid_nothing}
 use Rattle.lines.proofs.texts.put_text.Statement.{statement}
 use Rattle.lines.proofs.texts.put_text.Tie as tie
 
-abbrev invariant-loop : tie.invariant-loop
-invariant-loop out₀ at s k₀ out k = (k ≤ length s) × (out ≡ laid out₀ at (take k s)) × (length out ≡ length out₀)
+abbrev invariant_loop : tie.invariant_loop
+invariant_loop out₀ at s k₀ out k = (k ≤ length s) × (out ≡ laid out₀ at (take k s)) × (length out ≡ length out₀)
 
-abbrev decreases-loop : tie.decreases-loop
-decreases-loop out₀ at s k₀ out k = length s - k
+abbrev decreases_loop : tie.decreases_loop
+decreases_loop out₀ at s k₀ out k = length s - k
 
-loop-holds : tie.Need-loop-init invariant-loop decreases-loop
-loop-holds c = (omega arith, sym (laid-nothing _ _), refl)
+loop_holds : tie.Need-loop-init invariant_loop decreases_loop
+loop_holds c = (omega arith, sym (laid_nothing _ _), refl)
 
-shared-slice-read-out : tie.Need-shared-slice-read-out invariant-loop decreases-loop
-shared-slice-read-out c = omega arith
+shared_slice_read_out : tie.Need-shared-slice-read-out invariant_loop decreases_loop
+shared_slice_read_out c = omega arith
 
-add-out : tie.Need-overflow-add-out invariant-loop decreases-loop
-add-out c = search rules
+add_out : tie.Need-overflow-add-out invariant_loop decreases_loop
+add_out c = search rules
 
-slice-write-out : tie.Need-slice-write-out invariant-loop decreases-loop
-slice-write-out c = omega arith
+slice_write_out : tie.Need-slice-write-out invariant_loop decreases_loop
+slice_write_out c = omega arith
 
-add-k : tie.Need-overflow-add-k invariant-loop decreases-loop
-add-k c = omega arith
+add_k : tie.Need-overflow-add-k invariant_loop decreases_loop
+add_k c = omega arith
 
-loop-less : tie.Need-loop-smaller invariant-loop decreases-loop
-loop-less c = omega arith
+loop_less : tie.Need-loop-smaller invariant_loop decreases_loop
+loop_less c = omega arith
 
-loop-again : tie.Need-loop-preserved invariant-loop decreases-loop
-loop-again c =
+loop_again : tie.Need-loop-preserved invariant_loop decreases_loop
+loop_again c =
     let l = c.before.before.loop in
     let a = c.before.before.before.args in
     let k = l.k in
@@ -52,28 +52,28 @@ loop-again c =
       length-set l.out (a.at + k) v ∙ l.invariant.2,
     )
 
-same_length : tie.Need-same-length invariant-loop decreases-loop
+same_length : tie.Need-same-length invariant_loop decreases_loop
 same_length c = search rules
 
-returns : tie.Need-returns invariant-loop decreases-loop
+returns : tie.Need-returns invariant_loop decreases_loop
 returns c =
     let l = c.before.loop in
     let a = c.before.before.args in
     let e : l.k ≡ length a.s.now = omega arith in
     l.invariant.1 ∙ rw (e, take-length a.s.now)
 
-pub put-text-spec : {M : Type 1} → statement M
-put-text-spec =
+pub put_text_spec : {M : Type 1} → statement M
+put_text_spec =
     tie.close
     (tie.spec
-    invariant-loop
-    decreases-loop
-    loop-holds
-    shared-slice-read-out
-    add-out
-    slice-write-out
-    add-k
-    loop-less
-    loop-again
+    invariant_loop
+    decreases_loop
+    loop_holds
+    shared_slice_read_out
+    add_out
+    slice_write_out
+    add_k
+    loop_less
+    loop_again
     same_length
     returns)

@@ -4,7 +4,7 @@ use Rattle.listing.proofs.reading.keep.Statement.{statement}
 use Rattle.listing.proofs.reading.keep.Tie as tie
 
 returns : tie.Need-returns
-returns c = rw (c.before.before.second-of.ensures, c.before.third_of.ensures, c.form-for.ensures)
+returns c = rw (c.before.before.second_of.ensures, c.before.third_of.ensures, c.form_for.ensures)
 
 pub keep_spec : {M : Type 1} → statement M
 keep_spec =

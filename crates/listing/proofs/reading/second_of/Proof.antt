@@ -2,39 +2,39 @@
 use mathlib.Core.Path.{◌≡◌, sym, ◌∙◌}
 use native.Mathlib.Omega.{arith}
 use borrow.Author.Rules.{rules}
-use Rattle.listing.proofs.Noting.{no-instr, second_is}
+use Rattle.listing.proofs.Noting.{no_instr, second_is}
 use Rattle.listing.proofs.reading.second_of.Statement.{statement}
 use Rattle.listing.proofs.reading.second_of.Tie as tie
 
 returns : tie.Need-returns
-returns c = sym ((no-instr c.before.args.statement c.match.keys2).1 1)
+returns c = sym ((no_instr c.before.args.statement c.match.keys2).1 1)
 
-narrow-requires : tie.Need-narrow-requires
-narrow-requires c κs =
+narrow_requires : tie.Need-narrow-requires
+narrow_requires c κs =
     let s = c.before.before.before.before.before.statement.given in
     omega (arith, c.before.before.before.before.before.before.before.requires, second_is _ s.1 c.before.before.before.args_of.ensures c.before.b.given.1)
 
-narrow-requires-2 : tie.Need-narrow-requires-2
-narrow-requires-2 c κs =
+narrow_requires_2 : tie.Need-narrow-requires-2
+narrow_requires_2 c κs =
     let s = c.before.before.before.before.before.statement.given in
     omega (arith, c.before.before.before.before.before.before.before.requires, second_is _ s.1 c.before.before.before.args_of.ensures c.before.b2.given.1)
 
-returns-2 : tie.Need-returns-2
-returns-2 c = sym (second_is _ c.before.before.before.before.statement.given.1 c.before.before.args_of.ensures c.enum_told.given.1)
+returns_2 : tie.Need-returns-2
+returns_2 c = sym (second_is _ c.before.before.before.before.statement.given.1 c.before.before.args_of.ensures c.enum_told.given.1)
 
-returns-3 : tie.Need-returns-3
-returns-3 c = sym (second_is _ c.before.before.before.before.statement.given.1 c.before.before.args_of.ensures c.enum-told2.given.1)
+returns_3 : tie.Need-returns-3
+returns_3 c = sym (second_is _ c.before.before.before.before.statement.given.1 c.before.before.args_of.ensures c.enum_told2.given.1)
 
-returns-4 : tie.Need-returns-4
-returns-4 c =
+returns_4 : tie.Need-returns-4
+returns_4 c =
     c.narrow.ensures ∙ sym (second_is _ c.before.before.before.before.before.before.statement.given.1 c.before.before.before.before.args_of.ensures c.before.before.b.given.1)
 
-returns-5 : tie.Need-returns-5
-returns-5 c =
+returns_5 : tie.Need-returns-5
+returns_5 c =
     c.narrow2.ensures ∙ sym (second_is _ c.before.before.before.before.before.before.statement.given.1 c.before.before.before.before.args_of.ensures c.before.before.b2.given.1)
 
-pub second-of-spec : {M : Type 1} → statement M
-second-of-spec =
+pub second_of_spec : {M : Type 1} → statement M
+second_of_spec =
     tie.close
     (tie.spec
     (λ c. search rules)
@@ -43,10 +43,10 @@ second-of-spec =
     (λ c. search rules)
     (λ c. search rules)
     (λ c. search rules)
-    narrow-requires
+    narrow_requires
     (λ c. search rules)
-    narrow-requires-2
-    returns-2
-    returns-3
-    returns-4
-    returns-5)
+    narrow_requires_2
+    returns_2
+    returns_3
+    returns_4
+    returns_5)

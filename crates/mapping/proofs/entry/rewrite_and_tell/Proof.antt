@@ -7,10 +7,10 @@ use borrow.Author.Rules.{rules}
 use Rattle.rules.specs.Programs.{Program}
 use Rattle.listing.specs.Tables.{input_of}
 use Rattle.slots.specs.Slots.{Slots}
-use Rattle.slots.specs.State.{startsIn, table_of}
+use Rattle.slots.specs.State.{starts_in, table_of}
 use Rattle.slots.specs.Links.{Beside}
-use Rattle.mapping.proofs.Ends.{end_is, anchored-addresses, addressed-as}
-use Rattle.mapping.proofs.Answered.{fits-as}
+use Rattle.mapping.proofs.Ends.{end_is, anchored_addresses, addressed_as}
+use Rattle.mapping.proofs.Answered.{fits_as}
 use Rattle.mapping.proofs.entry.rewrite_and_tell.Statement.{statement}
 use Rattle.mapping.proofs.entry.rewrite_and_tell.Tie as tie
 
@@ -20,22 +20,22 @@ here s = table_of s.args.frames.now s.args.state.now s.args.count
 abbrev read : (s : tie.Start) (starts : List ℕ) → Program
 read s starts = input_of s.args.frames.now starts s.args.count
 
-find-positions-requires : tie.Need-find-positions-requires
-find-positions-requires c κs = let h = c.before.before.before.before.requires in (h.starts.stands, h.starts.good, h.starts.beside, search rules)
+find_positions_requires : tie.Need-find-positions-requires
+find_positions_requires c κs = let h = c.before.before.before.before.requires in (h.starts.stands, h.starts.good, h.starts.beside, search rules)
 
-optimize-requires : tie.Need-optimize-requires
-optimize-requires c κs = let h = c.before.before.before.before.before.before.requires in (h.starts.stands, h.starts.good, h.starts.beside)
+optimize_requires : tie.Need-optimize-requires
+optimize_requires c κs = let h = c.before.before.before.before.before.before.requires in (h.starts.stands, h.starts.good, h.starts.beside)
 
-tell-rows-requires : tie.Need-tell-rows-requires
-tell-rows-requires c κs =
+tell_rows_requires : tie.Need-tell-rows-requires
+tell_rows_requires c κs =
     let o = c.before.before.before in
     let a = o.before.before in
     let s = a.before.before.before.before.before in
     let e = o.optimize.ensures in (
       e.stands,
       e.good,
-      subst (λ (z : List ℕ). Beside s.args.frames.now z s.args.count s.args.links.now) (sym e.starts-kept) s.requires.starts.beside,
-      addressed-as _ _ (ap (read s) (sym e.starts-kept)) (anchored-addresses (read s (startsIn s.args.state.now)) _ s.requires.starts.anchored a.find-positions.ensures),
+      subst (λ (z : List ℕ). Beside s.args.frames.now z s.args.count s.args.links.now) (sym e.starts_kept) s.requires.starts.beside,
+      addressed_as _ _ (ap (read s) (sym e.starts_kept)) (anchored_addresses (read s (starts_in s.args.state.now)) _ s.requires.starts.anchored a.find_positions.ensures),
     )
 
 returns : tie.Need-returns
@@ -43,10 +43,10 @@ returns c =
     let w = c.before.before in
     let o = w.before.before.before.before in
     let s = o.before.before.before.before.before.before.before in
-    let p = read s (startsIn s.args.state.now) in
+    let p = read s (starts_in s.args.state.now) in
     let e = o.optimize.ensures in
-    fits-as _ p _ _ _ _ _ (ap (read s) e.starts-kept) (end_is s.args.asked (here s) _ p _ s.requires.starts.anchored e) w.tell-rows.ensures
+    fits_as _ p _ _ _ _ _ (ap (read s) e.starts_kept) (end_is s.args.asked (here s) _ p _ s.requires.starts.anchored e) w.tell_rows.ensures
 
-pub rewrite-and-tell-spec : {M : Type 1} → statement M
-rewrite-and-tell-spec =
-    tie.close (tie.spec find-positions-requires optimize-requires tell-rows-requires (λ c. search rules) returns)
+pub rewrite_and_tell_spec : {M : Type 1} → statement M
+rewrite_and_tell_spec =
+    tie.close (tie.spec find_positions_requires optimize_requires tell_rows_requires (λ c. search rules) returns)

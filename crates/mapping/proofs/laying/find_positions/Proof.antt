@@ -1,14 +1,14 @@
 -- `mapping::laying::find_positions` meets its contract: the program assembles.
 use borrow.Author.Rules.{rules}
-use Rattle.slots.specs.State.{startsIn, formsIn, carryIn, ownersIn, offsetsIn}
-use Rattle.slots.specs.Links.{contextsRead}
-use Rattle.asm.proofs.Carrying.{placed-any}
-use Rattle.finishing.proofs.Ended.{assembled-by, not-refused}
+use Rattle.slots.specs.State.{starts_in, forms_in, carry_in, owners_in, offsets_in}
+use Rattle.slots.specs.Links.{contexts_read}
+use Rattle.asm.proofs.Carrying.{placed_any}
+use Rattle.finishing.proofs.Ended.{assembled_by, not_refused}
 use Rattle.mapping.proofs.laying.find_positions.Statement.{statement}
 use Rattle.mapping.proofs.laying.find_positions.Tie as tie
 
-judge-linked-requires : tie.Need-judge-linked-requires
-judge-linked-requires c κs =
+judge_linked_requires : tie.Need-judge-linked-requires
+judge_linked_requires c κs =
     let s = c.before.before.before in
     let z = s.args.state.now in (
       s.requires.0.sound,
@@ -17,24 +17,24 @@ judge-linked-requires c κs =
       s.requires.2,
       s.requires.3,
       search rules,
-      placed-any s.args.frames.now (startsIn z) s.args.count (formsIn z) (carryIn z) (ownersIn z) (offsetsIn z)
-          (contextsRead s.args.frames.now (startsIn z) s.args.count) s.requires.0.context,
+      placed_any s.args.frames.now (starts_in z) s.args.count (forms_in z) (carry_in z) (owners_in z) (offsets_in z)
+          (contexts_read s.args.frames.now (starts_in z) s.args.count) s.requires.0.context,
     )
 
 enum_told : tie.Need-enum-told
 enum_told c = search rules
 
-enum-told-2 : tie.Need-enum-told-2
-enum-told-2 c = search rules
+enum_told_2 : tie.Need-enum-told-2
+enum_told_2 c = search rules
 
 returns : tie.Need-returns
 returns c =
     let j = c.before.before in
-    not-refused _ _ _ c.enum_told.given.1 j.judge-linked.ensures j.before.before.before.before.requires.1
+    not_refused _ _ _ c.enum_told.given.1 j.judge_linked.ensures j.before.before.before.before.requires.1
 
-returns-2 : tie.Need-returns-2
-returns-2 c = record { address = (assembled-by _ _ c.enum-told2.given.1 c.before.before.judge-linked.ensures).ready.position }
+returns_2 : tie.Need-returns-2
+returns_2 c = record { address = (assembled_by _ _ c.enum_told2.given.1 c.before.before.judge_linked.ensures).ready.position }
 
-pub find-positions-spec : {M : Type 1} → statement M
-find-positions-spec =
-    tie.close (tie.spec judge-linked-requires enum_told enum-told-2 returns returns-2)
+pub find_positions_spec : {M : Type 1} → statement M
+find_positions_spec =
+    tie.close (tie.spec judge_linked_requires enum_told enum_told_2 returns returns_2)

@@ -12,10 +12,10 @@ returns c =
     let g = h.before in
     let s = g.before.before in
     row_is s.args.frames.now s.args.state.now s.args.count s.args.i.0 s.requires.1 s.requires.0 s.args.before.now s.args.after.now _ _ _ _ _
-    s.requires.3 s.requires.2 g.is-gone.ensures h.head_byte.ensures k.kind-read.ensures d.data-byte.ensures c.row-bytes.ensures
+    s.requires.3 s.requires.2 g.is_gone.ensures h.head_byte.ensures k.kind_read.ensures d.data_byte.ensures c.row_bytes.ensures
 
-pub row-at-spec : {M : Type 1} → statement M
-row-at-spec =
+pub row_at_spec : {M : Type 1} → statement M
+row_at_spec =
     tie.close
     (tie.spec
     (λ c κs. search rules)

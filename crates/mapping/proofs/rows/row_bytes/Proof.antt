@@ -16,21 +16,21 @@ four_is v x y z w rest h ex ey ez ew =
 
 returns : tie.Need-returns
 returns c =
-    let e15 = c.low-byte16.ensures in
-    let e14 = c.before.low-byte15.ensures in
-    let e13 = c.before.before.low-byte14.ensures in
-    let e12 = c.before.before.before.low-byte13.ensures in
-    let e11 = c.before.before.before.before.low-byte12.ensures in
-    let e10 = c.before.before.before.before.before.low-byte11.ensures in
-    let e9 = c.before.before.before.before.before.before.low-byte10.ensures in
-    let e8 = c.before.before.before.before.before.before.before.low-byte9.ensures in
-    let e7 = c.before.before.before.before.before.before.before.before.low-byte8.ensures in
-    let e6 = c.before.before.before.before.before.before.before.before.before.low-byte7.ensures in
-    let e5 = c.before.before.before.before.before.before.before.before.before.before.low-byte6.ensures in
-    let e4 = c.before.before.before.before.before.before.before.before.before.before.before.low-byte5.ensures in
-    let e3 = c.before.before.before.before.before.before.before.before.before.before.before.before.low-byte4.ensures in
-    let e2 = c.before.before.before.before.before.before.before.before.before.before.before.before.before.low-byte3.ensures in
-    let e1 = c.before.before.before.before.before.before.before.before.before.before.before.before.before.before.low-byte2.ensures in
+    let e15 = c.low_byte16.ensures in
+    let e14 = c.before.low_byte15.ensures in
+    let e13 = c.before.before.low_byte14.ensures in
+    let e12 = c.before.before.before.low_byte13.ensures in
+    let e11 = c.before.before.before.before.low_byte12.ensures in
+    let e10 = c.before.before.before.before.before.low_byte11.ensures in
+    let e9 = c.before.before.before.before.before.before.low_byte10.ensures in
+    let e8 = c.before.before.before.before.before.before.before.low_byte9.ensures in
+    let e7 = c.before.before.before.before.before.before.before.before.low_byte8.ensures in
+    let e6 = c.before.before.before.before.before.before.before.before.before.low_byte7.ensures in
+    let e5 = c.before.before.before.before.before.before.before.before.before.before.low_byte6.ensures in
+    let e4 = c.before.before.before.before.before.before.before.before.before.before.before.low_byte5.ensures in
+    let e3 = c.before.before.before.before.before.before.before.before.before.before.before.before.low_byte4.ensures in
+    let e2 = c.before.before.before.before.before.before.before.before.before.before.before.before.before.low_byte3.ensures in
+    let e1 = c.before.before.before.before.before.before.before.before.before.before.before.before.before.before.low_byte2.ensures in
     let e0 = c.before.before.before.before.before.before.before.before.before.before.before.before.before.before.before.low_byte.ensures in
     let s = c.before.before.before.before.before.before.before.before.before.before.before.before.before.before.before.before in
     let d = four_is s.args.d _ _ _ _ [] (search rules) e12 e13 e14 e15 in
@@ -38,8 +38,8 @@ returns c =
     let a = four_is s.args.b _ _ _ _ _ (search rules) e4 e5 e6 e7 ∙ ap (λ (l : List ℕ). four s.args.b ++ l) b in
     ap (λ (l : List ℕ). s.args.head ∷ s.args.sort ∷ l) (four_is s.args.a _ _ _ _ _ (search rules) e0 e1 e2 e3 ∙ ap (λ (l : List ℕ). four s.args.a ++ l) a)
 
-pub row-bytes-spec : {M : Type 1} → statement M
-row-bytes-spec =
+pub row_bytes_spec : {M : Type 1} → statement M
+row_bytes_spec =
     tie.close
     (tie.spec
     (λ c κs. search rules)

@@ -3,97 +3,97 @@ use mathlib.Core.Path.{◌≡◌, sym, subst}
 use Prim.Native.Nat.{◌+◌, ◌-◌, ◌<◌}
 use native.Mathlib.Omega.{arith}
 use borrow.Author.Rules.{rules}
-use Rattle.slots.specs.State.{formsIn}
-use Rattle.optimize.proofs.Branches.{Chaining, none-chained, more-chained, all-chained}
+use Rattle.slots.specs.State.{forms_in}
+use Rattle.optimize.proofs.Branches.{Chaining, none_chained, more_chained, all_chained}
 use Rattle.optimize.proofs.scanning.fill_chains.Statement.{statement}
 use Rattle.optimize.proofs.scanning.fill_chains.Tie as tie
 
-abbrev invariant-loop : tie.invariant-loop
-invariant-loop state count first₀ after₀ i₀ first after i = Chaining (formsIn state) count first after i
+abbrev invariant_loop : tie.invariant_loop
+invariant_loop state count first₀ after₀ i₀ first after i = Chaining (forms_in state) count first after i
 
-abbrev decreases-loop : tie.decreases-loop
-decreases-loop state count first₀ after₀ i₀ first after i = i
+abbrev decreases_loop : tie.decreases_loop
+decreases_loop state count first₀ after₀ i₀ first after i = i
 
-loop-holds : tie.Need-loop-init invariant-loop decreases-loop
-loop-holds c =
-    subst (λ l. Chaining (formsIn c.args.state.now) c.args.count l c.args.after.now c.args.count) (sym c.requires.1)
-    (none-chained (formsIn c.args.state.now) c.args.count c.args.after.now c.requires.2)
+loop_holds : tie.Need-loop-init invariant_loop decreases_loop
+loop_holds c =
+    subst (λ l. Chaining (forms_in c.args.state.now) c.args.count l c.args.after.now c.args.count) (sym c.requires.1)
+    (none_chained (forms_in c.args.state.now) c.args.count c.args.after.now c.requires.2)
 
-sub-i : tie.Need-overflow-sub-i invariant-loop decreases-loop
-sub-i c = omega arith
+sub_i : tie.Need-overflow-sub-i invariant_loop decreases_loop
+sub_i c = omega arith
 
-form-in-requires : tie.Need-form-in-requires invariant-loop decreases-loop
-form-in-requires c κs = let l = c.before in omega (arith, l.loop.invariant.inside, l.before.requires.0)
+form_in_requires : tie.Need-form-in-requires invariant_loop decreases_loop
+form_in_requires c κs = let l = c.before in omega (arith, l.loop.invariant.inside, l.before.requires.0)
 
 -- a form is a byte, and the place one of the table's
-byte : (c : tie.After-form-in invariant-loop decreases-loop) → c.form_in.result < 256
+byte : (c : tie.After-form-in invariant_loop decreases_loop) → c.form_in.result < 256
 byte c = search rules
 
-inside : (c : tie.After-form-in invariant-loop decreases-loop) → c.before.before.loop.i - 1 < 1024
-inside c = let l = c.before.before in omega (arith, c.before.loop-test.true, l.loop.invariant.inside, l.before.requires.0)
+inside : (c : tie.After-form-in invariant_loop decreases_loop) → c.before.before.loop.i - 1 < 1024
+inside c = let l = c.before.before in omega (arith, c.before.loop_test.true, l.loop.invariant.inside, l.before.requires.0)
 
-cast-form : tie.Need-overflow-cast-form invariant-loop decreases-loop
-cast-form c = search rules
+cast_form : tie.Need-overflow-cast-form invariant_loop decreases_loop
+cast_form c = search rules
 
-mul-after : tie.Need-overflow-mul-after invariant-loop decreases-loop
-mul-after c = search rules
+mul_after : tie.Need-overflow-mul-after invariant_loop decreases_loop
+mul_after c = search rules
 
-element-copy-out-after : tie.Need-element-copy-out-after invariant-loop decreases-loop
-element-copy-out-after c = byte c
+element_copy_out_after : tie.Need-element-copy-out-after invariant_loop decreases_loop
+element_copy_out_after c = byte c
 
-mul-after-2 : tie.Need-overflow-mul-after-2 invariant-loop decreases-loop
-mul-after-2 c = record { fits = omega (arith, inside c.before) }
+mul_after_2 : tie.Need-overflow-mul-after-2 invariant_loop decreases_loop
+mul_after_2 c = record { fits = omega (arith, inside c.before) }
 
-element-write-after : tie.Need-element-write-after invariant-loop decreases-loop
-element-write-after c = inside c.before
+element_write_after : tie.Need-element-write-after invariant_loop decreases_loop
+element_write_after c = inside c.before
 
-cast-first : tie.Need-overflow-cast-first invariant-loop decreases-loop
-cast-first c = record { fits = omega (arith, inside c.before) }
+cast_first : tie.Need-overflow-cast-first invariant_loop decreases_loop
+cast_first c = record { fits = omega (arith, inside c.before) }
 
-mul-first : tie.Need-overflow-mul-first invariant-loop decreases-loop
-mul-first c = search rules
+mul_first : tie.Need-overflow-mul-first invariant_loop decreases_loop
+mul_first c = search rules
 
-element-write-first : tie.Need-element-write-first invariant-loop decreases-loop
-element-write-first c = byte c.before
+element_write_first : tie.Need-element-write-first invariant_loop decreases_loop
+element_write_first c = byte c.before
 
-loop-less : tie.Need-loop-smaller invariant-loop decreases-loop
-loop-less c = omega arith
+loop_less : tie.Need-loop-smaller invariant_loop decreases_loop
+loop_less c = omega arith
 
-loop-again : tie.Need-loop-preserved invariant-loop decreases-loop
-loop-again c =
+loop_again : tie.Need-loop-preserved invariant_loop decreases_loop
+loop_again c =
     let f = c.before in
     let l = f.before.before in
     let s = l.before in
     let i = l.loop.i in
-    let some = f.before.loop-test.true in
+    let some = f.before.loop_test.true in
     let back : i ≡ i - 1 + 1 = omega (arith, some) in
-    more-chained (formsIn s.args.state.now) s.args.count l.loop.first l.loop.after (i - 1) f.form_in.result
+    more_chained (forms_in s.args.state.now) s.args.count l.loop.first l.loop.after (i - 1) f.form_in.result
     (omega (arith, some, l.loop.invariant.inside)) s.requires.0 (sym f.form_in.ensures) (byte f)
-    (subst (Chaining (formsIn s.args.state.now) s.args.count l.loop.first l.loop.after) back l.loop.invariant)
+    (subst (Chaining (forms_in s.args.state.now) s.args.count l.loop.first l.loop.after) back l.loop.invariant)
 
-returns : tie.Need-returns invariant-loop decreases-loop
+returns : tie.Need-returns invariant_loop decreases_loop
 returns c =
     let l = c.before in
     let s = l.before in
-    all-chained (formsIn s.args.state.now) s.args.count l.loop.first l.loop.after l.loop.i (omega (arith, c.loop-test.false)) l.loop.invariant
+    all_chained (forms_in s.args.state.now) s.args.count l.loop.first l.loop.after l.loop.i (omega (arith, c.loop_test.false)) l.loop.invariant
 
-pub fill-chains-spec : {M : Type 1} → statement M
-fill-chains-spec =
+pub fill_chains_spec : {M : Type 1} → statement M
+fill_chains_spec =
     tie.close
     (tie.spec
-    invariant-loop
-    decreases-loop
-    loop-holds
-    sub-i
-    form-in-requires
-    cast-form
-    mul-after
-    element-copy-out-after
-    mul-after-2
-    element-write-after
-    cast-first
-    mul-first
-    element-write-first
-    loop-less
-    loop-again
+    invariant_loop
+    decreases_loop
+    loop_holds
+    sub_i
+    form_in_requires
+    cast_form
+    mul_after
+    element_copy_out_after
+    mul_after_2
+    element_write_after
+    cast_first
+    mul_first
+    element_write_first
+    loop_less
+    loop_again
     returns)

@@ -8,10 +8,10 @@ use borrow.Author.Tests.{not-true, not-false}
 use Rattle.laws.specs.Options.{first_of}
 use Rattle.rules.specs.declared.Settings.{Settings}
 use Rattle.rules.specs.Programs.{Program}
-use Rattle.rules.specs.Rewriting.{Pattern, patterns, patternsFor, patternAt, anywhere}
+use Rattle.rules.specs.Rewriting.{Pattern, patterns, patterns_for, pattern_at, anywhere}
 use Rattle.slots.specs.Slots.{Slots, program_of}
 use Rattle.slots.specs.State.{table_of}
-use Rattle.optimize.proofs.Tries.{tried-as, tried-none}
+use Rattle.optimize.proofs.Tries.{tried_as, tried_none}
 use Rattle.optimize.proofs.scanning.fold_asked.Statement.{statement}
 use Rattle.optimize.proofs.scanning.fold_asked.Tie as tie
 
@@ -20,29 +20,29 @@ here c =
     table_of c.args.frames.now c.args.state.now c.args.count
 
 abbrev folds : Slots → List Pattern → Option Program
-folds t xs = first_of (λ x. anywhere (patternAt (program_of t) x) (program_of t)) xs
+folds t xs = first_of (λ x. anywhere (pattern_at (program_of t) x) (program_of t)) xs
 
 -- which patterns are tried
-off : (asked : Settings) (t : Slots) → asked.folds ≡ false → folds t (patternsFor asked) ≡ none
+off : (asked : Settings) (t : Slots) → asked.folds ≡ false → folds t (patterns_for asked) ≡ none
 unfolding first_of
 off asked t e = rw e
 
-on : (asked : Settings) (t : Slots) → asked.folds ≡ true → folds t patterns ≡ folds t (patternsFor asked)
+on : (asked : Settings) (t : Slots) → asked.folds ≡ true → folds t patterns ≡ folds t (patterns_for asked)
 on asked t e = sym (ap (λ (b : Bool). folds t (cond b patterns [])) e)
 
 returns : tie.Need-returns
 returns c =
     let s = c.before.before.before in
-    tried-none (folds (here s) (patternsFor s.args.asked)) (off s.args.asked (here s) (not-true s.args.asked.folds c.if1.true)) s.requires.0
+    tried_none (folds (here s) (patterns_for s.args.asked)) (off s.args.asked (here s) (not-true s.args.asked.folds c.if1.true)) s.requires.0
 
-fold-requires : tie.Need-fold-requires
-fold-requires c κs = search rules
+fold_requires : tie.Need-fold-requires
+fold_requires c κs = search rules
 
-returns-2 : tie.Need-returns-2
-returns-2 c =
+returns_2 : tie.Need-returns-2
+returns_2 c =
     let i = c.before.before in
     let s = i.before.before.before in
-    tried-as _ (folds (here s) (patternsFor s.args.asked)) (on s.args.asked (here s) (not-false s.args.asked.folds i.if1.false)) c.fold.ensures
+    tried_as _ (folds (here s) (patterns_for s.args.asked)) (on s.args.asked (here s) (not-false s.args.asked.folds i.if1.false)) c.fold.ensures
 
-pub fold-asked-spec : {M : Type 1} → statement M
-fold-asked-spec = tie.close (tie.spec returns fold-requires returns-2)
+pub fold_asked_spec : {M : Type 1} → statement M
+fold_asked_spec = tie.close (tie.spec returns fold_requires returns_2)

@@ -28,17 +28,17 @@ sum v f e = ap (λ (x : ℤ). to_z w64 (of_z w64 x) +ℤ pos 4294967296) (to_z-o
 wide : (v : ℤ) → SFits w32 v → SFits w64 (pos (of_z w32 v))
 wide v f = let h : Fits w32 (of_z w32 v) = Fits-of_z f in record { sfits = omega (arith, h.fits) }
 
-cast-w : tie.Need-overflow-cast-w
-cast-w c = let f = c.before.ranges.v in subst (SFits w64) (sym (to_z-of_z f)) (sfits_widen tt f)
+cast_w : tie.Need-overflow-cast-w
+cast_w c = let f = c.before.ranges.v in subst (SFits w64) (sym (to_z-of_z f)) (sfits_widen tt f)
 
 below : (c : tie.Then1) → lt_z c.before.args.v (pos 0) ≡ true
 below c = rw (to_z-of_z c.before.ranges.v) at c.if1.true
 
-add-result : tie.Need-overflow-add-result
-add-result c = let f = c.before.ranges.v in rw (sum c.before.args.v f (below c)) (wide c.before.args.v f)
+add_result : tie.Need-overflow-add-result
+add_result c = let f = c.before.ranges.v in rw (sum c.before.args.v f (below c)) (wide c.before.args.v f)
 
-cast-result : tie.Need-overflow-cast-result
-cast-result c =
+cast_result : tie.Need-overflow-cast-result
+cast_result c =
     let f = c.before.ranges.v in
     let v = c.before.args.v in
     rw (sum v f (below c), to_z-of_z (wide v f)) (tt, Fits-of_z f)
@@ -49,20 +49,20 @@ returns c =
     let v = c.before.args.v in
     rw (sum v f (below c), to_z-of_z (wide v f)) refl
 
-cast-result-2 : tie.Need-overflow-cast-result-2
-cast-result-2 c =
+cast_result_2 : tie.Need-overflow-cast-result-2
+cast_result_2 c =
     let f = c.before.ranges.v in
     let v = c.before.args.v in
     let e : lt_z v (pos 0) ≡ false = rw (to_z-of_z f) at c.if1.false in
     let p = plain v e in
     rw (to_z-of_z f) (p.0, rw p.1 (Fits-of_z f))
 
-returns-2 : tie.Need-returns-2
-returns-2 c =
+returns_2 : tie.Need-returns-2
+returns_2 c =
     let f = c.before.ranges.v in
     let v = c.before.args.v in
     let e : lt_z v (pos 0) ≡ false = rw (to_z-of_z f) at c.if1.false in
     rw (to_z-of_z f) (plain v e).1
 
-pub bits-spec : {M : Type 1} → statement M
-bits-spec = tie.close (tie.spec cast-w add-result cast-result returns cast-result-2 returns-2)
+pub bits_spec : {M : Type 1} → statement M
+bits_spec = tie.close (tie.spec cast_w add_result cast_result returns cast_result_2 returns_2)

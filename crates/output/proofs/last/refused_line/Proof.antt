@@ -8,61 +8,61 @@ use mir.Val.{of_z}
 use mir.Facts.{to_z-of_z, Fits-of_z}
 use borrow.Author.Rules.{rules}
 use Rattle.rules.specs.Expressions.{pair, four}
-use Rattle.rules.specs.Output.{line_of, refusedLine}
+use Rattle.rules.specs.Output.{line_of, refused_line}
 use Rattle.rules.specs.Run.{front}
 use Rattle.output.proofs.last.refused_line.Statement.{statement}
 use Rattle.output.proofs.last.refused_line.Tie as tie
 
 -- n the number, i the place, j the argument's place, k the bits
-refused-bytes : (n i j k a b c d e f g : ℕ) → i < 65536 → j < 256 → k < 2 ^ 32 → a ≡ i / 256 % 256 → b ≡ i % 256 → c ≡ j % 256 → d ≡ k / 16777216 % 256
+refused_bytes : (n i j k a b c d e f g : ℕ) → i < 65536 → j < 256 → k < 2 ^ 32 → a ≡ i / 256 % 256 → b ≡ i % 256 → c ≡ j % 256 → d ≡ k / 16777216 % 256
     → e ≡ k / 65536 % 256 → f ≡ k / 256 % 256 → g ≡ k % 256 → 0x7E ∷ n ∷ a ∷ b ∷ c ∷ d ∷ e ∷ f ∷ g ∷ [] ≡ 0x7E ∷ n ∷ (pair i ++ (j ∷ four k))
-refused-bytes n i j k a b c d e f g h l m p q r t u v w =
+refused_bytes n i j k a b c d e f g h l m p q r t u v w =
     let x : a ≡ i / 256 = omega arith in
     let y : c ≡ j = omega arith in
     let z : d ≡ k / 16777216 = omega arith in
     rw (x, q, y, z, u, v, w)
 
-cast-at : tie.Need-overflow-cast-at
-cast-at c = search rules
+cast_at : tie.Need-overflow-cast-at
+cast_at c = search rules
 
-cast-of : tie.Need-overflow-cast-of
-cast-of c = search rules
+cast_of : tie.Need-overflow-cast-of
+cast_of c = search rules
 
-bits-requires : tie.Need-bits-requires
-bits-requires c κs = search rules
+bits_requires : tie.Need-bits-requires
+bits_requires c κs = search rules
 
-low-byte-requires : tie.Need-low-byte-requires
-low-byte-requires c κs = search rules
+low_byte_requires : tie.Need-low-byte-requires
+low_byte_requires c κs = search rules
 
-low-byte-requires-2 : tie.Need-low-byte-requires-2
-low-byte-requires-2 c κs = search rules
+low_byte_requires_2 : tie.Need-low-byte-requires-2
+low_byte_requires_2 c κs = search rules
 
-low-byte-requires-3 : tie.Need-low-byte-requires-3
-low-byte-requires-3 c κs = search rules
+low_byte_requires_3 : tie.Need-low-byte-requires-3
+low_byte_requires_3 c κs = search rules
 
-low-byte-requires-4 : tie.Need-low-byte-requires-4
-low-byte-requires-4 c κs = search rules
+low_byte_requires_4 : tie.Need-low-byte-requires-4
+low_byte_requires_4 c κs = search rules
 
-low-byte-requires-5 : tie.Need-low-byte-requires-5
-low-byte-requires-5 c κs = search rules
+low_byte_requires_5 : tie.Need-low-byte-requires-5
+low_byte_requires_5 c κs = search rules
 
-low-byte-requires-6 : tie.Need-low-byte-requires-6
-low-byte-requires-6 c κs = search rules
+low_byte_requires_6 : tie.Need-low-byte-requires-6
+low_byte_requires_6 c κs = search rules
 
-low-byte-requires-7 : tie.Need-low-byte-requires-7
-low-byte-requires-7 c κs = search rules
+low_byte_requires_7 : tie.Need-low-byte-requires-7
+low_byte_requires_7 c κs = search rules
 
-slice-aggregate-put-whole : tie.Need-slice-aggregate-put-whole
-slice-aggregate-put-whole c = search rules
+slice_aggregate_put_whole : tie.Need-slice-aggregate-put-whole
+slice_aggregate_put_whole c = search rules
 
-put-whole-requires : tie.Need-put-whole-requires
-put-whole-requires c κs = search rules
+put_whole_requires : tie.Need-put-whole-requires
+put_whole_requires c κs = search rules
 
 same_length : tie.Need-same-length
 same_length c = search rules
 
 returns : tie.Need-returns
-unfolding refusedLine
+unfolding refused_line
 returns c =
     let p = c.before.before in
     let l = p.before.before.before in
@@ -72,28 +72,28 @@ returns c =
     let k : w.bits.result ≡ of_z w32 a.amount = w.bits.ensures ∙ ap (of_z w32) (to_z-of_z s.ranges.amount) in
     let m : w.bits.result < 2 ^ 32 = rw k (Fits-of_z s.ranges.amount).fits in
     let bytes =
-    refused-bytes a.number a.place a.argument w.bits.result _ _ _ _ _ _ _ s.requires.0 s.requires.1 m l.before.before.before.before.before.before.low_byte.ensures
-    l.before.before.before.before.before.low-byte2.ensures l.before.before.before.before.low-byte3.ensures l.before.before.before.low-byte4.ensures
-    l.before.before.low-byte5.ensures l.before.low-byte6.ensures l.low-byte7.ensures in
+    refused_bytes a.number a.place a.argument w.bits.result _ _ _ _ _ _ _ s.requires.0 s.requires.1 m l.before.before.before.before.before.before.low_byte.ensures
+    l.before.before.before.before.before.low_byte2.ensures l.before.before.before.before.low_byte3.ensures l.before.before.before.low_byte4.ensures
+    l.before.before.low_byte5.ensures l.before.low_byte6.ensures l.low_byte7.ensures in
     p.put_whole.ensures
     ∙ ap (λ x. front (line_of x) a.out.now) bytes
     ∙ ap (λ (n : ℕ). front (line_of (0x7E ∷ a.number ∷ (pair a.place ++ (a.argument ∷ four n)))) a.out.now) k
 
-pub refused-line-spec : {M : Type 1} → statement M
-refused-line-spec =
+pub refused_line_spec : {M : Type 1} → statement M
+refused_line_spec =
     tie.close
     (tie.spec
-    cast-at
-    cast-of
-    bits-requires
-    low-byte-requires
-    low-byte-requires-2
-    low-byte-requires-3
-    low-byte-requires-4
-    low-byte-requires-5
-    low-byte-requires-6
-    low-byte-requires-7
-    slice-aggregate-put-whole
-    put-whole-requires
+    cast_at
+    cast_of
+    bits_requires
+    low_byte_requires
+    low_byte_requires_2
+    low_byte_requires_3
+    low_byte_requires_4
+    low_byte_requires_5
+    low_byte_requires_6
+    low_byte_requires_7
+    slice_aggregate_put_whole
+    put_whole_requires
     same_length
     returns)

@@ -12,15 +12,15 @@ use Rattle.rules.specs.Programs.{kind_of}
 use Rattle.expression.specs.Sound.{AreBytes}
 use Rattle.listing.specs.Form.{form_of}
 use Rattle.slots.specs.Slots.{Slots, slots, slot_at, program_of}
-use Rattle.slots.specs.State.{startsIn, formsIn, carryIn, ownersIn}
-use Rattle.slots.specs.Meaning.{kindFor, kindIn, Stands}
-use Rattle.output.proofs.Slots.{line-gone, bytes-instr, bytes-other}
-use Rattle.output.proofs.Sizes.{frame-most, line-size, drawn}
+use Rattle.slots.specs.State.{starts_in, forms_in, carry_in, owners_in}
+use Rattle.slots.specs.Meaning.{kind_for, kind_in, Stands}
+use Rattle.output.proofs.Slots.{line_gone, bytes_instr, bytes_other}
+use Rattle.output.proofs.Sizes.{frame_most, line_size, drawn}
 use Rattle.output.proofs.lines.line_length_at.Statement.{statement}
 use Rattle.output.proofs.lines.line_length_at.Tie as tie
 
-slot-at-requires : tie.Need-slot-at-requires
-slot-at-requires c κs = let s = c.before.before in (s.requires.0.1.held, s.requires.1)
+slot_at_requires : tie.Need-slot-at-requires
+slot_at_requires c κs = let s = c.before.before in (s.requires.0.1.held, s.requires.1)
 
 -- the tables, the form of the listing and what stands in the slot, whatever the offsets
 module _ (c : tie.After-slot-at) (offsets : List ℕ) where
@@ -31,61 +31,61 @@ module _ (c : tie.After-slot-at) (offsets : List ℕ) where
   form = form_of start.args.marked
 
   abbrev over : Slots
-  over = slots start.args.frames.now (startsIn start.args.state.now) start.args.count (formsIn start.args.state.now) (carryIn start.args.state.now) (ownersIn start.args.state.now) offsets
+  over = slots start.args.frames.now (starts_in start.args.state.now) start.args.count (forms_in start.args.state.now) (carry_in start.args.state.now) (owners_in start.args.state.now) offsets
 
-  stands : Stands over start.args.at.0 c.slot-at.result
-  stands = c.slot-at.ensures (carryIn start.args.state.now) (ownersIn start.args.state.now) offsets
+  stands : Stands over start.args.at.0 c.slot_at.result
+  stands = c.slot_at.ensures (carry_in start.args.state.now) (owners_in start.args.state.now) offsets
 
-  all-bytes : AreBytes start.args.frames.now
-  all-bytes i = (c.before.before.shared-slice-known.given i).fits
+  all_bytes : AreBytes start.args.frames.now
+  all_bytes i = (c.before.before.shared_slice_known.given i).fits
 
 returns : tie.Need-returns
 returns c =
     let k = c.before.before in (
       omega arith,
       λ lines offsets sound.
-          sym (ap length (line-gone (form k offsets) (get_or lines (start k offsets).args.at.0 0) (program_of (over k offsets)) (slot_at (over k offsets) _) ((stands k offsets).kind ∙ ap kindIn c.enum_told.given.1))),
+          sym (ap length (line_gone (form k offsets) (get_or lines (start k offsets).args.at.0 0) (program_of (over k offsets)) (slot_at (over k offsets) _) ((stands k offsets).kind ∙ ap kind_in c.enum_told.given.1))),
     )
 
 -- an instruction
 one : (c : tie.After-enum-told2) (offsets : List ℕ) →
     let k = c.before.before in
     kind_of (slot_at (over k offsets) (start k offsets).args.at.0) ≡ 1
-one c offsets = (stands c.before.before offsets).kind ∙ ap kindIn c.enum-told2.given.1
+one c offsets = (stands c.before.before offsets).kind ∙ ap kind_in c.enum_told2.given.1
 
-instruction-length-requires : tie.Need-instruction-length-requires
-instruction-length-requires c κs =
+instruction_length_requires : tie.Need-instruction-length-requires
+instruction_length_requires c κs =
     let k = c.before.before in
     let s = c.before.before.before.before.before in
     let o = s.requires.0.0 in
     drawn (over k o) s.requires.0.1 s.args.at.0 s.requires.1 (one c o)
 
-add-result : tie.Need-overflow-add-result
-add-result c = omega (arith, c.instruction-length.ensures.0, c.before.before.before.before.line-bytes.ensures.1)
+add_result : tie.Need-overflow-add-result
+add_result c = omega (arith, c.instruction_length.ensures.0, c.before.before.before.before.line_bytes.ensures.1)
 
-mul-result : tie.Need-overflow-mul-result
-mul-result c = omega (arith, c.instruction-length.ensures.0, c.before.before.before.before.line-bytes.ensures.1)
+mul_result : tie.Need-overflow-mul-result
+mul_result c = omega (arith, c.instruction_length.ensures.0, c.before.before.before.before.line_bytes.ensures.1)
 
-add-result-2 : tie.Need-overflow-add-result-2
-add-result-2 c = omega (arith, c.instruction-length.ensures.0, c.before.before.before.before.line-bytes.ensures.1)
+add_result_2 : tie.Need-overflow-add-result-2
+add_result_2 c = omega (arith, c.instruction_length.ensures.0, c.before.before.before.before.line_bytes.ensures.1)
 
-returns-2 : tie.Need-returns-2
-returns-2 c =
-    let b = c.before.before.before.before.line-bytes.ensures in (
-      omega (arith, c.instruction-length.ensures.0, b.1),
+returns_2 : tie.Need-returns-2
+returns_2 c =
+    let b = c.before.before.before.before.line_bytes.ensures in (
+      omega (arith, c.instruction_length.ensures.0, b.1),
       λ lines offsets sound.
           let k = c.before.before.before in
           let s = start k offsets in
           let t = over k offsets in
           let positions = tab (position (program_of t)) t.count in
           let is = one c.before offsets in
-          let n = line-size (form k offsets) (get_or lines s.args.at.0 0) t sound (all-bytes k offsets) s.args.at.0 s.pre.1 (omega (arith, is)) in
-          let m = ap length (bytes-instr t positions s.args.at.0 is) in
-          omega (arith, n, m, b.0, c.instruction-length.ensures.1 offsets positions),
+          let n = line_size (form k offsets) (get_or lines s.args.at.0 0) t sound (all_bytes k offsets) s.args.at.0 s.pre.1 (omega (arith, is)) in
+          let m = ap length (bytes_instr t positions s.args.at.0 is) in
+          omega (arith, n, m, b.0, c.instruction_length.ensures.1 offsets positions),
     )
 
-frame-at-requires : tie.Need-frame-at-requires
-frame-at-requires c κs = let s = c.before.before.before.before.before in (s.requires.0.1.held, s.requires.1)
+frame_at_requires : tie.Need-frame-at-requires
+frame_at_requires c κs = let s = c.before.before.before.before.before in (s.requires.0.1.held, s.requires.1)
 
 -- any other statement
 module _ (c : tie.After-frame-at) where
@@ -95,55 +95,55 @@ module _ (c : tie.After-frame-at) where
   abbrev first : tie.Start
   first = slot.before.before.before
 
-  most : length c.frame-at.result.now ≤ 28672
+  most : length c.frame_at.result.now ≤ 28672
   most =
-      omega (arith, ap length c.frame-at.ensures, frame-most first.args.frames.now (startsIn first.args.state.now) first.args.count first.pre.0.1.held first.args.at.0 first.pre.1)
+      omega (arith, ap length c.frame_at.ensures, frame_most first.args.frames.now (starts_in first.args.state.now) first.args.count first.pre.0.1.held first.args.at.0 first.pre.1)
 
   above : (offsets : List ℕ) → 2 ≤ kind_of (slot_at (over slot offsets) first.args.at.0)
   above offsets =
-      let x = c.before.enum-told3.given in
-      omega (arith, (stands slot offsets).kind, ap kindIn x.1, ((stands slot offsets).holds x.0.0 x.1).other)
+      let x = c.before.enum_told3.given in
+      omega (arith, (stands slot offsets).kind, ap kind_in x.1, ((stands slot offsets).holds x.0.0 x.1).other)
 
-add-result-3 : tie.Need-overflow-add-result-3
-add-result-3 c = omega (arith, most c, c.before.before.before.before.line-bytes.ensures.1)
+add_result_3 : tie.Need-overflow-add-result-3
+add_result_3 c = omega (arith, most c, c.before.before.before.before.line_bytes.ensures.1)
 
-mul-result-2 : tie.Need-overflow-mul-result-2
-mul-result-2 c = omega (arith, most c, c.before.before.before.before.line-bytes.ensures.1)
+mul_result_2 : tie.Need-overflow-mul-result-2
+mul_result_2 c = omega (arith, most c, c.before.before.before.before.line_bytes.ensures.1)
 
-add-result-4 : tie.Need-overflow-add-result-4
-add-result-4 c = omega (arith, most c, c.before.before.before.before.line-bytes.ensures.1)
+add_result_4 : tie.Need-overflow-add-result-4
+add_result_4 c = omega (arith, most c, c.before.before.before.before.line_bytes.ensures.1)
 
-returns-3 : tie.Need-returns-3
-returns-3 c =
-    let b = c.before.before.before.before.line-bytes.ensures in (
+returns_3 : tie.Need-returns-3
+returns_3 c =
+    let b = c.before.before.before.before.line_bytes.ensures in (
       omega (arith, most c, b.1),
       λ lines offsets sound.
           let k = slot c in
           let s = first c in
           let t = over k offsets in
           let positions = tab (position (program_of t)) t.count in
-          let n = line-size (form k offsets) (get_or lines s.args.at.0 0) t sound (all-bytes k offsets) s.args.at.0 s.pre.1 (omega (arith, above c offsets)) in
-          let m = ap length (bytes-other t positions s.args.at.0 (λ e. omega (arith, above c offsets))) in
-          omega (arith, n, m, b.0, ap length c.frame-at.ensures),
+          let n = line_size (form k offsets) (get_or lines s.args.at.0 0) t sound (all_bytes k offsets) s.args.at.0 s.pre.1 (omega (arith, above c offsets)) in
+          let m = ap length (bytes_other t positions s.args.at.0 (λ e. omega (arith, above c offsets))) in
+          omega (arith, n, m, b.0, ap length c.frame_at.ensures),
     )
 
-pub line-length-at-spec : {M : Type 1} → statement M
-line-length-at-spec =
+pub line_length_at_spec : {M : Type 1} → statement M
+line_length_at_spec =
     tie.close
     (tie.spec
     (λ c κs. search rules)
-    slot-at-requires
+    slot_at_requires
     (λ c. search rules)
     (λ c. search rules)
-    instruction-length-requires
-    add-result
-    mul-result
-    add-result-2
+    instruction_length_requires
+    add_result
+    mul_result
+    add_result_2
     (λ c. search rules)
-    frame-at-requires
-    add-result-3
-    mul-result-2
-    add-result-4
+    frame_at_requires
+    add_result_3
+    mul_result_2
+    add_result_4
     returns
-    returns-2
-    returns-3)
+    returns_2
+    returns_3)

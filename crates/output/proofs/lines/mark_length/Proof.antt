@@ -4,19 +4,19 @@ use mathlib.Core.List.{[], ◌∷◌}
 use native.Mathlib.Omega.{arith}
 use borrow.Author.Rules.{rules}
 use borrow.Author.Tests.{not-true, not-false}
-use Rattle.digits.proofs.Rooms.{length-line}
+use Rattle.digits.proofs.Rooms.{length_line}
 use Rattle.output.proofs.lines.mark_length.Statement.{statement}
 use Rattle.output.proofs.lines.mark_length.Tie as tie
 
 returns : tie.Need-returns
 returns c = rw (not-true c.before.args.marked c.if1.true) (omega arith, omega arith)
 
-returns-2 : tie.Need-returns-2
-returns-2 c = rw (not-false c.before.args.marked c.if1.false) (sym (length-line (0x7D ∷ 0x02 ∷ [])), omega arith)
+returns_2 : tie.Need-returns-2
+returns_2 c = rw (not-false c.before.args.marked c.if1.false) (sym (length_line (0x7D ∷ 0x02 ∷ [])), omega arith)
 
-pub mark-length-spec : {M : Type 1} → statement M
-mark-length-spec =
+pub mark_length_spec : {M : Type 1} → statement M
+mark_length_spec =
     tie.close
     (tie.spec
     returns
-    returns-2)
+    returns_2)

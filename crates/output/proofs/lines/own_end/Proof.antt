@@ -4,54 +4,54 @@ use Prim.Native.Nat.{◌-◌, ◌≤◌}
 use native.Mathlib.Omega.{arith}
 use lib.ListN.{get_or}
 use borrow.Author.Rules.{rules}
-use Rattle.rules.specs.Forms.{operandsAt}
-use Rattle.rules.specs.Statements.{argumentAt}
-use Rattle.instruction.proofs.Numbers.{few-operands}
-use Rattle.slots.proofs.Operands.{instr-in}
-use Rattle.output.proofs.Targets.{transfer-some, own-transfer, own-other}
+use Rattle.rules.specs.Forms.{operands_at}
+use Rattle.rules.specs.Statements.{argument_at}
+use Rattle.instruction.proofs.Numbers.{few_operands}
+use Rattle.slots.proofs.Operands.{instr_in}
+use Rattle.output.proofs.Targets.{transfer_some, own_transfer, own_other}
 use Rattle.output.proofs.lines.own_end.Statement.{statement}
 use Rattle.output.proofs.lines.own_end.Tie as tie
 
-shared-slice-read-form : tie.Need-shared-slice-read-form
-shared-slice-read-form c = let s = c.before.before in omega (arith, (instr-in s.args.at.0 s.args.frame.now s.requires.0).long)
+shared_slice_read_form : tie.Need-shared-slice-read-form
+shared_slice_read_form c = let s = c.before.before in omega (arith, (instr_in s.args.at.0 s.args.frame.now s.requires.0).long)
 
-is-transfer-requires : tie.Need-is-transfer-requires
-is-transfer-requires c κs = search rules
+is_transfer_requires : tie.Need-is-transfer-requires
+is_transfer_requires c κs = search rules
 
-operand-count-requires : tie.Need-operand-count-requires
-operand-count-requires c κs = search rules
+operand_count_requires : tie.Need-operand-count-requires
+operand_count_requires c κs = search rules
 
 -- a transfer has an operand at least
-some : (c : tie.After-operand-count) → 1 ≤ c.operand-count.result
-some c = rw c.operand-count.ensures (transfer-some _ (sym c.before.before.is-transfer.ensures ∙ c.before.if1.true))
+some : (c : tie.After-operand-count) → 1 ≤ c.operand_count.result
+some c = rw c.operand_count.ensures (transfer_some _ (sym c.before.before.is_transfer.ensures ∙ c.before.if1.true))
 
-sub-argument-at : tie.Need-overflow-sub-argument-at
-sub-argument-at c = some c
+sub_argument_at : tie.Need-overflow-sub-argument-at
+sub_argument_at c = some c
 
-argument-at-requires : tie.Need-argument-at-requires
-argument-at-requires c κs =
+argument_at_requires : tie.Need-argument-at-requires
+argument_at_requires c κs =
     let s = c.before.before.before.before.before in
-    (omega (arith, s.requires.1), omega (arith, some c, c.operand-count.ensures, few-operands (get_or s.args.frame.now 1 0)))
+    (omega (arith, s.requires.1), omega (arith, some c, c.operand_count.ensures, few_operands (get_or s.args.frame.now 1 0)))
 
 returns : tie.Need-returns
 returns c =
     let s = c.before.before.before.before.before.before in
-    let t = sym c.before.before.before.is-transfer.ensures ∙ c.before.before.if1.true in
-    c.argument-at.ensures s.args.frame.now s.requires.2 s.requires.0.kind (omega (arith, some c.before, c.before.operand-count.ensures)) ∙ ap (λ n. argumentAt s.args.frame.now (operandsAt (get_or s.args.frame.now 1 0)) 2 (n - 1)) c.before.operand-count.ensures ∙ sym (own-transfer s.args.frame.now t)
+    let t = sym c.before.before.before.is_transfer.ensures ∙ c.before.before.if1.true in
+    c.argument_at.ensures s.args.frame.now s.requires.2 s.requires.0.kind (omega (arith, some c.before, c.before.operand_count.ensures)) ∙ ap (λ n. argument_at s.args.frame.now (operands_at (get_or s.args.frame.now 1 0)) 2 (n - 1)) c.before.operand_count.ensures ∙ sym (own_transfer s.args.frame.now t)
 
-returns-2 : tie.Need-returns-2
-returns-2 c =
+returns_2 : tie.Need-returns-2
+returns_2 c =
     let s = c.before.before.before.before in
-    sym (own-other s.args.frame.now (sym c.before.is-transfer.ensures ∙ c.if1.false))
+    sym (own_other s.args.frame.now (sym c.before.is_transfer.ensures ∙ c.if1.false))
 
-pub own-end-spec : {M : Type 1} → statement M
-own-end-spec =
+pub own_end_spec : {M : Type 1} → statement M
+own_end_spec =
     tie.close
     (tie.spec
-    shared-slice-read-form
-    is-transfer-requires
-    operand-count-requires
-    sub-argument-at
-    argument-at-requires
+    shared_slice_read_form
+    is_transfer_requires
+    operand_count_requires
+    sub_argument_at
+    argument_at_requires
     returns
-    returns-2)
+    returns_2)

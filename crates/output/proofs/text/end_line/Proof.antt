@@ -5,11 +5,11 @@ use Rattle.digits.proofs.Rooms.{laid_one}
 use Rattle.output.proofs.text.end_line.Statement.{statement}
 use Rattle.output.proofs.text.end_line.Tie as tie
 
-slice-write-out : tie.Need-slice-write-out
-slice-write-out c = search rules
+slice_write_out : tie.Need-slice-write-out
+slice_write_out c = search rules
 
-add-result : tie.Need-overflow-add-result
-add-result c = search rules
+add_result : tie.Need-overflow-add-result
+add_result c = search rules
 
 same_length : tie.Need-same-length
 same_length c = search rules
@@ -17,5 +17,5 @@ same_length c = search rules
 returns : tie.Need-returns
 returns c = (laid_one c.args.out.now c.args.at 10 c.requires, refl)
 
-pub end-line-spec : {M : Type 1} → statement M
-end-line-spec = tie.close (tie.spec slice-write-out add-result same_length returns)
+pub end_line_spec : {M : Type 1} → statement M
+end_line_spec = tie.close (tie.spec slice_write_out add_result same_length returns)

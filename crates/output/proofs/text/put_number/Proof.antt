@@ -6,16 +6,16 @@ use Rattle.output.proofs.text.put_number.Tie as tie
 returns : tie.Need-returns
 returns c = c.before.before.put_five.ensures
 
-put-five-requires : tie.Need-put-five-requires
-put-five-requires c κs = search rules
+put_five_requires : tie.Need-put-five-requires
+put_five_requires c κs = search rules
 
 same_length : tie.Need-same-length
 same_length c = search rules
 
-pub put-number-spec : {M : Type 1} → statement M
-put-number-spec =
+pub put_number_spec : {M : Type 1} → statement M
+put_number_spec =
     tie.close
     (tie.spec
-    put-five-requires
+    put_five_requires
     same_length
     returns)

@@ -7,11 +7,11 @@ use Rattle.pairing.proofs.entries.is_good.Tie as tie
 returns : tie.Need-returns
 returns c = let a = c.before.args in rw (lt-leb a.low a.i c.if1.true)
 
-returns-2 : tie.Need-returns-2
-returns-2 c = let a = c.before.before.args in rw (le-leb a.low a.i c.before.if1.false, le-ltb a.i a.n c.if2.true)
+returns_2 : tie.Need-returns-2
+returns_2 c = let a = c.before.before.args in rw (le-leb a.low a.i c.before.if1.false, le-ltb a.i a.n c.if2.true)
 
-returns-3 : tie.Need-returns-3
-returns-3 c = let a = c.before.before.args in rw (le-leb a.low a.i c.before.if1.false, lt-ltb a.i a.n c.if2.false)
+returns_3 : tie.Need-returns-3
+returns_3 c = let a = c.before.before.args in rw (le-leb a.low a.i c.before.if1.false, lt-ltb a.i a.n c.if2.false)
 
-pub is-good-spec : {M : Type 1} → statement M
-is-good-spec = tie.close (tie.spec returns returns-2 returns-3)
+pub is_good_spec : {M : Type 1} → statement M
+is_good_spec = tie.close (tie.spec returns returns_2 returns_3)

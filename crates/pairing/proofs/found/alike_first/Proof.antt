@@ -8,81 +8,81 @@ use lib.ListN.{length, drop}
 use borrow.Author.Rules.{rules}
 use borrow.Author.Tests.{not-true, not-false}
 use Rattle.laws.specs.Lists.{same}
-use Rattle.pairing.specs.Pairings.{Frames, framesOf, common}
+use Rattle.pairing.specs.Pairings.{Frames, frames_of, common}
 use Rattle.pairing.specs.Lines.{Lined}
-use Rattle.pairing.proofs.Frames.{frames-count, common-more, common-stop, common-end, common-end'}
+use Rattle.pairing.proofs.Frames.{frames_count, common_more, common_stop, common_end, common_end'}
 use Rattle.pairing.proofs.found.alike_first.Statement.{statement}
 use Rattle.pairing.proofs.found.alike_first.Tie as tie
 
-abbrev invariant-loop : tie.invariant-loop
-invariant-loop first firsts n second seconds m k₀ k =
-    (k ≤ n) × (k ≤ m) × (k + common (drop k (framesOf first)) (drop k (framesOf second)) ≡ common (framesOf first) (framesOf second))
+abbrev invariant_loop : tie.invariant_loop
+invariant_loop first firsts n second seconds m k₀ k =
+    (k ≤ n) × (k ≤ m) × (k + common (drop k (frames_of first)) (drop k (frames_of second)) ≡ common (frames_of first) (frames_of second))
 
-abbrev decreases-loop : tie.decreases-loop
-decreases-loop first firsts n second seconds m k₀ k = n - k
+abbrev decreases_loop : tie.decreases_loop
+decreases_loop first firsts n second seconds m k₀ k = n - k
 
-module _ (s : tie.Start invariant-loop decreases-loop) where
+module _ (s : tie.Start invariant_loop decreases_loop) where
   abbrev a : Frames
-  a = framesOf s.args.first.now
+  a = frames_of s.args.first.now
 
   abbrev b : Frames
-  b = framesOf s.args.second.now
+  b = frames_of s.args.second.now
 
-  size-a : length a ≡ s.args.n
-  size-a = frames-count s.args.first.now ∙ sym s.pre.0.count
+  size_a : length a ≡ s.args.n
+  size_a = frames_count s.args.first.now ∙ sym s.pre.0.count
 
-  size-b : length b ≡ s.args.m
-  size-b = frames-count s.args.second.now ∙ sym s.pre.1.count
+  size_b : length b ≡ s.args.m
+  size_b = frames_count s.args.second.now ∙ sym s.pre.1.count
 
-returns : tie.Need-returns invariant-loop decreases-loop
+returns : tie.Need-returns invariant_loop decreases_loop
 returns c =
     let l = c.before.before in
     let s = l.before.before.before in
     let t = l.loop in
-    let z = common-end' (a s) (b s) t.k (omega (arith, size-b s, c.if1.true)) in
+    let z = common_end' (a s) (b s) t.k (omega (arith, size_b s, c.if1.true)) in
     (omega (arith, t.invariant.2, z), t.invariant.0, t.invariant.1)
 
-returns-2 : tie.Need-returns-2 invariant-loop decreases-loop
-returns-2 c =
+returns_2 : tie.Need-returns-2 invariant_loop decreases_loop
+returns_2 c =
     let g = c.before in
     let l = g.before.before.before in
     let s = l.before.before.before in
     let t = l.loop in
-    let z = common-stop (a s) (b s) t.k (omega (arith, size-a s, g.before.before.loop-test.true))
-    (omega (arith, size-b s, g.before.if1.false))
-    (sym g.same-frame.ensures ∙ not-true _ c.if2.true) in
+    let z = common_stop (a s) (b s) t.k (omega (arith, size_a s, g.before.before.loop_test.true))
+    (omega (arith, size_b s, g.before.if1.false))
+    (sym g.same_frame.ensures ∙ not-true _ c.if2.true) in
     (omega (arith, t.invariant.2, z), t.invariant.0, t.invariant.1)
 
-loop-again : tie.Need-loop-preserved invariant-loop decreases-loop
-loop-again c =
+loop_again : tie.Need-loop-preserved invariant_loop decreases_loop
+loop_again c =
     let g = c.before in
     let l = g.before.before.before in
     let s = l.before.before.before in
     let t = l.loop in
-    let z = common-more (a s) (b s) t.k (omega (arith, size-a s, g.before.before.loop-test.true))
-    (omega (arith, size-b s, g.before.if1.false))
-    (sym g.same-frame.ensures ∙ not-false _ c.if2.false) in
+    let z = common_more (a s) (b s) t.k (omega (arith, size_a s, g.before.before.loop_test.true))
+    (omega (arith, size_b s, g.before.if1.false))
+    (sym g.same_frame.ensures ∙ not-false _ c.if2.false) in
     (omega arith, omega (arith, g.before.if1.false), rw (add-one t.k) (omega (arith, t.invariant.2, z)))
 
-returns-3 : tie.Need-returns-3 invariant-loop decreases-loop
-returns-3 c =
+returns_3 : tie.Need-returns-3 invariant_loop decreases_loop
+returns_3 c =
     let l = c.before in
     let s = l.before.before.before in
     let t = l.loop in
-    let z = common-end (a s) (b s) t.k (omega (arith, size-a s, c.loop-test.false)) in
+    let z = common_end (a s) (b s) t.k (omega (arith, size_a s, c.loop_test.false)) in
     (omega (arith, t.invariant.2, z), t.invariant.0, t.invariant.1)
 
-pub alike-first-spec : {M : Type 1} → statement M
-alike-first-spec =
+pub alike_first_spec : {M : Type 1} → statement M
+alike_first_spec =
     tie.close
     (tie.spec
-    invariant-loop
-    decreases-loop
+    invariant_loop
+    decreases_loop
     (λ c. (omega arith, omega arith, omega arith))
     returns
     (λ c κs. let s = c.before.before.before.before.before in (s.requires.0, s.requires.1, omega arith, omega arith))
-    returns-2
+    returns_2
     (λ c. search rules)
     (λ c. search rules)
-    loop-again
-    returns-3)
+    loop_again
+    returns_3)

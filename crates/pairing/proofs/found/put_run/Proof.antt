@@ -6,50 +6,50 @@ use native.Mathlib.Omega.{arith}
 use lib.ListN.{length}
 use borrow.Author.Rules.{rules}
 use Rattle.pairing.specs.Pairings.{Pair, run_of}
-use Rattle.pairing.specs.Tables.{pairsIn}
-use Rattle.pairing.proofs.Tables.{pairs-more, size-stored, run_more}
+use Rattle.pairing.specs.Tables.{pairs_in}
+use Rattle.pairing.proofs.Tables.{pairs_more, size_stored, run_more}
 use Rattle.pairing.proofs.found.put_run.Statement.{statement}
 use Rattle.pairing.proofs.found.put_run.Tie as tie
 
-abbrev invariant-loop : tie.invariant-loop
-invariant-loop pairs₀ at i j n k₀ pairs k = (k ≤ n) × (length pairs ≡ 2048) × (pairsIn pairs (at + k) ≡ pairsIn pairs₀ at ++ run_of k i j)
+abbrev invariant_loop : tie.invariant_loop
+invariant_loop pairs₀ at i j n k₀ pairs k = (k ≤ n) × (length pairs ≡ 2048) × (pairs_in pairs (at + k) ≡ pairs_in pairs₀ at ++ run_of k i j)
 
-abbrev decreases-loop : tie.decreases-loop
-decreases-loop pairs₀ at i j n k₀ pairs k = n - k
+abbrev decreases_loop : tie.decreases_loop
+decreases_loop pairs₀ at i j n k₀ pairs k = n - k
 
-loop-holds : tie.Need-loop-init invariant-loop decreases-loop
+loop_holds : tie.Need-loop-init invariant_loop decreases_loop
 unfolding run_of
-loop-holds c =
+loop_holds c =
     let z : c.args.at + 0 ≡ c.args.at = omega arith in
-    (omega arith, c.requires.3, rw z (sym (append-nil (pairsIn c.args.pairs.now c.args.at))))
+    (omega arith, c.requires.3, rw z (sym (append-nil (pairs_in c.args.pairs.now c.args.at))))
 
-loop-again : tie.Need-loop-preserved invariant-loop decreases-loop
-loop-again c =
+loop_again : tie.Need-loop-preserved invariant_loop decreases_loop
+loop_again c =
     let t = c.before.loop in
     let a = c.before.before.args in
     let p = c.before.before.requires in
     let h : a.at + t.k < 1024 = omega (arith, p.0) in
     let z : a.at + (t.k + 1) ≡ a.at + t.k + 1 = omega arith in (
       omega arith,
-      size-stored t.pairs (a.at + t.k) _ _ h t.invariant.1,
-      rw z (pairs-more t.pairs (a.at + t.k) _ _ h t.invariant.1 ∙ rw (t.invariant.2, run_more t.k a.i a.j)
-          (append_assoc (pairsIn a.pairs.now a.at) (run_of t.k a.i a.j) _)),
+      size_stored t.pairs (a.at + t.k) _ _ h t.invariant.1,
+      rw z (pairs_more t.pairs (a.at + t.k) _ _ h t.invariant.1 ∙ rw (t.invariant.2, run_more t.k a.i a.j)
+          (append_assoc (pairs_in a.pairs.now a.at) (run_of t.k a.i a.j) _)),
     )
 
-returns : tie.Need-returns invariant-loop decreases-loop
+returns : tie.Need-returns invariant_loop decreases_loop
 returns c =
     let t = c.before.loop in
     let a = c.before.before.args in
     let e : t.k ≡ a.n = omega arith in
     (rw (← e) t.invariant.2, t.invariant.1)
 
-pub put-run-spec : {M : Type 1} → statement M
-put-run-spec =
+pub put_run_spec : {M : Type 1} → statement M
+put_run_spec =
     tie.close
     (tie.spec
-    invariant-loop
-    decreases-loop
-    loop-holds
+    invariant_loop
+    decreases_loop
+    loop_holds
     (λ c. omega (arith, c.before.before.requires.0))
     (λ c. omega (arith, c.before.before.requires.1))
     (λ c. omega (arith, c.before.before.requires.0))
@@ -60,5 +60,5 @@ put-run-spec =
     (λ c. omega (arith, c.before.before.requires.0))
     (λ c. omega (arith, c.before.before.requires.0))
     (λ c. search rules)
-    loop-again
+    loop_again
     returns)

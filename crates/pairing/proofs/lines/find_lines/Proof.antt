@@ -5,54 +5,54 @@ use native.Mathlib.Numerals.{add-one}
 use native.Mathlib.Omega.{arith}
 use lib.ListN.{length}
 use borrow.Author.Rules.{rules}
-use Rattle.rules.specs.Listing.{readListing}
-use Rattle.pairing.specs.Lines.{charsOf}
-use Rattle.laws.proofs.Stores.{rest-is}
-use Rattle.pairing.proofs.Accepted.{AcceptedLines, accepted-lines, is_ok}
-use Rattle.pairing.proofs.Finding.{Found, found_first, found-next, rest-within, found_all}
+use Rattle.rules.specs.Listing.{read_listing}
+use Rattle.pairing.specs.Lines.{chars_of}
+use Rattle.laws.proofs.Stores.{rest_is}
+use Rattle.pairing.proofs.Accepted.{AcceptedLines, accepted_lines, is_ok_lem}
+use Rattle.pairing.proofs.Finding.{Found, found_first, found_next, rest_within, found_all}
 use Rattle.pairing.proofs.lines.find_lines.Statement.{statement}
 use Rattle.pairing.proofs.lines.find_lines.Tie as tie
 
-abbrev invariant-loop : tie.invariant-loop
-invariant-loop text n starts₀ first rest₀ i₀ starts rest i = (i ≤ n) × Found text starts rest i
+abbrev invariant_loop : tie.invariant_loop
+invariant_loop text n starts₀ first rest₀ i₀ starts rest i = (i ≤ n) × Found text starts rest i
 
-abbrev decreases-loop : tie.decreases-loop
-decreases-loop text n starts₀ first rest₀ i₀ starts rest i = n - i
+abbrev decreases_loop : tie.decreases_loop
+decreases_loop text n starts₀ first rest₀ i₀ starts rest i = n - i
 
-accepted : (s : tie.Start invariant-loop decreases-loop) → AcceptedLines s.args.text.now (is_ok (readListing s.args.text.now) s.requires.0).0
-accepted s = let a = is_ok (readListing s.args.text.now) s.requires.0 in accepted-lines s.args.text.now a.0 a.1
+accepted : (s : tie.Start invariant_loop decreases_loop) → AcceptedLines s.args.text.now (is_ok_lem (read_listing s.args.text.now) s.requires.0).0
+accepted s = let a = is_ok_lem (read_listing s.args.text.now) s.requires.0 in accepted_lines s.args.text.now a.0 a.1
 
-loop-holds : tie.Need-loop-init invariant-loop decreases-loop
-loop-holds c =
+loop_holds : tie.Need-loop-init invariant_loop decreases_loop
+loop_holds c =
     let s = c.before.before.before in
-    let f = c.before.first-line in (
+    let f = c.before.first_line in (
       omega arith,
-      rw (rest-is f.result s.args.text.now)
+      rw (rest_is f.result s.args.text.now)
           (found_first s.args.text.now s.args.starts.now f.result _ (accepted s) s.requires.2 f.ensures),
     )
 
-loop-again : tie.Need-loop-preserved invariant-loop decreases-loop
-loop-again c =
+loop_again : tie.Need-loop-preserved invariant_loop decreases_loop
+loop_again c =
     let l = c.before.before in
     let s = l.before.before.before.before in
     let t = l.loop in
     let text = s.args.text.now in
     let a = accepted s in
-    let h : t.i < length (charsOf text) = omega (arith, s.requires.1) in
-    let e = c.take-line.ensures in (
+    let h : t.i < length (chars_of text) = omega (arith, s.requires.1) in
+    let e = c.take_line.ensures in (
       omega arith,
-      rw (e, add-one t.i) (found-next text t.starts t.rest.now t.i t.invariant.1 h _ (omega (arith, a.few)) refl),
+      rw (e, add-one t.i) (found_next text t.starts t.rest.now t.i t.invariant.1 h _ (omega (arith, a.few)) refl),
     )
 
-sub-starts : tie.Need-overflow-sub-starts invariant-loop decreases-loop
-sub-starts c =
+sub_starts : tie.Need-overflow-sub-starts invariant_loop decreases_loop
+sub_starts c =
     let l = c.before.before in
     let s = l.before.before.before.before in
     let t = l.loop in
-    let h : t.i < length (charsOf s.args.text.now) = omega (arith, s.requires.1) in
-    omega (arith, ap length c.take-line.ensures, rest-within s.args.text.now t.starts t.rest.now t.i t.invariant.1 h)
+    let h : t.i < length (chars_of s.args.text.now) = omega (arith, s.requires.1) in
+    omega (arith, ap length c.take_line.ensures, rest_within s.args.text.now t.starts t.rest.now t.i t.invariant.1 h)
 
-returns : tie.Need-returns invariant-loop decreases-loop
+returns : tie.Need-returns invariant_loop decreases_loop
 returns c =
     let l = c.before in
     let s = l.before.before.before.before in
@@ -60,23 +60,23 @@ returns c =
     found_all s.args.text.now l.loop.starts l.loop.rest.now s.args.n _ (accepted s) s.requires.1
     (rw e at l.loop.invariant.1)
 
-pub find-lines-spec : {M : Type 1} → statement M
-find-lines-spec =
+pub find_lines_spec : {M : Type 1} → statement M
+find_lines_spec =
     tie.close
     (tie.spec
-    invariant-loop
-    decreases-loop
+    invariant_loop
+    decreases_loop
     (λ c κs. search rules)
     (λ c. search rules)
-    (λ c. omega (arith, c.first-line.ensures.1))
-    (λ c. omega (arith, c.first-line.ensures.1))
+    (λ c. omega (arith, c.first_line.ensures.1))
+    (λ c. omega (arith, c.first_line.ensures.1))
     (λ c. search rules)
-    loop-holds
+    loop_holds
     (λ c κs. search rules)
     (λ c. search rules)
-    sub-starts
+    sub_starts
     (λ c. omega (arith, (accepted c.before.before.before.before.before.before).few))
     (λ c. omega (arith, (accepted c.before.before.before.before.before.before).few))
     (λ c. search rules)
-    loop-again
+    loop_again
     returns)

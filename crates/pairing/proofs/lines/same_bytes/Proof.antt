@@ -26,29 +26,29 @@ differ (x ∷ xs) (y ∷ ys) h = on (eqb x y) (differ xs ys (λ e. h (ap suc e))
     on true e = e
     on false e = refl
 
-abbrev invariant-loop : tie.invariant-loop
-invariant-loop x y i₀ i = (i ≤ length x) × (length x ≡ length y) × (same x y ≡ same (drop i x) (drop i y))
+abbrev invariant_loop : tie.invariant_loop
+invariant_loop x y i₀ i = (i ≤ length x) × (length x ≡ length y) × (same x y ≡ same (drop i x) (drop i y))
 
-abbrev decreases-loop : tie.decreases-loop
-decreases-loop x y i₀ i = length x - i
+abbrev decreases_loop : tie.decreases_loop
+decreases_loop x y i₀ i = length x - i
 
-returns : tie.Need-returns invariant-loop decreases-loop
+returns : tie.Need-returns invariant_loop decreases_loop
 returns c = sym (differ _ _ c.if1.true)
 
-loop-holds : tie.Need-loop-init invariant-loop decreases-loop
-loop-holds c = (omega arith, c.if1.false, refl)
+loop_holds : tie.Need-loop-init invariant_loop decreases_loop
+loop_holds c = (omega arith, c.if1.false, refl)
 
-returns-2 : tie.Need-returns-2 invariant-loop decreases-loop
+returns_2 : tie.Need-returns-2 invariant_loop decreases_loop
 unfolding same
-returns-2 c =
+returns_2 c =
     let l = c.before.before.before.before in
     let a = l.before.before.args in
     let n = ne_eqb _ _ c.if2.true in
     sym (l.loop.invariant.2 ∙ rw (drop-cons a.x.now l.loop.i 0 (omega arith), drop-cons a.y.now l.loop.i 0 (omega arith), n))
 
-loop-again : tie.Need-loop-preserved invariant-loop decreases-loop
+loop_again : tie.Need-loop-preserved invariant_loop decreases_loop
 unfolding same
-loop-again c =
+loop_again c =
     let l = c.before.before.before.before in
     let a = l.before.before.args in
     let n = eq-eqb _ _ c.if2.false in (
@@ -63,9 +63,9 @@ loop-again c =
       ),
     )
 
-returns-3 : tie.Need-returns-3 invariant-loop decreases-loop
+returns_3 : tie.Need-returns-3 invariant_loop decreases_loop
 unfolding same
-returns-3 c =
+returns_3 c =
     let l = c.before in
     let a = l.before.before.args in
     sym (l.loop.invariant.2 ∙ rw (
@@ -74,18 +74,18 @@ returns-3 c =
           a.y.now {i = l.loop.i} (omega arith),
     ))
 
-pub same-bytes-spec : {M : Type 1} → statement M
-same-bytes-spec =
+pub same_bytes_spec : {M : Type 1} → statement M
+same_bytes_spec =
     tie.close
     (tie.spec
-    invariant-loop
-    decreases-loop
+    invariant_loop
+    decreases_loop
     returns
-    loop-holds
+    loop_holds
     (λ c. search rules)
     (λ c. search rules)
-    returns-2
+    returns_2
     (λ c. search rules)
     (λ c. search rules)
-    loop-again
-    returns-3)
+    loop_again
+    returns_3)

@@ -13,22 +13,22 @@ use Rattle.rules.specs.contracts.Statement.{the_type}
 use Rattle.rules.specs.declared.Arg.{Arg}
 use Rattle.rules.specs.declared.Statement.{Statement}
 use Rattle.rules.specs.declared.Statement.TheVariants.{Variable}
-use Rattle.rules.specs.Expressions.{Expr, mentions, readExpr, got}
-use Rattle.rules.specs.Programs.{overExprs, kind_of}
+use Rattle.rules.specs.Expressions.{Expr, mentions, read_expr, got}
+use Rattle.rules.specs.Programs.{over_exprs, kind_of}
 use Rattle.expression.specs.Naming.{Referred}
 use Rattle.listing.specs.Tables.{frame_at, input_at}
 use Rattle.slots.specs.Slots.{Slots, slots, slot_at, written, DataIn}
-use Rattle.slots.specs.State.{startsIn, formsIn, carryIn, ownersIn}
+use Rattle.slots.specs.State.{starts_in, forms_in, carry_in, owners_in}
 use Rattle.slots.specs.declared.Slot.TheVariants.{Holds}
-use Rattle.slots.specs.Meaning.{kindFor, Stands}
+use Rattle.slots.specs.Meaning.{kind_for, Stands}
 use Rattle.slots.proofs.Frames.{VariableFrame}
 use Rattle.slots.proofs.Linking.{spans}
-use Rattle.slots.proofs.Slots.{slot-data, written-frame}
-use Rattle.slots.proofs.Stands.{none-stands, form-stands, kind-stands, first-is, variable-says, bytes-says, words-says, tag-kind}
-use Rattle.patterns.specs.Mentions.{readAs, Short}
+use Rattle.slots.proofs.Slots.{slot_data, written_frame}
+use Rattle.slots.proofs.Stands.{none_stands, form_stands, kind_stands, first_is, variable_says, bytes_says, words_says, tag_kind}
+use Rattle.patterns.specs.Mentions.{read_as, Short}
 use Rattle.patterns.proofs.Programs.{joined}
-use Rattle.patterns.proofs.Mentions.{without, in-none}
-use Rattle.patterns.proofs.Naming.{beside-short}
+use Rattle.patterns.proofs.Mentions.{without, in_none}
+use Rattle.patterns.proofs.Naming.{beside_short}
 use Rattle.patterns.proofs.counting.in_statement.Statement.{statement}
 use Rattle.patterns.proofs.counting.in_statement.Tie as tie
 
@@ -42,65 +42,65 @@ module _ (c : tie.After-slot-at) where
 
   abbrev over : (offsets : List ℕ) → Slots
   over offsets =
-      slots start.args.frames.now (startsIn start.args.state.now) start.args.count (formsIn start.args.state.now)
-      (carryIn start.args.state.now) (ownersIn start.args.state.now) offsets
+      slots start.args.frames.now (starts_in start.args.state.now) start.args.count (forms_in start.args.state.now)
+      (carry_in start.args.state.now) (owners_in start.args.state.now) offsets
 
   abbrev frame : List ℕ
-  frame = frame_at start.args.frames.now (startsIn start.args.state.now) place
+  frame = frame_at start.args.frames.now (starts_in start.args.state.now) place
 
   abbrev beside : List ℕ
-  beside = frame_at start.args.links.now (startsIn start.args.state.now) place
+  beside = frame_at start.args.links.now (starts_in start.args.state.now) place
 
   short : Short frame beside
   short =
-      beside-short start.args.frames.now (startsIn start.args.state.now) start.args.count (start.pre.2 []).held start.args.links.now
+      beside_short start.args.frames.now (starts_in start.args.state.now) start.args.count (start.pre.2 []).held start.args.links.now
       start.pre.1 place start.pre.0
 
-  stands : (offsets : List ℕ) → Stands (over offsets) place c.slot-at.result
-  stands offsets = c.slot-at.ensures (carryIn start.args.state.now) (ownersIn start.args.state.now) offsets
+  stands : (offsets : List ℕ) → Stands (over offsets) place c.slot_at.result
+  stands offsets = c.slot_at.ensures (carry_in start.args.state.now) (owners_in start.args.state.now) offsets
 
-  kind : (x : Statement) → c.slot-at.result ≡ Holds x → (offsets : List ℕ) → kind_of (slot_at (over offsets) place) ≡ kindFor x
-  kind x e offsets = kind-stands (over offsets) place c.slot-at.result (stands offsets) x e
+  kind : (x : Statement) → c.slot_at.result ≡ Holds x → (offsets : List ℕ) → kind_of (slot_at (over offsets) place) ≡ kind_for x
+  kind x e offsets = kind_stands (over offsets) place c.slot_at.result (stands offsets) x e
 
   -- a variable: its value stands behind its name
-  module _ (n : ℕ) (a : Arg) (e : c.slot-at.result ≡ Holds (Variable n a)) where
+  module _ (n : ℕ) (a : Arg) (e : c.slot_at.result ≡ Holds (Variable n a)) where
     value_frame : VariableFrame frame (written (over []) place)
-    value_frame = written-frame (over []) (start.pre.2 []).held place start.pre.0 2 (kind (Variable n a) e [])
+    value_frame = written_frame (over []) (start.pre.2 []).held place start.pre.0 2 (kind (Variable n a) e [])
 
-    value-at : a.0 ≡ 3
-    value-at = ap (λ (b : Arg). b.0) (variable-says (over []) (start.pre.2 []).held place start.pre.0 c.slot-at.result (stands []) n a e).1
+    value_at : a.0 ≡ 3
+    value_at = ap (λ (b : Arg). b.0) (variable_says (over []) (start.pre.2 []).held place start.pre.0 c.slot_at.result (stands []) n a e).1
 
-    over-value : (f : ℕ → Bool) (offsets : List ℕ) → overExprs (mentions f) (slot_at (over offsets) place) ≡ mentions f value_frame.e
-    over-value f offsets = ap (overExprs (mentions f)) (slot-data (over offsets) place 1 (kind (Variable n a) e offsets) ∙ value_frame.is)
+    over_value : (f : ℕ → Bool) (offsets : List ℕ) → over_exprs (mentions f) (slot_at (over offsets) place) ≡ mentions f value_frame.e
+    over_value f offsets = ap (over_exprs (mentions f)) (slot_data (over offsets) place 1 (kind (Variable n a) e offsets) ∙ value_frame.is)
 
   -- bytes or words: the frame as it was read
-  module _ (x : Statement) (e : c.slot-at.result ≡ Holds x) (k : ℕ) (n : kindFor x ≡ suc (suc (4 + k))) (m : k ≤ 1) where
-    data-frame : DataIn place frame
-    data-frame =
-        let first = first-is (over []) (start.pre.2 []).held place start.pre.0 (suc (4 + k)) (kind x e [] ∙ n) in
-        record { reads = (start.pre.2 []).held.reads place start.pre.0; kind = omega arith; no-pad = omega arith }
+  module _ (x : Statement) (e : c.slot_at.result ≡ Holds x) (k : ℕ) (n : kind_for x ≡ suc (suc (4 + k))) (m : k ≤ 1) where
+    data_frame : DataIn place frame
+    data_frame =
+        let first = first_is (over []) (start.pre.2 []).held place start.pre.0 (suc (4 + k)) (kind x e [] ∙ n) in
+        record { reads = (start.pre.2 []).held.reads place start.pre.0; kind = omega arith; no_pad = omega arith }
 
-    over-data : (f : ℕ → Bool) (offsets : List ℕ) → overExprs (mentions f) (slot_at (over offsets) place) ≡ overExprs (mentions f) (readAs place frame)
+    over_data : (f : ℕ → Bool) (offsets : List ℕ) → over_exprs (mentions f) (slot_at (over offsets) place) ≡ over_exprs (mentions f) (read_as place frame)
     unfolding input_at
-    over-data f offsets = ap (overExprs (mentions f)) (slot-data (over offsets) place (4 + k) (kind x e offsets ∙ n))
+    over_data f offsets = ap (over_exprs (mentions f)) (slot_data (over offsets) place (4 + k) (kind x e offsets ∙ n))
 
-slot-at-requires : tie.Need-slot-at-requires
-slot-at-requires c κs = let s = c.before in ((s.requires.2 []).held, s.requires.0)
+slot_at_requires : tie.Need-slot-at-requires
+slot_at_requires c κs = let s = c.before in ((s.requires.2 []).held, s.requires.0)
 
 returns : tie.Need-returns
 returns c =
     let s = c.before.before in (
       omega arith,
-      λ f offsets r. sym (ap (overExprs (mentions f)) (none-stands (over s offsets) (place s) s.slot-at.result (stands s offsets) c.enum_told.given.1)),
+      λ f offsets r. sym (ap (over_exprs (mentions f)) (none_stands (over s offsets) (place s) s.slot_at.result (stands s offsets) c.enum_told.given.1)),
     )
 
-frame-at-requires : tie.Need-frame-at-requires
-frame-at-requires c κs = let s = start c.before.before.before in ((s.pre.2 []).held, s.pre.0)
+frame_at_requires : tie.Need-frame-at-requires
+frame_at_requires c κs = let s = start c.before.before.before in ((s.pre.2 []).held, s.pre.0)
 
-links-at-requires : tie.Need-links-at-requires
-links-at-requires c κs =
+links_at_requires : tie.Need-links-at-requires
+links_at_requires c κs =
     let s = start c.before.before.before.before.before in
-    spans s.args.frames.now (startsIn s.args.state.now) s.args.count (s.pre.2 []).held s.args.links.now s.pre.1 s.args.at.0 s.pre.0
+    spans s.args.frames.now (starts_in s.args.state.now) s.args.count (s.pre.2 []).held s.args.links.now s.pre.1 s.args.at.0 s.pre.0
 
 -- the statement, its frame and the links beside it
 module _ (c : tie.After-links-at) where
@@ -113,137 +113,137 @@ module _ (c : tie.After-links-at) where
   abbrev it : Statement
   it = framed.before.before.statement.given.0.0
 
-  holds : slotted.slot-at.result ≡ Holds it
+  holds : slotted.slot_at.result ≡ Holds it
   holds = framed.before.before.statement.given.1
 
-  asked : (P : (s b : List ℕ) → Type 0) → P (frame slotted) (beside slotted) → P framed.frame-at.result.now c.links-at.result.now
-  asked P h = subst₂ P (sym framed.frame-at.ensures) (sym c.links-at.ensures) h
+  asked : (P : (s b : List ℕ) → Type 0) → P (frame slotted) (beside slotted) → P framed.frame_at.result.now c.links_at.result.now
+  asked P h = subst₂ P (sym framed.frame_at.ensures) (sym c.links_at.ensures) h
 
   told : (f : ℕ → Bool) → Referred f (frame slotted) (beside slotted) (start slotted).args.place.0
-      → Referred f framed.frame-at.result.now c.links-at.result.now (start slotted).args.place.0
+      → Referred f framed.frame_at.result.now c.links_at.result.now (start slotted).args.place.0
   told f r = asked (λ s b. Referred f s b (start slotted).args.place.0) r
 
   -- a variable: what is asked of the frame, and what its value holds
   module _ (n : ℕ) (a : Arg) (e : it ≡ Variable n a) where
-    is : slotted.slot-at.result ≡ Holds (Variable n a)
+    is : slotted.slot_at.result ≡ Holds (Variable n a)
     is = holds ∙ ap Holds e
 
-    value-asked : (a.0 ≤ length framed.frame-at.result.now) × Short framed.frame-at.result.now c.links-at.result.now
-    value-asked =
-        let inside : a.0 ≤ length (frame slotted) = omega (arith, value-at slotted n a is, (value_frame slotted n a is).long) in
+    value_asked : (a.0 ≤ length framed.frame_at.result.now) × Short framed.frame_at.result.now c.links_at.result.now
+    value_asked =
+        let inside : a.0 ≤ length (frame slotted) = omega (arith, value_at slotted n a is, (value_frame slotted n a is).long) in
         asked (λ s b. (a.0 ≤ length s) × Short s b) (inside, short slotted)
 
-    value-over : (r : ℕ) (f : ℕ → Bool) (offsets : List ℕ)
-        → ((d : Expr) (k : ℕ) → readExpr (drop a.0 framed.frame-at.result.now) ≡ got d k → r ≡ mentions f d)
-        → r ≡ overExprs (mentions f) (slot_at (over slotted offsets) (place slotted))
-    value-over r f offsets g =
+    value_over : (r : ℕ) (f : ℕ → Bool) (offsets : List ℕ)
+        → ((d : Expr) (k : ℕ) → read_expr (drop a.0 framed.frame_at.result.now) ≡ got d k → r ≡ mentions f d)
+        → r ≡ over_exprs (mentions f) (slot_at (over slotted offsets) (place slotted))
+    value_over r f offsets g =
         let v = value_frame slotted n a is in
-        let reads = ap (λ m. readExpr (drop m (frame slotted))) (value-at slotted n a is) ∙ v.reads.reads in
-        g v.e v.reads.width (asked (λ s b. readExpr (drop a.0 s) ≡ got v.e v.reads.width) reads) ∙ sym (over-value slotted n a is f offsets)
+        let reads = ap (λ m. read_expr (drop m (frame slotted))) (value_at slotted n a is) ∙ v.reads.reads in
+        g v.e v.reads.width (asked (λ s b. read_expr (drop a.0 s) ≡ got v.e v.reads.width) reads) ∙ sym (over_value slotted n a is f offsets)
 
   -- data of either kind: what is asked of the frame, and what its items hold
-  module _ (x : Statement) (e : it ≡ x) (k : ℕ) (n : kindFor x ≡ suc (suc (4 + k))) (m : k ≤ 1) where
-    holds-data : DataIn (place slotted) (frame slotted)
-    holds-data = data-frame slotted x (holds ∙ ap Holds e) k n m
+  module _ (x : Statement) (e : it ≡ x) (k : ℕ) (n : kind_for x ≡ suc (suc (4 + k))) (m : k ≤ 1) where
+    holds_data : DataIn (place slotted) (frame slotted)
+    holds_data = data_frame slotted x (holds ∙ ap Holds e) k n m
 
-    items-asked : (many : ℕ) → many ≡ get_or (frame slotted) 1 0
-        → ((i : ℕ) × DataIn i framed.frame-at.result.now) × (many ≡ get_or framed.frame-at.result.now 1 0)
-        × Short framed.frame-at.result.now c.links-at.result.now
-    items-asked many q = asked (λ s b. ((i : ℕ) × DataIn i s) × (many ≡ get_or s 1 0) × Short s b) ((place slotted, holds-data), q, short slotted)
+    items_asked : (many : ℕ) → many ≡ get_or (frame slotted) 1 0
+        → ((i : ℕ) × DataIn i framed.frame_at.result.now) × (many ≡ get_or framed.frame_at.result.now 1 0)
+        × Short framed.frame_at.result.now c.links_at.result.now
+    items_asked many q = asked (λ s b. ((i : ℕ) × DataIn i s) × (many ≡ get_or s 1 0) × Short s b) ((place slotted, holds_data), q, short slotted)
 
-    items-over : (r : ℕ) (f : ℕ → Bool) (offsets : List ℕ)
-        → (DataIn (place slotted) framed.frame-at.result.now → r ≡ overExprs (mentions f) (readAs (place slotted) framed.frame-at.result.now))
-        → r ≡ overExprs (mentions f) (slot_at (over slotted offsets) (place slotted))
-    items-over r f offsets g =
-        g (asked (λ s b. DataIn (place slotted) s) holds-data)
-        ∙ ap (λ s. overExprs (mentions f) (readAs (place slotted) s)) framed.frame-at.ensures
-        ∙ sym (over-data slotted x (holds ∙ ap Holds e) k n m f offsets)
+    items_over : (r : ℕ) (f : ℕ → Bool) (offsets : List ℕ)
+        → (DataIn (place slotted) framed.frame_at.result.now → r ≡ over_exprs (mentions f) (read_as (place slotted) framed.frame_at.result.now))
+        → r ≡ over_exprs (mentions f) (slot_at (over slotted offsets) (place slotted))
+    items_over r f offsets g =
+        g (asked (λ s b. DataIn (place slotted) s) holds_data)
+        ∙ ap (λ s. over_exprs (mentions f) (read_as (place slotted) s)) framed.frame_at.ensures
+        ∙ sym (over_data slotted x (holds ∙ ap Holds e) k n m f offsets)
 
-in-instruction-requires : tie.Need-in-instruction-requires
-in-instruction-requires c κs =
+in_instruction_requires : tie.Need-in-instruction-requires
+in_instruction_requires c κs =
     let s = c.before.before in
-    let e = c.enum-told2.given.1 in (
+    let e = c.enum_told2.given.1 in (
       (start s).requires.0,
       (start s).requires.1,
-      λ offsets. ((start s).requires.2 offsets, form-stands (over s offsets) (place s) s.slot-at.result (stands s offsets) _ e),
+      λ offsets. ((start s).requires.2 offsets, form_stands (over s offsets) (place s) s.slot_at.result (stands s offsets) _ e),
     )
 
-in-part-requires : tie.Need-in-part-requires
-in-part-requires c κs = value-asked c.before.before.before _ _ c.before.statement2.given.1
+in_part_requires : tie.Need-in-part-requires
+in_part_requires c κs = value_asked c.before.before.before _ _ c.before.statement2.given.1
 
-in-items-requires : tie.Need-in-items-requires
-in-items-requires c κs =
+in_items_requires : tie.Need-in-items-requires
+in_items_requires c κs =
     let b = c.before.before.before in
     let s = slotted b in
     let e = c.before.statement3.given.1 in
-    items-asked b _ e 0 refl (omega arith) _
-    (bytes-says (over s []) ((start s).pre.2 []).held (place s) (start s).pre.0 s.slot-at.result (stands s []) _ _ (holds b ∙ ap Holds e)).0
+    items_asked b _ e 0 refl (omega arith) _
+    (bytes_says (over s []) ((start s).pre.2 []).held (place s) (start s).pre.0 s.slot_at.result (stands s []) _ _ (holds b ∙ ap Holds e)).0
 
-in-items-requires-2 : tie.Need-in-items-requires-2
-in-items-requires-2 c κs =
+in_items_requires_2 : tie.Need-in-items-requires-2
+in_items_requires_2 c κs =
     let b = c.before.before.before in
     let s = slotted b in
     let e = c.before.statement4.given.1 in
-    items-asked b _ e 1 refl (omega arith) _
-    (words-says (over s []) ((start s).pre.2 []).held (place s) (start s).pre.0 s.slot-at.result (stands s []) _ _ (holds b ∙ ap Holds e)).0
+    items_asked b _ e 1 refl (omega arith) _
+    (words_says (over s []) ((start s).pre.2 []).held (place s) (start s).pre.0 s.slot_at.result (stands s []) _ _ (holds b ∙ ap Holds e)).0
 
-returns-2 : tie.Need-returns-2
-returns-2 c = c.in-instruction.ensures
+returns_2 : tie.Need-returns-2
+returns_2 c = c.in_instruction.ensures
 
-returns-3 : tie.Need-returns-3
-returns-3 c =
+returns_3 : tie.Need-returns-3
+returns_3 c =
     let b = c.before.before.before.before in
     let e = c.before.before.statement2.given.1 in
-    (omega (arith, c.in-part.ensures.0), λ f offsets r. value-over b _ _ e _ f offsets (c.in-part.ensures.1 f (told b f r.own)))
+    (omega (arith, c.in_part.ensures.0), λ f offsets r. value_over b _ _ e _ f offsets (c.in_part.ensures.1 f (told b f r.own)))
 
-returns-4 : tie.Need-returns-4
-returns-4 c =
+returns_4 : tie.Need-returns-4
+returns_4 c =
     let b = c.before.before.before.before in
     let e = c.before.before.statement3.given.1 in
-    (c.in-items.ensures.0, λ f offsets r. items-over b _ e 0 refl (omega arith) _ f offsets (λ d. c.in-items.ensures.1 _ d f (told b f r.own)))
+    (c.in_items.ensures.0, λ f offsets r. items_over b _ e 0 refl (omega arith) _ f offsets (λ d. c.in_items.ensures.1 _ d f (told b f r.own)))
 
-returns-5 : tie.Need-returns-5
-returns-5 c =
+returns_5 : tie.Need-returns-5
+returns_5 c =
     let b = c.before.before.before.before in
     let e = c.before.before.statement4.given.1 in
-    (c.in-items2.ensures.0, λ f offsets r. items-over b _ e 1 refl (omega arith) _ f offsets (λ d. c.in-items2.ensures.1 _ d f (told b f r.own)))
+    (c.in_items2.ensures.0, λ f offsets r. items_over b _ e 1 refl (omega arith) _ f offsets (λ d. c.in_items2.ensures.1 _ d f (told b f r.own)))
 
 -- a variant without expressions; no instruction is among them, for one stands by its form
-none : (x : Statement) → 2 ≤ kindFor x → OneOf (0 ∷ 1 ∷ 3 ∷ 4 ∷ 7 ∷ []) (tag_of the_type x) → without (kindFor x) ≡ true
+none : (x : Statement) → 2 ≤ kind_for x → OneOf (0 ∷ 1 ∷ 3 ∷ 4 ∷ 7 ∷ []) (tag_of the_type x) → without (kind_for x) ≡ true
 none x o k =
-    let t = tag-kind x in
+    let t = tag_kind x in
     ap without t
     ∙ ⊎_elim (λ e. absurd (omega arith)) (λ e. joined (λ n. without (suc n)) true (1 ∷ 3 ∷ 4 ∷ 7 ∷ []) (tag_of the_type x) e refl) k
 
-returns-6 : tie.Need-returns-6
-returns-6 c =
+returns_6 : tie.Need-returns-6
+returns_6 c =
     let b = c.before in
     let s = slotted b in
     let k = none (it b) ((stands s []).holds (it b) (holds b)).other c.match2.keys4 in (
       omega arith,
-      λ f offsets r. sym (in-none (mentions f) (slot_at (over s offsets) (place s)) (ap without (kind s (it b) (holds b) offsets) ∙ k)),
+      λ f offsets r. sym (in_none (mentions f) (slot_at (over s offsets) (place s)) (ap without (kind s (it b) (holds b) offsets) ∙ k)),
     )
 
-pub in-statement-spec : {M : Type 1} → statement M
-in-statement-spec =
+pub in_statement_spec : {M : Type 1} → statement M
+in_statement_spec =
     tie.close
     (tie.spec
-    slot-at-requires
+    slot_at_requires
     (λ c. search rules)
     (λ c. search rules)
-    in-instruction-requires
+    in_instruction_requires
     (λ c. search rules)
-    frame-at-requires
-    links-at-requires
+    frame_at_requires
+    links_at_requires
     (λ c. search rules)
-    in-part-requires
+    in_part_requires
     (λ c. search rules)
-    in-items-requires
+    in_items_requires
     (λ c. search rules)
-    in-items-requires-2
+    in_items_requires_2
     returns
-    returns-2
-    returns-3
-    returns-4
-    returns-5
-    returns-6)
+    returns_2
+    returns_3
+    returns_4
+    returns_5
+    returns_6)

@@ -1,11 +1,11 @@
 -- `patterns::labels::is_outside` meets its contract.
 use borrow.Author.Rules.{rules}
-use Rattle.patterns.proofs.InnerLabels.{outside_behind, outside-before}
+use Rattle.patterns.proofs.InnerLabels.{outside_behind, outside_before}
 use Rattle.patterns.proofs.labels.is_outside.Statement.{statement}
 use Rattle.patterns.proofs.labels.is_outside.Tie as tie
 
-enum-known-label : tie.Need-enum-known-label
-enum-known-label c = search rules
+enum_known_label : tie.Need-enum-known-label
+enum_known_label c = search rules
 
 enum_told : tie.Need-enum-told
 enum_told c = search rules
@@ -13,11 +13,11 @@ enum_told c = search rules
 returns : tie.Need-returns
 returns c = let k = c.before.before in let l = k.before.before.before.before in outside_behind _ _ l.label.given.1 k.if1.true
 
-returns-2 : tie.Need-returns-2
-returns-2 c = let l = c.before.before.before.before in outside-before _ _ l.label.given.1 c.if1.false
+returns_2 : tie.Need-returns-2
+returns_2 c = let l = c.before.before.before.before in outside_before _ _ l.label.given.1 c.if1.false
 
-returns-3 : tie.Need-returns-3
-returns-3 c = search rules
+returns_3 : tie.Need-returns-3
+returns_3 c = search rules
 
-pub is-outside-spec : {M : Type 1} → statement M
-is-outside-spec = tie.close (tie.spec enum-known-label enum_told returns returns-2 returns-3)
+pub is_outside_spec : {M : Type 1} → statement M
+is_outside_spec = tie.close (tie.spec enum_known_label enum_told returns returns_2 returns_3)

@@ -6,67 +6,67 @@ use native.Mathlib.Omega.{arith}
 use lib.Dec.{leb, ltb}
 use borrow.Author.Rules.{rules}
 use borrow.Author.Tests.{not-true, not-false}
-use Rattle.laws.specs.Counts.{allTo}
-use Rattle.laws.proofs.Counts.{all_more, all-fails, at-end}
-use Rattle.rules.specs.Rewriting.{noInnerLabelBetween}
+use Rattle.laws.specs.Counts.{all_to}
+use Rattle.laws.proofs.Counts.{all_more, all_fails, at_end}
+use Rattle.rules.specs.Rewriting.{no_inner_label_between}
 use Rattle.slots.specs.Slots.{Slots, slots}
-use Rattle.patterns.specs.Labels.{label_at, ofLabel}
-use Rattle.patterns.proofs.InnerLabels.{labels-by}
+use Rattle.patterns.specs.Labels.{label_at, of_label}
+use Rattle.patterns.proofs.InnerLabels.{labels_by}
 use Rattle.slots.specs.State.{table_of}
 use Rattle.patterns.proofs.labels.no_inner_label_between.Statement.{statement}
 use Rattle.patterns.proofs.labels.no_inner_label_between.Tie as tie
 
 -- the test of slot j
 abbrev passes : (t : Slots) (i m : ℕ) (j : ℕ) → Bool
-passes t i m j = ofLabel (λ owner o. not (ltb i owner && leb owner m)) (label_at t j)
+passes t i m j = of_label (λ owner o. not (ltb i owner && leb owner m)) (label_at t j)
 
-abbrev invariant-loop : tie.invariant-loop
-invariant-loop frames state count i m j₀ j = (j ≤ count) × (allTo (passes (table_of frames state count) i.0 m.0) j ≡ true)
+abbrev invariant_loop : tie.invariant_loop
+invariant_loop frames state count i m j₀ j = (j ≤ count) × (all_to (passes (table_of frames state count) i.0 m.0) j ≡ true)
 
-abbrev decreases-loop : tie.decreases-loop
-decreases-loop frames state count i m j₀ j = count - j
+abbrev decreases_loop : tie.decreases_loop
+decreases_loop frames state count i m j₀ j = count - j
 
-loop-holds : tie.Need-loop-init invariant-loop decreases-loop
-unfolding allTo
-loop-holds c = (omega arith, refl)
+loop_holds : tie.Need-loop-init invariant_loop decreases_loop
+unfolding all_to
+loop_holds c = (omega arith, refl)
 
-inner-label-at-requires : tie.Need-inner-label-at-requires invariant-loop decreases-loop
-inner-label-at-requires c κs = (c.before.before.before.requires, c.loop-test.true)
+inner_label_at_requires : tie.Need-inner-label-at-requires invariant_loop decreases_loop
+inner_label_at_requires c κs = (c.before.before.before.requires, c.loop_test.true)
 
-is-outside-requires : tie.Need-is-outside-requires invariant-loop decreases-loop
-is-outside-requires c κs = search rules
+is_outside_requires : tie.Need-is-outside-requires invariant_loop decreases_loop
+is_outside_requires c κs = search rules
 
-abbrev over : (c : tie.Start invariant-loop decreases-loop) → Slots
+abbrev over : (c : tie.Start invariant_loop decreases_loop) → Slots
 over c = table_of c.args.frames.now c.args.state.now c.args.count
 
-tested : (c : tie.After-is-outside invariant-loop decreases-loop) → let s : tie.Start invariant-loop decreases-loop = c.before.before.before.before.before in
-    c.is-outside.result ≡ passes (over s) s.args.i.0 s.args.m.0 c.before.before.before.loop.j
-tested c = let s = c.before.before.before.before.before in c.is-outside.ensures ∙ ap (ofLabel (λ owner o. not (ltb s.args.i.0 owner && leb owner s.args.m.0))) c.before.inner-label-at.ensures.0
+tested : (c : tie.After-is-outside invariant_loop decreases_loop) → let s : tie.Start invariant_loop decreases_loop = c.before.before.before.before.before in
+    c.is_outside.result ≡ passes (over s) s.args.i.0 s.args.m.0 c.before.before.before.loop.j
+tested c = let s = c.before.before.before.before.before in c.is_outside.ensures ∙ ap (of_label (λ owner o. not (ltb s.args.i.0 owner && leb owner s.args.m.0))) c.before.inner_label_at.ensures.0
 
-returns : tie.Need-returns invariant-loop decreases-loop
-unfolding noInnerLabelBetween
+returns : tie.Need-returns invariant_loop decreases_loop
+unfolding no_inner_label_between
 returns c =
     let k = c.before in
     let s = k.before.before.before.before.before in
-    sym (labels-by (over s) s.requires (λ owner o. not (ltb s.args.i.0 owner && leb owner s.args.m.0)) ∙ all-fails (passes (over s) s.args.i.0 s.args.m.0) k.before.before.before.loop.j s.args.count k.before.before.loop-test.true (sym (tested k) ∙ not-true _ c.if1.true))
+    sym (labels_by (over s) s.requires (λ owner o. not (ltb s.args.i.0 owner && leb owner s.args.m.0)) ∙ all_fails (passes (over s) s.args.i.0 s.args.m.0) k.before.before.before.loop.j s.args.count k.before.before.loop_test.true (sym (tested k) ∙ not-true _ c.if1.true))
 
-add-j : tie.Need-overflow-add-j invariant-loop decreases-loop
-add-j c = omega arith
+add_j : tie.Need-overflow-add-j invariant_loop decreases_loop
+add_j c = omega arith
 
-loop-less : tie.Need-loop-smaller invariant-loop decreases-loop
-loop-less c = omega arith
+loop_less : tie.Need-loop-smaller invariant_loop decreases_loop
+loop_less c = omega arith
 
-loop-again : tie.Need-loop-preserved invariant-loop decreases-loop
-loop-again c = let k = c.before in let l = k.before.before.before.loop in (omega arith, all_more (passes (over k.before.before.before.before.before) k.before.before.before.before.before.args.i.0 k.before.before.before.before.before.args.m.0) l.j l.invariant.1 (sym (tested k) ∙ not-false _ c.if1.false))
+loop_again : tie.Need-loop-preserved invariant_loop decreases_loop
+loop_again c = let k = c.before in let l = k.before.before.before.loop in (omega arith, all_more (passes (over k.before.before.before.before.before) k.before.before.before.before.before.args.i.0 k.before.before.before.before.before.args.m.0) l.j l.invariant.1 (sym (tested k) ∙ not-false _ c.if1.false))
 
-returns-2 : tie.Need-returns-2 invariant-loop decreases-loop
-unfolding noInnerLabelBetween
-returns-2 c =
+returns_2 : tie.Need-returns-2 invariant_loop decreases_loop
+unfolding no_inner_label_between
+returns_2 c =
     let s = c.before.before.before in
     let l = c.before.loop in
-    sym (labels-by (over s) s.requires (λ owner o. not (ltb s.args.i.0 owner && leb owner s.args.m.0)) ∙ sym (at-end (allTo (passes (over s) s.args.i.0 s.args.m.0)) l.j s.args.count l.invariant.0 c.loop-test.false) ∙ l.invariant.1)
+    sym (labels_by (over s) s.requires (λ owner o. not (ltb s.args.i.0 owner && leb owner s.args.m.0)) ∙ sym (at_end (all_to (passes (over s) s.args.i.0 s.args.m.0)) l.j s.args.count l.invariant.0 c.loop_test.false) ∙ l.invariant.1)
 
-pub no-inner-label-between-spec : {M : Type 1} → statement M
-no-inner-label-between-spec =
+pub no_inner_label_between_spec : {M : Type 1} → statement M
+no_inner_label_between_spec =
     tie.close
-    (tie.spec invariant-loop decreases-loop loop-holds inner-label-at-requires is-outside-requires returns add-j loop-less loop-again returns-2)
+    (tie.spec invariant_loop decreases_loop loop_holds inner_label_at_requires is_outside_requires returns add_j loop_less loop_again returns_2)

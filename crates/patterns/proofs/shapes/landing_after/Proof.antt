@@ -5,29 +5,29 @@ use Prim.Native.Nat.{ℕ, suc, ◌<◌}
 use native.Mathlib.Numerals.{add-one}
 use native.Mathlib.Omega.{arith}
 use borrow.Author.Rules.{rules}
-use Rattle.rules.specs.Rewriting.{localLabel, next as nextPlace}
+use Rattle.rules.specs.Rewriting.{local_label, next as next_place}
 use Rattle.slots.specs.Slots.{Slots, slots, program_of}
-use Rattle.patterns.specs.Targets.{standsAt}
-use Rattle.patterns.proofs.Programs.{next-within}
-use Rattle.patterns.proofs.Folds.{named-label, no_label, label_inside}
-use Rattle.slots.specs.State.{startsIn, formsIn}
+use Rattle.patterns.specs.Targets.{stands_at}
+use Rattle.patterns.proofs.Programs.{next_within}
+use Rattle.patterns.proofs.Folds.{named_label, no_label, label_inside}
+use Rattle.slots.specs.State.{starts_in, forms_in}
 use Rattle.patterns.proofs.shapes.landing_after.Statement.{statement}
 use Rattle.patterns.proofs.shapes.landing_after.Tie as tie
 
 abbrev over : (c : tie.Start) (carry owners offsets : List ℕ) → Slots
-over c carry owners offsets = slots c.args.frames.now (startsIn c.args.state.now) c.args.count (formsIn c.args.state.now) carry owners offsets
+over c carry owners offsets = slots c.args.frames.now (starts_in c.args.state.now) c.args.count (forms_in c.args.state.now) carry owners offsets
 
-add-t7 : tie.Need-overflow-add-t7
-add-t7 c = omega (arith, c.before.before.requires.0.few, c.before.before.requires.1)
+add_t7 : tie.Need-overflow-add-t7
+add_t7 c = omega (arith, c.before.before.requires.0.few, c.before.before.requires.1)
 
-next-requires : tie.Need-next-requires
-next-requires c κs = c.before.before.requires.0
+next_requires : tie.Need-next-requires
+next_requires c κs = c.before.before.requires.0
 
-local-label-at-requires : tie.Need-local-label-at-requires
-local-label-at-requires c κs = c.before.before.before.requires.0
+local_label_at_requires : tie.Need-local-label-at-requires
+local_label_at_requires c κs = c.before.before.before.requires.0
 
-enum-known-n : tie.Need-enum-known-n
-enum-known-n c = search rules
+enum_known_n : tie.Need-enum-known-n
+enum_known_n c = search rules
 
 enum_told : tie.Need-enum-told
 enum_told c = search rules
@@ -40,11 +40,11 @@ module _ (c : tie.After-next) (carry owners offsets : List ℕ) where
   abbrev here : Slots
   here = over start carry owners offsets
 
-  place : nextPlace (program_of here) (suc start.args.at.0) ≡ c.next.result.0
-  place = sym (c.next.ensures carry owners offsets ∙ ap (nextPlace (program_of here)) (add-one start.args.at.0))
+  place : next_place (program_of here) (suc start.args.at.0) ≡ c.next.result.0
+  place = sym (c.next.ensures carry owners offsets ∙ ap (next_place (program_of here)) (add-one start.args.at.0))
 
   rises : start.args.at.0 < c.next.result.0
-  rises = omega (arith, place, (next-within here (suc start.args.at.0) start.pre.1).0)
+  rises = omega (arith, place, (next_within here (suc start.args.at.0) start.pre.1).0)
 
 returns : tie.Need-returns
 returns c carry owners offsets =
@@ -53,17 +53,17 @@ returns c carry owners offsets =
     let n = l.before in
     let s = start n carry owners offsets in
     let t = here n carry owners offsets in
-    let e = named-label (localLabel (standsAt t n.next.result.0)) _ (sym k.n.given.1 ∙ l.local-label-at.ensures carry owners offsets) in
-    record { next-is = place n carry owners offsets; rises = rises n carry owners offsets; inside = label_inside t s.pre.0 n.next.result.0 _ e; is = e }
+    let e = named_label (local_label (stands_at t n.next.result.0)) _ (sym k.n.given.1 ∙ l.local_label_at.ensures carry owners offsets) in
+    record { next_is = place n carry owners offsets; rises = rises n carry owners offsets; inside = label_inside t s.pre.0 n.next.result.0 _ e; is = e }
 
-returns-2 : tie.Need-returns-2
-returns-2 c carry owners offsets =
+returns_2 : tie.Need-returns-2
+returns_2 c carry owners offsets =
     let l = c.before.before in
     let n = l.before in
-    ap (λ (k : ℕ). localLabel (standsAt (here n carry owners offsets) k)) (place n carry owners offsets)
-    ∙ no_label _ (sym c.enum_told.given.1 ∙ l.local-label-at.ensures carry owners offsets)
+    ap (λ (k : ℕ). local_label (stands_at (here n carry owners offsets) k)) (place n carry owners offsets)
+    ∙ no_label _ (sym c.enum_told.given.1 ∙ l.local_label_at.ensures carry owners offsets)
 
-pub landing-after-spec : {M : Type 1} → statement M
-landing-after-spec =
+pub landing_after_spec : {M : Type 1} → statement M
+landing_after_spec =
     tie.close
-    (tie.spec add-t7 next-requires local-label-at-requires enum-known-n enum_told returns returns-2)
+    (tie.spec add_t7 next_requires local_label_at_requires enum_known_n enum_told returns returns_2)

@@ -5,58 +5,58 @@ use mathlib.Core.Bool.{not}
 use Prim.Native.Nat.{ℕ, ◌-◌}
 use native.Mathlib.Omega.{arith}
 use Rattle.laws.specs.Counts.{scan}
-use Rattle.laws.proofs.Counts.{scan-hit, scan-miss, scan-end}
-use Rattle.rules.specs.Rewriting.{insignificant, next as nextPlace}
+use Rattle.laws.proofs.Counts.{scan_hit, scan_miss, scan_end}
+use Rattle.rules.specs.Rewriting.{insignificant, next as next_place}
 use Rattle.slots.specs.Slots.{Slots, slots, program_of}
-use Rattle.patterns.proofs.Programs.{at-program, significantAt, next-starts}
-use Rattle.slots.specs.State.{startsIn, formsIn}
+use Rattle.patterns.proofs.Programs.{at_program, significant_at, next_starts}
+use Rattle.slots.specs.State.{starts_in, forms_in}
 use Rattle.patterns.proofs.significance.next.Statement.{statement}
 use Rattle.patterns.proofs.significance.next.Tie as tie
 
-abbrev invariant-loop : tie.invariant-loop
-invariant-loop frames state count j₀ j =
-    (carry owners offsets : List ℕ) → let t : Slots = slots frames (startsIn state) count (formsIn state) carry owners offsets in
-    nextPlace (program_of t) j₀ ≡ scan (significantAt t) (count - j) j
+abbrev invariant_loop : tie.invariant_loop
+invariant_loop frames state count j₀ j =
+    (carry owners offsets : List ℕ) → let t : Slots = slots frames (starts_in state) count (forms_in state) carry owners offsets in
+    next_place (program_of t) j₀ ≡ scan (significant_at t) (count - j) j
 
-abbrev decreases-loop : tie.decreases-loop
-decreases-loop frames state count j₀ j = count - j
+abbrev decreases_loop : tie.decreases_loop
+decreases_loop frames state count j₀ j = count - j
 
-loop-holds : tie.Need-loop-init invariant-loop decreases-loop
-loop-holds c carry owners offsets = let s = c.before in next-starts (slots s.args.frames.now (startsIn s.args.state.now) s.args.count (formsIn s.args.state.now) carry owners offsets) s.args.from.0
+loop_holds : tie.Need-loop-init invariant_loop decreases_loop
+loop_holds c carry owners offsets = let s = c.before in next_starts (slots s.args.frames.now (starts_in s.args.state.now) s.args.count (forms_in s.args.state.now) carry owners offsets) s.args.from.0
 
-significant-at-requires : tie.Need-significant-at-requires invariant-loop decreases-loop
-significant-at-requires c κs = (c.before.before.before.requires, c.loop-test.true)
+significant_at_requires : tie.Need-significant-at-requires invariant_loop decreases_loop
+significant_at_requires c κs = (c.before.before.before.requires, c.loop_test.true)
 
 -- the test at j, as the search has it
-module _ (c : tie.After-significant-at invariant-loop decreases-loop) (carry owners offsets : List ℕ) where
-  abbrev start : tie.Start invariant-loop decreases-loop
+module _ (c : tie.After-significant-at invariant_loop decreases_loop) (carry owners offsets : List ℕ) where
+  abbrev start : tie.Start invariant_loop decreases_loop
   start = c.before.before.before.before
 
   abbrev here : Slots
-  here = slots start.args.frames.now (startsIn start.args.state.now) start.args.count (formsIn start.args.state.now) carry owners offsets
+  here = slots start.args.frames.now (starts_in start.args.state.now) start.args.count (forms_in start.args.state.now) carry owners offsets
 
-  tested : c.significant-at.result ≡ significantAt here c.before.before.loop.j
-  tested = c.significant-at.ensures carry owners offsets ∙ ap (λ x. not (insignificant x)) (sym (at-program here c.before.before.loop.j c.before.loop-test.true))
+  tested : c.significant_at.result ≡ significant_at here c.before.before.loop.j
+  tested = c.significant_at.ensures carry owners offsets ∙ ap (λ x. not (insignificant x)) (sym (at_program here c.before.before.loop.j c.before.loop_test.true))
 
-returns : tie.Need-returns invariant-loop decreases-loop
+returns : tie.Need-returns invariant_loop decreases_loop
 returns c carry owners offsets =
     let l = c.before.before.before.loop in
-    sym (l.invariant carry owners offsets ∙ scan-hit _ _ _ c.before.before.loop-test.true (sym (tested c.before carry owners offsets) ∙ c.if1.true))
+    sym (l.invariant carry owners offsets ∙ scan_hit _ _ _ c.before.before.loop_test.true (sym (tested c.before carry owners offsets) ∙ c.if1.true))
 
-add-j : tie.Need-overflow-add-j invariant-loop decreases-loop
-add-j c = omega arith
+add_j : tie.Need-overflow-add-j invariant_loop decreases_loop
+add_j c = omega arith
 
-loop-less : tie.Need-loop-smaller invariant-loop decreases-loop
-loop-less c = omega arith
+loop_less : tie.Need-loop-smaller invariant_loop decreases_loop
+loop_less c = omega arith
 
-loop-again : tie.Need-loop-preserved invariant-loop decreases-loop
-loop-again c carry owners offsets =
+loop_again : tie.Need-loop-preserved invariant_loop decreases_loop
+loop_again c carry owners offsets =
     let l = c.before.before.before.loop in
-    l.invariant carry owners offsets ∙ scan-miss _ _ _ c.before.before.loop-test.true (sym (tested c.before carry owners offsets) ∙ c.if1.false)
+    l.invariant carry owners offsets ∙ scan_miss _ _ _ c.before.before.loop_test.true (sym (tested c.before carry owners offsets) ∙ c.if1.false)
 
-returns-2 : tie.Need-returns-2 invariant-loop decreases-loop
-returns-2 c carry owners offsets = sym (c.before.loop.invariant carry owners offsets ∙ scan-end _ _ _ c.loop-test.false)
+returns_2 : tie.Need-returns-2 invariant_loop decreases_loop
+returns_2 c carry owners offsets = sym (c.before.loop.invariant carry owners offsets ∙ scan_end _ _ _ c.loop_test.false)
 
-pub next-spec : {M : Type 1} → statement M
-next-spec =
-    tie.close (tie.spec invariant-loop decreases-loop loop-holds significant-at-requires returns add-j loop-less loop-again returns-2)
+pub next_spec : {M : Type 1} → statement M
+next_spec =
+    tie.close (tie.spec invariant_loop decreases_loop loop_holds significant_at_requires returns add_j loop_less loop_again returns_2)

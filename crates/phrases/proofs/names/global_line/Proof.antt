@@ -6,82 +6,82 @@ use lib.Dec.{eqb}
 use Rattle.rules.specs.Programs.{label}
 use Rattle.grammar.specs.Going.{fixed}
 use Rattle.plans.specs.Plans.{done, fork}
-use Rattle.plans.specs.Lines.{afterGlobal, globalPlan, localPlan}
+use Rattle.plans.specs.Lines.{after_global, global_plan, local_plan}
 use Rattle.leaves.proofs.Leafs.{valued_rest}
-use Rattle.laying.proofs.Speaking.{name-is, name-spoken, name-wrong}
+use Rattle.laying.proofs.Speaking.{name_is, name_spoken, name_wrong}
 use borrow.Author.Rules.{rules}
 use Rattle.phrases.proofs.names.global_line.Statement.{statement}
 use Rattle.phrases.proofs.names.global_line.Tie as tie
 use Rattle.phrases.proofs.names.global_line.Reads as reads
 use Rattle.phrases.proofs.names.global_line.Lts as lts
-use Rattle.leaves.proofs.lexing.fixed.Reads as fixed-Reads
-use Rattle.phrases.proofs.names.after_global.Reads as after-global-reads
+use Rattle.leaves.proofs.lexing.fixed.Reads as fixed_Reads
+use Rattle.phrases.proofs.names.after_global.Reads as after_global_reads
 
 -- src/names.rt:69:17
-sub-fixed : tie.Need-overflow-sub-fixed
-sub-fixed c = search rules
+sub_fixed : tie.Need-overflow-sub-fixed
+sub_fixed c = search rules
 
 -- src/names.rt:69:17
-part-fixed-start : tie.Need-slice-bounds-fixed-start
-part-fixed-start c = search rules
+part_fixed_start : tie.Need-slice-bounds-fixed-start
+part_fixed_start c = search rules
 
 -- src/names.rt:69:17
-part-fixed-end : tie.Need-slice-bounds-fixed-end
-part-fixed-end c = search rules
+part_fixed_end : tie.Need-slice-bounds-fixed-end
+part_fixed_end c = search rules
 
 -- src/names.rt:69:11
-fixed-requires : tie.Need-fixed-requires
-fixed-requires c κs = search rules
+fixed_requires : tie.Need-fixed-requires
+fixed_requires c κs = search rules
 
 -- src/names.rt:70:19
-enum-known-n : tie.Need-enum-known-n
-enum-known-n c = search rules
+enum_known_n : tie.Need-enum-known-n
+enum_known_n c = search rules
 
 -- src/names.rt:70:44
-add-after-global : tie.Need-overflow-add-after-global
-add-after-global c =
+add_after_global : tie.Need-overflow-add-after-global
+add_after_global c =
     let k = c.before.before.before.before.before.before in
     let a = k.args in
     let s = a.s.now in
     let g = c.before.before.before.fixed in
     let w = valued_rest a.k s (λ t. fixed 32767 5 0 t) 32767 g.result g.ensures in
     let p = c.before.n.given in
-    let y = name-is (λ n. fork none (λ c. eqb c 58 || eqb c 61) (afterGlobal n)) s a.k k.requires.0 a.out.now g.result w p.0.0 p.0.1.0 p.1 in
+    let y = name_is (λ n. fork none (λ c. eqb c 58 || eqb c 61) (after_global n)) s a.k k.requires.0 a.out.now g.result w p.0.0 p.0.1.0 p.1 in
     let h = y.0 in
     search rules
 
 -- src/names.rt:70:28
-after-global-requires : tie.Need-after-global-requires
-after-global-requires c κs =
+after_global_requires : tie.Need-after-global-requires
+after_global_requires c κs =
     let k = c.before.before.before.before.before.before.before in
     let a = k.args in
     let s = a.s.now in
     let g = c.before.before.before.before.fixed in
     let w = valued_rest a.k s (λ t. fixed 32767 5 0 t) 32767 g.result g.ensures in
     let p = c.before.before.n.given in
-    let y = name-is (λ n. fork none (λ c. eqb c 58 || eqb c 61) (afterGlobal n)) s a.k k.requires.0 a.out.now g.result w p.0.0 p.0.1.0 p.1 in
+    let y = name_is (λ n. fork none (λ c. eqb c 58 || eqb c 61) (after_global n)) s a.k k.requires.0 a.out.now g.result w p.0.0 p.0.1.0 p.1 in
     (y.0, k.requires.1, y.1)
 
 -- src/names.rt:71:20
-enum-known-n-2 : tie.Need-enum-known-n-2
-enum-known-n-2 c = search rules
+enum_known_n_2 : tie.Need-enum-known-n-2
+enum_known_n_2 c = search rules
 
 -- src/names.rt:71:38
-add-t15 : tie.Need-overflow-add-t15
-add-t15 c =
+add_t15 : tie.Need-overflow-add-t15
+add_t15 c =
     let k = c.before.before.before.before.before.before in
     let a = k.args in
     let s = a.s.now in
     let g = c.before.before.before.fixed in
     let w = valued_rest a.k s (λ t. fixed 32767 5 0 t) 32767 g.result g.ensures in
     let p = c.before.n2.given in
-    let y = name-wrong (λ n. fork none (λ c. eqb c 58 || eqb c 61) (afterGlobal n)) s a.k k.requires.0 a.out.now g.result w p.0.0 p.1 in
+    let y = name_wrong (λ n. fork none (λ c. eqb c 58 || eqb c 61) (after_global n)) s a.k k.requires.0 a.out.now g.result w p.0.0 p.1 in
     let h = y.1 in
     search rules
 
 -- src/names.rt:65:1
 returns : tie.Need-returns
-unfolding globalPlan
+unfolding global_plan
 returns c =
     let k = c.before.before.before.before.before.before.before.before in
     let a = k.args in
@@ -89,33 +89,33 @@ returns c =
     let g = c.before.before.before.before.before.fixed in
     let w = valued_rest a.k s (λ t. fixed 32767 5 0 t) 32767 g.result g.ensures in
     let p = c.before.before.before.n.given in
-    let v = c.after-global in
-    name-spoken (λ n. fork none (λ c. eqb c 58 || eqb c 61) (afterGlobal n)) s a.k k.requires.0 v.new.1.1.1.0 g.result w p.0.0 p.0.1.0 v.result p.1 v.ensures
+    let v = c.after_global in
+    name_spoken (λ n. fork none (λ c. eqb c 58 || eqb c 61) (after_global n)) s a.k k.requires.0 v.new.1.1.1.0 g.result w p.0.0 p.0.1.0 v.result p.1 v.ensures
 
 -- src/names.rt:65:1
-returns-2 : tie.Need-returns-2
-unfolding globalPlan
-returns-2 c =
+returns_2 : tie.Need-returns-2
+unfolding global_plan
+returns_2 c =
     let k = c.before.before.before.before.before.before in
     let a = k.args in
     let s = a.s.now in
     let g = c.before.before.before.fixed in
     let w = valued_rest a.k s (λ t. fixed 32767 5 0 t) 32767 g.result g.ensures in
     let p = c.before.n2.given in
-    name-wrong (λ n. fork none (λ c. eqb c 58 || eqb c 61) (afterGlobal n)) s a.k k.requires.0 a.out.now g.result w p.0.0 p.1
+    name_wrong (λ n. fork none (λ c. eqb c 58 || eqb c 61) (after_global n)) s a.k k.requires.0 a.out.now g.result w p.0.0 p.1
 
-pub global-line-spec : {M : Type 1} → statement M
-global-line-spec =
+pub global_line_spec : {M : Type 1} → statement M
+global_line_spec =
     tie.close
     (tie.spec
-    sub-fixed
-    part-fixed-start
-    part-fixed-end
-    fixed-requires
-    enum-known-n
-    add-after-global
-    after-global-requires
-    enum-known-n-2
-    add-t15
+    sub_fixed
+    part_fixed_start
+    part_fixed_end
+    fixed_requires
+    enum_known_n
+    add_after_global
+    after_global_requires
+    enum_known_n_2
+    add_t15
     returns
-    returns-2)
+    returns_2)

@@ -17,43 +17,43 @@ module _ (c : tie.After-read-listing) where
   begin = c.before.before.before.before.before.before
 
   abbrev frames : List ℕ
-  frames = c.read-listing.new.1.0
+  frames = c.read_listing.new.1.0
 
   abbrev starts : List ℕ
-  starts = c.read-listing.new.1.1.0
+  starts = c.read_listing.new.1.1.0
 
-write-read-requires : tie.Need-write-read-requires
-write-read-requires c κs =
+write_read_requires : tie.Need-write-read-requires
+write_read_requires c κs =
     let l = c.before.before.before.before.before.before in
-    (read (begin l).args.listing.now (frames l) (starts l) (length (begin l).args.text.now) _ l.read-listing.result
-    c.before.before.before.before.count.given.1 l.read-listing.ensures.0).0
+    (read (begin l).args.listing.now (frames l) (starts l) (length (begin l).args.text.now) _ l.read_listing.result
+    c.before.before.before.before.count.given.1 l.read_listing.ensures.0).0
 
 returns : tie.Need-returns
 returns c =
     let l = c.before.before.before in
     let a = (begin l).args in
     refused (readable a.listing.now (length a.text.now)) _ a.text.now
-    (unread a.listing.now (frames l) (starts l) (length a.text.now) _ l.read-listing.result c.before.r.given.1 l.read-listing.ensures.0)
+    (unread a.listing.now (frames l) (starts l) (length a.text.now) _ l.read_listing.result c.before.r.given.1 l.read_listing.ensures.0)
 
-returns-2 : tie.Need-returns-2
-returns-2 c =
+returns_2 : tie.Need-returns-2
+returns_2 c =
     let w = c.before.before in
     let l = w.before.before.before.before.before.before.before in
     let a = (begin l).args in
     subst (λ (x : Judged (List ℕ)). Leaves x w.write_read.result a.text.now w.write_read.new.1.1.1.0)
-    (sym (read a.listing.now (frames l) (starts l) (length a.text.now) _ l.read-listing.result
-    w.before.before.before.before.before.count.given.1 l.read-listing.ensures.0).1)
+    (sym (read a.listing.now (frames l) (starts l) (length a.text.now) _ l.read_listing.result
+    w.before.before.before.before.before.count.given.1 l.read_listing.ensures.0).1)
     w.write_read.ensures
 
-pub readable-text-spec : {M : Type 1} → statement M
-readable-text-spec =
+pub readable_text_spec : {M : Type 1} → statement M
+readable_text_spec =
     tie.close
     (tie.spec
     (λ c κs. search rules)
     (λ c. search rules)
     (λ c. search rules)
     (λ c. search rules)
-    write-read-requires
+    write_read_requires
     returns
     (λ c. search rules)
-    returns-2)
+    returns_2)

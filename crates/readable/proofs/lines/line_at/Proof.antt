@@ -10,18 +10,18 @@ use Rattle.readable.proofs.Turns.{framed, stands}
 use Rattle.readable.proofs.lines.line_at.Statement.{statement}
 use Rattle.readable.proofs.lines.line_at.Tie as tie
 
-all-bytes : (k : tie.After-shared-slice-known) → AreBytes k.before.args.frames.now
-all-bytes k i = (k.shared-slice-known.given i).fits
+all_bytes : (k : tie.After-shared-slice-known) → AreBytes k.before.args.frames.now
+all_bytes k i = (k.shared_slice_known.given i).fits
 
-line-requires : tie.Need-line-requires
-line-requires c κs =
+line_requires : tie.Need-line-requires
+line_requires c κs =
     let f = c.before in
     let k = f.before in
     let s = k.before in
     let a = s.args in (
       s.requires.2,
-      subst (λ (t : List ℕ). Framed t) (sym f.frame-in.ensures)
-          (framed a.frames.now a.starts.now a.count s.requires.0 (all-bytes k) a.i s.requires.1),
+      subst (λ (t : List ℕ). Framed t) (sym f.frame_in.ensures)
+          (framed a.frames.now a.starts.now a.count s.requires.0 (all_bytes k) a.i s.requires.1),
     )
 
 returns : tie.Need-returns
@@ -31,8 +31,8 @@ returns c =
     let s = k.before in
     let a = s.args in
     let room : List ℕ = c.line.new.1.0 in
-    stands a.frames.now a.starts.now a.count s.requires.0 (all-bytes k) a.i s.requires.1 a.room.now room c.line.result
-    (subst (λ (t : List ℕ). Lined t a.room.now room c.line.result) f.frame-in.ensures c.line.ensures)
+    stands a.frames.now a.starts.now a.count s.requires.0 (all_bytes k) a.i s.requires.1 a.room.now room c.line.result
+    (subst (λ (t : List ℕ). Lined t a.room.now room c.line.result) f.frame_in.ensures c.line.ensures)
 
-pub line-at-spec : {M : Type 1} → statement M
-line-at-spec = tie.close (tie.spec (λ c κs. search rules) line-requires returns)
+pub line_at_spec : {M : Type 1} → statement M
+line_at_spec = tie.close (tie.spec (λ c κs. search rules) line_requires returns)

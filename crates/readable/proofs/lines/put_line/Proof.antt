@@ -10,7 +10,7 @@ use Rattle.listing.specs.Tables.{input_at}
 use Rattle.digits.specs.Digits.{laid}
 use Rattle.digits.proofs.Rooms.{laid_one, laid_more}
 use Rattle.readable.specs.Writing.{Stands}
-use Rattle.readable.proofs.Turns.{length-line}
+use Rattle.readable.proofs.Turns.{length_line}
 use Rattle.readable.proofs.lines.put_line.Statement.{statement}
 use Rattle.readable.proofs.lines.put_line.Tie as tie
 
@@ -31,7 +31,7 @@ module _ (w : tie.After-line-at) where
   fits : start.args.at + (n + 1) ≤ length start.args.out.now
   fits =
       let a = start.args in
-      omega (arith, w.line_at_lem.ensures.0.ends, length-line (input_at a.frames.now a.starts.now a.i), start.pre.2)
+      omega (arith, w.line_at_lem.ensures.0.ends, length_line (input_at a.frames.now a.starts.now a.i), start.pre.2)
 
 returns : tie.Need-returns
 returns c =
@@ -41,15 +41,15 @@ returns c =
     let e = w.line_at_lem.ensures.0 in
     let k = has w in
     let f = fits w in (
-      laid_one p.put-bytes.new.1.0 (a.at + n w) 10 (omega (arith, p.put-bytes.auto.1.0))
-          ∙ ap (λ (o : List ℕ). laid o (a.at + n w) (10 ∷ [])) p.put-bytes.ensures
+      laid_one p.put_bytes.new.1.0 (a.at + n w) 10 (omega (arith, p.put_bytes.auto.1.0))
+          ∙ ap (λ (o : List ℕ). laid o (a.at + n w) (10 ∷ [])) p.put_bytes.ensures
           ∙ laid_more a.out.now (take (n w) (room w)) (10 ∷ []) a.at (a.at + n w) (omega arith) (omega arith)
           ∙ ap (λ (t : List ℕ). laid a.out.now a.at (t ++ (10 ∷ []))) e.is,
-      omega (arith, e.ends, length-line (input_at a.frames.now a.starts.now a.i)),
+      omega (arith, e.ends, length_line (input_at a.frames.now a.starts.now a.i)),
     )
 
-pub put-line-spec : {M : Type 1} → statement M
-put-line-spec =
+pub put_line_spec : {M : Type 1} → statement M
+put_line_spec =
     tie.close
     (tie.spec
     (λ c κs. search rules)
@@ -57,7 +57,7 @@ put-line-spec =
     (λ c. sym (has c.before))
     (λ c κs. omega (arith, has c.before.before, fits c.before.before))
     (λ c. omega (arith, fits c.before.before.before.before.before))
-    (λ c. omega (arith, fits c.before.before.before.before.before, c.before.before.put-bytes.auto.1.0))
+    (λ c. omega (arith, fits c.before.before.before.before.before, c.before.before.put_bytes.auto.1.0))
     (λ c. omega (arith, fits c.before.before.before.before.before))
     (λ c. search rules)
     returns)

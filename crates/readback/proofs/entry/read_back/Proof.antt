@@ -3,8 +3,8 @@ use lib.ListN.{length}
 use borrow.Author.Rules.{rules}
 use Rattle.rules.specs.declared.Refusal.TheVariants.{Limit, Start}
 use Rattle.rules.specs.Answers.{at_place}
-use Rattle.readback.specs.ReadBack.{readBack}
-use Rattle.readback.proofs.Judged.{beyond-end, too_long, refused}
+use Rattle.readback.specs.ReadBack.{read_back}
+use Rattle.readback.proofs.Judged.{beyond_end, too_long, refused}
 use Rattle.readback.proofs.entry.read_back.Statement.{statement}
 use Rattle.readback.proofs.entry.read_back.Tie as tie
 
@@ -12,14 +12,14 @@ returns : tie.Need-returns
 returns c =
     let a = c.before.before.before.args in
     let room = length a.listing.now in
-    refused (readBack a.image.now a.start room) Start a.listing.now (beyond-end a.image.now a.start room c.if1.true)
+    refused (read_back a.image.now a.start room) Start a.listing.now (beyond_end a.image.now a.start room c.if1.true)
 
-returns-2 : tie.Need-returns-2
-returns-2 c =
+returns_2 : tie.Need-returns-2
+returns_2 c =
     let a = c.before.before.before.before.args in
     let room = length a.listing.now in
-    refused (readBack a.image.now a.start room) (Limit (at_place 0)) a.listing.now
+    refused (read_back a.image.now a.start room) (Limit (at_place 0)) a.listing.now
     (too_long a.image.now a.start room c.before.if1.false c.if2.true)
 
-pub read-back-spec : {M : Type 1} → statement M
-read-back-spec = tie.close (tie.spec returns returns-2 (λ c κs. search rules) (λ c. search rules) (λ c. search rules))
+pub read_back_spec : {M : Type 1} → statement M
+read_back_spec = tie.close (tie.spec returns returns_2 (λ c κs. search rules) (λ c. search rules) (λ c. search rules))

@@ -10,8 +10,8 @@ use Rattle.readback.proofs.frames.is_register.Tie as tie
 via : {k d : Kind} {b : Bool} → k ≡ d → b ≡ is_register d → b ≡ is_register k
 via e h = h ∙ sym (ap is_register e)
 
-pub is-register-spec : {M : Type 1} → statement M
-is-register-spec =
+pub is_register_spec : {M : Type 1} → statement M
+is_register_spec =
     tie.close
     (tie.spec
     (λ c. search rules)
@@ -23,10 +23,10 @@ is-register-spec =
     (λ c. search rules)
     (λ c. search rules)
     (λ c. via c.enum_told.given.1 refl)
-    (λ c. via c.enum-told2.given.1 refl)
-    (λ c. via c.enum-told3.given.1 refl)
-    (λ c. via c.enum-told4.given.1 refl)
-    (λ c. via c.enum-told5.given.1 refl)
-    (λ c. via c.enum-told6.given.1 refl)
-    (λ c. via c.enum-told7.given.1 refl)
-    (λ c. via c.enum-told8.given.1 refl))
+    (λ c. via c.enum_told2.given.1 refl)
+    (λ c. via c.enum_told3.given.1 refl)
+    (λ c. via c.enum_told4.given.1 refl)
+    (λ c. via c.enum_told5.given.1 refl)
+    (λ c. via c.enum_told6.given.1 refl)
+    (λ c. via c.enum_told7.given.1 refl)
+    (λ c. via c.enum_told8.given.1 refl))

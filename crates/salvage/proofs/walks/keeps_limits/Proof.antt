@@ -8,9 +8,9 @@ use Rattle.salvage.proofs.walks.keeps_limits.Tie as tie
 returns : tie.Need-returns
 returns c = rw (le-ltb c.before.args.i 1024 c.if1.true)
 
-returns-2 : tie.Need-returns-2
-returns-2 c = rw (lt-ltb c.before.before.args.i 1024 (omega arith), ← c.line-bytes.ensures.0)
+returns_2 : tie.Need-returns-2
+returns_2 c = rw (lt-ltb c.before.before.args.i 1024 (omega arith), ← c.line_bytes.ensures.0)
 
-pub keeps-limits-spec : {M : Type 1} → statement M
-keeps-limits-spec =
-    tie.close (tie.spec returns (λ c. search rules) (λ c κs. search rules) (λ c. search rules) (λ c. search rules) returns-2)
+pub keeps_limits_spec : {M : Type 1} → statement M
+keeps_limits_spec =
+    tie.close (tie.spec returns (λ c. search rules) (λ c κs. search rules) (λ c. search rules) (λ c. search rules) returns_2)

@@ -1,4 +1,4 @@
-use Rattle.series.proofs.Itemized.{count-so}
+use Rattle.series.proofs.Itemized.{count_so}
 use borrow.Author.Rules.{rules}
 use Rattle.series.proofs.items.count.Statement.{statement}
 use Rattle.series.proofs.items.count.Tie as tie
@@ -6,12 +6,12 @@ use Rattle.series.proofs.items.count.Reads as reads
 use Rattle.series.proofs.items.count.Lts as lts
 
 -- src/items.rt:21:5
-element-write-out : tie.Need-element-write-out
-element-write-out c = search rules
+element_write_out : tie.Need-element-write-out
+element_write_out c = search rules
 
 -- src/items.rt:17:1
 returns : tie.Need-returns
-returns c = count-so c.args.out.now c.args.items c.args.to c.requires
+returns c = count_so c.args.out.now c.args.items c.args.to c.requires
 
 pub count_spec : {M : Type 1} → statement M
-count_spec = tie.close (tie.spec element-write-out returns)
+count_spec = tie.close (tie.spec element_write_out returns)

@@ -5,12 +5,12 @@ use native.Mathlib.Omega.{arith}
 use lib.ListN.{length, get_or}
 use borrow.Author.Rules.{rules}
 use Rattle.rules.specs.declared.Statement.TheVariants.{Label, Variable, Comment, Org, Bytes, Words, Pad}
-use Rattle.rules.specs.Answers.{orD}
-use Rattle.rules.specs.Listing.{readFrame}
+use Rattle.rules.specs.Answers.{judged_or}
+use Rattle.rules.specs.Listing.{read_frame}
 use Rattle.rules.specs.Programs.{gone}
 use Rattle.rules.specs.Statements.{arg_at}
 use Rattle.slots.proofs.Frames.{FrameOf}
-use Rattle.slots.proofs.Stands.{kind-is, a-kind, a_byte, of-kind}
+use Rattle.slots.proofs.Stands.{kind_is, a_kind, a_byte, of_kind}
 use Rattle.slots.proofs.live.other_in.Statement.{statement}
 use Rattle.slots.proofs.live.other_in.Tie as tie
 
@@ -28,59 +28,59 @@ eight : (c : tie.At-match-rest) → byte c.before.before.before 0 ≡ 8
 eight c =
     let s = c.before.before.before in
     let r = c.match.rest in
-    let k = a-kind s.requires.0 s.args.frame.now s.requires.1.reads in
+    let k = a_kind s.requires.0 s.args.frame.now s.requires.1.reads in
     last (byte s 0) k.0 k.1 s.requires.1.kind r.0.0.0.0.0.1 r.0.0.0.0.1 r.0.0.0.1 r.0.0.1 r.0.1 r.1
 
-frame-of : (s : tie.Start) (k : ℕ) → byte s 0 ≡ k → FrameOf k s.requires.0 s.args.frame.now (orD (readFrame s.requires.0 s.args.frame.now) gone)
-frame-of s k e = of-kind s.requires.0 s.args.frame.now s.requires.1.reads k e
+frame_of_lem : (s : tie.Start) (k : ℕ) → byte s 0 ≡ k → FrameOf k s.requires.0 s.args.frame.now (judged_or (read_frame s.requires.0 s.args.frame.now) gone)
+frame_of_lem s k e = of_kind s.requires.0 s.args.frame.now s.requires.1.reads k e
 
 first : (s : tie.Start) → 0 < length s.args.frame.now
 first s = a_byte s.requires.0 s.args.frame.now s.requires.1.reads
 
 returns : tie.Need-returns
-returns c = let s = c.before.before.before.before in ap Label c.pair-in.ensures ∙ sym (kind-is s.args.frame.now 2 c.before.match.keys1)
+returns c = let s = c.before.before.before.before in ap Label c.pair_in.ensures ∙ sym (kind_is s.args.frame.now 2 c.before.match.keys1)
 
-returns-2 : tie.Need-returns-2
-returns-2 c = let s = c.before.before.before.before in ap (λ n. Variable n (arg_at 3)) c.pair-in2.ensures ∙ sym (kind-is s.args.frame.now 3 c.before.match.keys2)
+returns_2 : tie.Need-returns-2
+returns_2 c = let s = c.before.before.before.before in ap (λ n. Variable n (arg_at 3)) c.pair_in2.ensures ∙ sym (kind_is s.args.frame.now 3 c.before.match.keys2)
 
-returns-3 : tie.Need-returns-3
-returns-3 c = let s = c.before.before.before in sym (kind-is s.args.frame.now 4 c.match.keys3)
+returns_3 : tie.Need-returns-3
+returns_3 c = let s = c.before.before.before in sym (kind_is s.args.frame.now 4 c.match.keys3)
 
-returns-4 : tie.Need-returns-4
-returns-4 c = let s = c.before.before.before.before in ap Org c.pair-in3.ensures ∙ sym (kind-is s.args.frame.now 5 c.before.match.keys4)
+returns_4 : tie.Need-returns-4
+returns_4 c = let s = c.before.before.before.before in ap Org c.pair_in3.ensures ∙ sym (kind_is s.args.frame.now 5 c.before.match.keys4)
 
-returns-5 : tie.Need-returns-5
-returns-5 c = let s = c.before.before.before.before in ap (λ n. Bytes n (arg_at 2)) c.items-in.ensures ∙ sym (kind-is s.args.frame.now 6 c.before.match.keys5)
+returns_5 : tie.Need-returns-5
+returns_5 c = let s = c.before.before.before.before in ap (λ n. Bytes n (arg_at 2)) c.items_in.ensures ∙ sym (kind_is s.args.frame.now 6 c.before.match.keys5)
 
-returns-6 : tie.Need-returns-6
-returns-6 c = let s = c.before.before.before.before in ap (λ n. Words n (arg_at 2)) c.items-in2.ensures ∙ sym (kind-is s.args.frame.now 7 c.before.match.keys6)
+returns_6 : tie.Need-returns-6
+returns_6 c = let s = c.before.before.before.before in ap (λ n. Words n (arg_at 2)) c.items_in2.ensures ∙ sym (kind_is s.args.frame.now 7 c.before.match.keys6)
 
-returns-7 : tie.Need-returns-7
-returns-7 c =
+returns_7 : tie.Need-returns-7
+returns_7 c =
     let s = c.before.before.before.before.before.before.before.before in
     let m = c.before.before.before.before.before in
-    ap₂ (λ a b. Pad a b) c.before.before.before.before.items-in3.ensures (c.wide.ensures ∙ c.before.half.ensures) ∙ sym (kind-is s.args.frame.now 8 (eight m))
+    ap₂ (λ a b. Pad a b) c.before.before.before.before.items_in3.ensures (c.wide.ensures ∙ c.before.half.ensures) ∙ sym (kind_is s.args.frame.now 8 (eight m))
 
-pub other-in-spec : {M : Type 1} → statement M
-other-in-spec =
+pub other_in_spec : {M : Type 1} → statement M
+other_in_spec =
     tie.close
     (tie.spec
     (λ c. first c.before.before)
-    (λ c κs. (frame-of c.before.before.before 2 c.match.keys1).long)
-    (λ c κs. (frame-of c.before.before.before 3 c.match.keys2).long)
+    (λ c κs. (frame_of_lem c.before.before.before 2 c.match.keys1).long)
+    (λ c κs. (frame_of_lem c.before.before.before 3 c.match.keys2).long)
     (λ c. omega (arith, first c.before.before.before))
-    (λ c κs. (frame-of c.before.before.before 5 c.match.keys4).long)
-    (λ c κs. (frame-of c.before.before.before 6 c.match.keys5).long)
-    (λ c κs. (frame-of c.before.before.before 7 c.match.keys6).long)
-    (λ c κs. let l = (frame-of c.before.before.before 8 (eight c)).long in omega arith)
-    (λ c. let l = (frame-of c.before.before.before.before.before 8 (eight c.before.before)).long in omega arith)
-    (λ c. let l = (frame-of c.before.before.before.before.before.before 8 (eight c.before.before.before)).long in omega arith)
+    (λ c κs. (frame_of_lem c.before.before.before 5 c.match.keys4).long)
+    (λ c κs. (frame_of_lem c.before.before.before 6 c.match.keys5).long)
+    (λ c κs. (frame_of_lem c.before.before.before 7 c.match.keys6).long)
+    (λ c κs. let l = (frame_of_lem c.before.before.before 8 (eight c)).long in omega arith)
+    (λ c. let l = (frame_of_lem c.before.before.before.before.before 8 (eight c.before.before)).long in omega arith)
+    (λ c. let l = (frame_of_lem c.before.before.before.before.before.before 8 (eight c.before.before.before)).long in omega arith)
     (λ c κs. search rules)
     (λ c κs. search rules)
     returns
-    returns-2
-    returns-3
-    returns-4
-    returns-5
-    returns-6
-    returns-7)
+    returns_2
+    returns_3
+    returns_4
+    returns_5
+    returns_6
+    returns_7)

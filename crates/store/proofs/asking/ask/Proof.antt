@@ -6,7 +6,7 @@ use Rattle.rules.specs.declared.Settings.{Settings}
 use Rattle.rules.specs.Answers.{require}
 use Rattle.store.specs.declared.Found.TheVariants.{Is}
 use Rattle.store.specs.Store.{find, get}
-use Rattle.store.specs.Rooms.{storeIn}
+use Rattle.store.specs.Rooms.{store_in}
 use Rattle.store.proofs.JudgedFirst.{found_none, found_some}
 use Rattle.store.proofs.asking.ask.Statement.{statement}
 use Rattle.store.proofs.asking.ask.Tie as tie
@@ -15,45 +15,45 @@ returns : tie.Need-returns
 unfolding get require
 returns c = rw (lt-leb 1 c.before.before.args.edition c.if1.true)
 
-find-switches-requires : tie.Need-find-switches-requires
-find-switches-requires c κs = search rules
+find_switches_requires : tie.Need-find-switches-requires
+find_switches_requires c κs = search rules
 
 enum_told : tie.Need-enum-told
 enum_told c = search rules
 
-enum-known-w : tie.Need-enum-known-w
-enum-known-w c = search rules
+enum_known_w : tie.Need-enum-known-w
+enum_known_w c = search rules
 
-settings-of-requires : tie.Need-settings-of-requires
-settings-of-requires c κs = search rules
+settings_of_requires : tie.Need-settings-of-requires
+settings_of_requires c κs = search rules
 
-returns-2 : tie.Need-returns-2
+returns_2 : tie.Need-returns-2
 unfolding get require
-returns-2 c =
+returns_2 c =
     let f = c.before.before in
     let a = f.before.before.before.args in
     let o =
-    found_none (find a.family a.edition (storeIn a.room.now)) (sym f.find-switches.ensures ∙ c.enum_told.given.1) in
+    found_none (find a.family a.edition (store_in a.room.now)) (sym f.find_switches.ensures ∙ c.enum_told.given.1) in
     rw (le-leb 1 a.edition f.before.if1.false, o)
 
-returns-3 : tie.Need-returns-3
+returns_3 : tie.Need-returns-3
 unfolding get require
-returns-3 c =
+returns_3 c =
     let w = c.before.before in
     let f = w.before.before in
     let a = f.before.before.before.args in
-    let o = found_some (find a.family a.edition (storeIn a.room.now)) _ (sym f.find-switches.ensures ∙ w.w.given.1) in
-    let s = ap (λ (x : Settings). Is (record { number = a.edition; settings = x })) c.settings-of.ensures in
+    let o = found_some (find a.family a.edition (store_in a.room.now)) _ (sym f.find_switches.ensures ∙ w.w.given.1) in
+    let s = ap (λ (x : Settings). Is (record { number = a.edition; settings = x })) c.settings_of.ensures in
     rw (le-leb 1 a.edition f.before.if1.false, o) s
 
-pub ask-spec : {M : Type 1} → statement M
-ask-spec =
+pub ask_spec : {M : Type 1} → statement M
+ask_spec =
     tie.close
     (tie.spec
     returns
-    find-switches-requires
+    find_switches_requires
     enum_told
-    enum-known-w
-    settings-of-requires
-    returns-2
-    returns-3)
+    enum_known_w
+    settings_of_requires
+    returns_2
+    returns_3)

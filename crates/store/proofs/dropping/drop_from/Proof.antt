@@ -6,14 +6,14 @@ use native.Mathlib.Omega.{arith}
 use borrow.Author.Rules.{rules}
 use Rattle.rules.specs.Answers.{ok}
 use Rattle.rules.specs.declared.Refusal.TheVariants.{Unknown}
-use Rattle.store.specs.Store.{cleared, dropped, dropOld}
-use Rattle.store.specs.Rooms.{storeIn, roomWith}
-use Rattle.store.proofs.Answered.{leaves-no, leaves-ok, no-family, stays}
+use Rattle.store.specs.Store.{cleared, dropped, drop_old}
+use Rattle.store.specs.Rooms.{store_in, room_with}
+use Rattle.store.proofs.Answered.{leaves_no, leaves_ok, no_family, stays}
 use Rattle.store.proofs.dropping.drop_from.Statement.{statement}
 use Rattle.store.proofs.dropping.drop_from.Tie as tie
 
-newest-of-requires : tie.Need-newest-of-requires
-newest-of-requires c κs = search rules
+newest_of_requires : tie.Need-newest-of-requires
+newest_of_requires c κs = search rules
 
 same_length : tie.Need-same-length
 same_length c = search rules
@@ -22,37 +22,37 @@ returns : tie.Need-returns
 returns c =
     let n = c.before in
     let a = n.before.before.before.args in
-    let ss = storeIn a.room.now in
-    let e = no-family a.family ss (omega (arith, n.newest-of.ensures, c.if1.true)) in
-    leaves-no a.room.now (dropOld a.family ss) (dropped a.family ss) Unknown e
+    let ss = store_in a.room.now in
+    let e = no_family a.family ss (omega (arith, n.newest_of.ensures, c.if1.true)) in
+    leaves_no a.room.now (drop_old a.family ss) (dropped a.family ss) Unknown e
 
-clear-old-requires : tie.Need-clear-old-requires
-clear-old-requires c κs = search rules
+clear_old_requires : tie.Need-clear-old-requires
+clear_old_requires c κs = search rules
 
-same-length-2 : tie.Need-same-length-2
-same-length-2 c = search rules
+same_length_2 : tie.Need-same-length-2
+same_length_2 c = search rules
 
-returns-2 : tie.Need-returns-2
+returns_2 : tie.Need-returns-2
 unfolding dropped
-returns-2 c =
+returns_2 c =
     let p = c.before.before in
     let i = p.before.before in
     let n = i.before in
     let a = n.before.before.before.args in
-    let ss = storeIn a.room.now in
-    let w = n.newest-of.ensures in
+    let ss = store_in a.room.now in
+    let w = n.newest_of.ensures in
     let e = stays a.family ss (omega (arith, w, i.if1.false)) in
-    let m = ap (λ (t : ℕ). roomWith a.room.now (map (λ s. cleared a.family t s) ss)) w in
-    leaves-ok a.room.now (dropOld a.family ss) (dropped a.family ss) _ _ (e ∙ ap (λ (t : ℕ). ok t) (sym w))
-    (p.clear-old.ensures ∙ m)
+    let m = ap (λ (t : ℕ). room_with a.room.now (map (λ s. cleared a.family t s) ss)) w in
+    leaves_ok a.room.now (drop_old a.family ss) (dropped a.family ss) _ _ (e ∙ ap (λ (t : ℕ). ok t) (sym w))
+    (p.clear_old.ensures ∙ m)
 
-pub drop-from-spec : {M : Type 1} → statement M
-drop-from-spec =
+pub drop_from_spec : {M : Type 1} → statement M
+drop_from_spec =
     tie.close
     (tie.spec
-    newest-of-requires
+    newest_of_requires
     same_length
     returns
-    clear-old-requires
-    same-length-2
-    returns-2)
+    clear_old_requires
+    same_length_2
+    returns_2)

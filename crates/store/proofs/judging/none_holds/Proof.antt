@@ -5,71 +5,71 @@ use native.Mathlib.Omega.{arith}
 use lib.ListN.{drop}
 use borrow.Author.Rules.{rules}
 use Rattle.laws.specs.Lists.{every}
-use Rattle.store.specs.Store.{is_of, noneHolds}
-use Rattle.store.specs.Rooms.{settingAt, storeIn}
-use Rattle.store.proofs.PlaceByPlace.{none_left, holds-from}
+use Rattle.store.specs.Store.{is_of, none_holds}
+use Rattle.store.specs.Rooms.{setting_at, store_in}
+use Rattle.store.proofs.PlaceByPlace.{none_left, holds_from}
 use Rattle.store.proofs.judging.none_holds.Statement.{statement}
 use Rattle.store.proofs.judging.none_holds.Tie as tie
 
-abbrev invariant-loop : tie.invariant-loop
-invariant-loop room family edition from k₀ k =
-    (k ≤ 32) × (noneHolds family edition (drop from (storeIn room)) ≡ noneHolds family edition (drop k (storeIn room)))
+abbrev invariant_loop : tie.invariant_loop
+invariant_loop room family edition from k₀ k =
+    (k ≤ 32) × (none_holds family edition (drop from (store_in room)) ≡ none_holds family edition (drop k (store_in room)))
 
-abbrev decreases-loop : tie.decreases-loop
-decreases-loop room family edition from k₀ k = 32 - k
+abbrev decreases_loop : tie.decreases_loop
+decreases_loop room family edition from k₀ k = 32 - k
 
-loop-holds : tie.Need-loop-init invariant-loop decreases-loop
-loop-holds c = (omega arith, refl)
+loop_holds : tie.Need-loop-init invariant_loop decreases_loop
+loop_holds c = (omega arith, refl)
 
-read-setting-requires : tie.Need-read-setting-requires invariant-loop decreases-loop
-read-setting-requires c κs = search rules
+read_setting_requires : tie.Need-read-setting-requires invariant_loop decreases_loop
+read_setting_requires c κs = search rules
 
-is-of-requires : tie.Need-is-of-requires invariant-loop decreases-loop
-is-of-requires c κs = search rules
+is_of_requires : tie.Need-is-of-requires invariant_loop decreases_loop
+is_of_requires c κs = search rules
 
 -- what was tested is the setting at k
-tested : (c : tie.After-is-of invariant-loop decreases-loop)
+tested : (c : tie.After-is-of invariant_loop decreases_loop)
     → let a = c.before.before.before.before.before.args in
-    c.is-of.result ≡ is_of a.family a.edition (settingAt a.room.now c.before.before.before.loop.k)
+    c.is_of.result ≡ is_of a.family a.edition (setting_at a.room.now c.before.before.before.loop.k)
 tested c =
     let a = c.before.before.before.before.before.args in
-    c.is-of.ensures ∙ ap (is_of a.family a.edition) c.before.read-setting.ensures
+    c.is_of.ensures ∙ ap (is_of a.family a.edition) c.before.read_setting.ensures
 
-returns : tie.Need-returns invariant-loop decreases-loop
+returns : tie.Need-returns invariant_loop decreases_loop
 returns c =
     let l = c.before.before.before.before.loop in
     let a = c.before.before.before.before.before.before.args in
-    let h = holds-from a.room.now l.k c.before.before.before.loop-test.true a.family a.edition in
+    let h = holds_from a.room.now l.k c.before.before.before.loop_test.true a.family a.edition in
     rw (l.invariant.1, h, ← tested c.before, c.if1.true)
 
-add-k : tie.Need-overflow-add-k invariant-loop decreases-loop
-add-k c = omega arith
+add_k : tie.Need-overflow-add-k invariant_loop decreases_loop
+add_k c = omega arith
 
-loop-less : tie.Need-loop-smaller invariant-loop decreases-loop
-loop-less c = omega arith
+loop_less : tie.Need-loop-smaller invariant_loop decreases_loop
+loop_less c = omega arith
 
-loop-again : tie.Need-loop-preserved invariant-loop decreases-loop
-loop-again c =
+loop_again : tie.Need-loop-preserved invariant_loop decreases_loop
+loop_again c =
     let l = c.before.before.before.before.loop in
     let a = c.before.before.before.before.before.before.args in
-    let h = holds-from a.room.now l.k c.before.before.before.loop-test.true a.family a.edition in
+    let h = holds_from a.room.now l.k c.before.before.before.loop_test.true a.family a.edition in
     (omega arith, l.invariant.1 ∙ h ∙ rw (← tested c.before, c.if1.false))
 
-returns-2 : tie.Need-returns-2 invariant-loop decreases-loop
-unfolding noneHolds every
-returns-2 c = rw (c.before.loop.invariant.1, none_left c.before.before.before.args.room.now c.before.loop.k c.loop-test.false)
+returns_2 : tie.Need-returns-2 invariant_loop decreases_loop
+unfolding none_holds every
+returns_2 c = rw (c.before.loop.invariant.1, none_left c.before.before.before.args.room.now c.before.loop.k c.loop_test.false)
 
-pub none-holds-spec : {M : Type 1} → statement M
-none-holds-spec =
+pub none_holds_spec : {M : Type 1} → statement M
+none_holds_spec =
     tie.close
     (tie.spec
-    invariant-loop
-    decreases-loop
-    loop-holds
-    read-setting-requires
-    is-of-requires
+    invariant_loop
+    decreases_loop
+    loop_holds
+    read_setting_requires
+    is_of_requires
     returns
-    add-k
-    loop-less
-    loop-again
-    returns-2)
+    add_k
+    loop_less
+    loop_again
+    returns_2)

@@ -6,8 +6,8 @@ use Rattle.store.proofs.testing.is_of.Tie as tie
 returns : tie.Need-returns
 returns c = simp (ne_eqb _ _ c.if1.true)
 
-returns-2 : tie.Need-returns-2
-returns-2 c = simp (eq-eqb _ _ c.before.if1.false)
+returns_2 : tie.Need-returns-2
+returns_2 c = simp (eq-eqb _ _ c.before.if1.false)
 
-pub is-of-spec : {M : Type 1} → statement M
-is-of-spec = tie.close (tie.spec returns returns-2)
+pub is_of_spec : {M : Type 1} → statement M
+is_of_spec = tie.close (tie.spec returns returns_2)

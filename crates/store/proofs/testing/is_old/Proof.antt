@@ -6,11 +6,11 @@ use Rattle.store.proofs.testing.is_old.Tie as tie
 returns : tie.Need-returns
 returns c = simp (ne_eqb _ _ c.if1.true)
 
-returns-2 : tie.Need-returns-2
-returns-2 c = simp (eq-eqb _ _ c.before.before.if1.false, lt-leb 1 _ c.if2.true)
+returns_2 : tie.Need-returns-2
+returns_2 c = simp (eq-eqb _ _ c.before.before.if1.false, lt-leb 1 _ c.if2.true)
 
-returns-3 : tie.Need-returns-3
-returns-3 c = simp (eq-eqb _ _ c.before.before.before.if1.false, le-leb 1 _ c.before.if2.false)
+returns_3 : tie.Need-returns-3
+returns_3 c = simp (eq-eqb _ _ c.before.before.before.if1.false, le-leb 1 _ c.before.if2.false)
 
-pub is-old-spec : {M : Type 1} → statement M
-is-old-spec = tie.close (tie.spec returns returns-2 returns-3)
+pub is_old_spec : {M : Type 1} → statement M
+is_old_spec = tie.close (tie.spec returns returns_2 returns_3)

@@ -4,12 +4,12 @@ use Prim.Native.Nat.{ℕ, ◌-◌, ◌≤◌}
 use native.Mathlib.Omega.{arith}
 use lib.ListN.{length, get_or}
 use borrow.Author.Rules.{rules}
-use Rattle.rules.specs.Forms.{operandsAt}
-use Rattle.slots.specs.Slots.{worthIn}
-use Rattle.slots.specs.State.{startsIn, formsIn, carryIn, ownersIn, offsetsIn}
+use Rattle.rules.specs.Forms.{operands_at}
+use Rattle.slots.specs.Slots.{worth_in}
+use Rattle.slots.specs.State.{starts_in, forms_in, carry_in, owners_in, offsets_in}
 use Rattle.image.specs.Tables.{Tables, tables_of, operand_at}
-use Rattle.asm.proofs.Carrying.{positioned-any}
-use Rattle.targets.proofs.Coming.{stands-there, some-operands, worth-is, small-in, aim-is}
+use Rattle.asm.proofs.Carrying.{positioned_any}
+use Rattle.targets.proofs.Coming.{stands_there, some_operands, worth_is, small_in, aim_is}
 use Rattle.targets.proofs.aims.aim_at.Statement.{statement}
 use Rattle.targets.proofs.aims.aim_at.Tie as tie
 
@@ -19,41 +19,41 @@ here c =
     c.args.links.now c.args.values.now c.args.positions.now
 
 -- how many operands were counted
-counted : (c : tie.After-operand-count) → let s = c.before.before.before in c.operand-count.result ≡ length (operandsAt (get_or (formsIn s.args.state.now) s.args.at.0 0))
-counted c = c.operand-count.ensures ∙ ap (λ (f : ℕ). length (operandsAt f)) c.before.form_in.ensures
+counted : (c : tie.After-operand-count) → let s = c.before.before.before in c.operand_count.result ≡ length (operands_at (get_or (forms_in s.args.state.now) s.args.at.0 0))
+counted c = c.operand_count.ensures ∙ ap (λ (f : ℕ). length (operands_at f)) c.before.form_in.ensures
 
-some : (c : tie.After-operand-count) → let s = c.before.before.before in 1 ≤ length (operandsAt (get_or (formsIn s.args.state.now) s.args.at.0 0))
-some c = let s = c.before.before.before in some-operands (here s) s.requires.0 s.args.at.0 s.requires.1 s.requires.2
+some : (c : tie.After-operand-count) → let s = c.before.before.before in 1 ≤ length (operands_at (get_or (forms_in s.args.state.now) s.args.at.0 0))
+some c = let s = c.before.before.before in some_operands (here s) s.requires.0 s.args.at.0 s.requires.1 s.requires.2
 
-sub-last : tie.Need-overflow-sub-last
-sub-last c = omega (arith, counted c, some c)
+sub_last : tie.Need-overflow-sub-last
+sub_last c = omega (arith, counted c, some c)
 
-argument-worth-requires : tie.Need-argument-worth-requires
-argument-worth-requires c κs =
+argument_worth_requires : tie.Need-argument-worth-requires
+argument_worth_requires c κs =
     let s = c.before.before.before in
-    (s.requires.0, s.requires.1, (stands-there (here s) s.requires.0 s.args.at.0 s.requires.1 s.requires.2).0, omega (arith, counted c, some c))
+    (s.requires.0, s.requires.1, (stands_there (here s) s.requires.0 s.args.at.0 s.requires.1 s.requires.2).0, omega (arith, counted c, some c))
 
-value-origin-requires : tie.Need-value-origin-requires
-value-origin-requires c κs =
+value_origin_requires : tie.Need-value-origin-requires
+value_origin_requires c κs =
     let s = c.before.before.before.before in
     let z = s.args.state.now in (
       s.requires.0.sound.held,
-      positioned-any s.args.frames.now (startsIn z) s.args.count (formsIn z) (carryIn z) (ownersIn z) (offsetsIn z) s.args.positions.now s.requires.0.position,
+      positioned_any s.args.frames.now (starts_in z) s.args.count (forms_in z) (carry_in z) (owners_in z) (offsets_in z) s.args.positions.now s.requires.0.position,
     )
 
-place-of-requires : tie.Need-place-of-requires
-place-of-requires c κs =
+place_of_requires : tie.Need-place-of-requires
+place_of_requires c κs =
     let b = c.before in
     let s = b.before.before.before.before.before in
     let z = s.args.state.now in
-    small-in (here s).slots b.value-origin.result s.requires.0.sound.held.few (b.value-origin.ensures (carryIn z) (ownersIn z) (offsetsIn z)).inside
+    small_in (here s).slots b.value_origin.result s.requires.0.sound.held.few (b.value_origin.ensures (carry_in z) (owners_in z) (offsets_in z)).inside
 
-offset-of-requires : tie.Need-offset-of-requires
-offset-of-requires c κs =
+offset_of_requires : tie.Need-offset-of-requires
+offset_of_requires c κs =
     let b = c.before.before in
     let s = b.before.before.before.before.before in
     let z = s.args.state.now in
-    small-in (here s).slots b.value-origin.result s.requires.0.sound.held.few (b.value-origin.ensures (carryIn z) (ownersIn z) (offsetsIn z)).inside
+    small_in (here s).slots b.value_origin.result s.requires.0.sound.held.few (b.value_origin.ensures (carry_in z) (owners_in z) (offsets_in z)).inside
 
 returns : tie.Need-returns
 returns c =
@@ -68,23 +68,23 @@ returns c =
     let d = here s in
     let i = s.args.at.0 in
     let worth =
-    w.argument-worth.ensures
-    ∙ ap (λ (k : ℕ). worthIn d.entries d.positions (get_or d.contexts i 0) (operand_at d.slots i (k - 1))) (counted n) in
-    aim-is d.slots i w.argument-worth.result b.value-origin.result _ _ _ _ s.requires.0.sound.held.few
-    (worth-is d s.requires.0 i s.requires.1 s.requires.2 refl _ worth)
-    (b.value-origin.ensures (carryIn z) (ownersIn z) (offsetsIn z)) v.value-bits.ensures p.place_of.ensures.0 o.offset-of.ensures.0 c.eight-bytes.ensures
+    w.argument_worth.ensures
+    ∙ ap (λ (k : ℕ). worth_in d.entries d.positions (get_or d.contexts i 0) (operand_at d.slots i (k - 1))) (counted n) in
+    aim_is d.slots i w.argument_worth.result b.value_origin.result _ _ _ _ s.requires.0.sound.held.few
+    (worth_is d s.requires.0 i s.requires.1 s.requires.2 refl _ worth)
+    (b.value_origin.ensures (carry_in z) (owners_in z) (offsets_in z)) v.value_bits.ensures p.place_of.ensures.0 o.offset_of.ensures.0 c.eight_bytes.ensures
 
-pub aim-at-spec : {M : Type 1} → statement M
-aim-at-spec =
+pub aim_at_spec : {M : Type 1} → statement M
+aim_at_spec =
     tie.close
     (tie.spec
     (λ c κs. search rules)
     (λ c κs. search rules)
-    sub-last
-    argument-worth-requires
-    value-origin-requires
+    sub_last
+    argument_worth_requires
+    value_origin_requires
     (λ c κs. search rules)
-    place-of-requires
-    offset-of-requires
+    place_of_requires
+    offset_of_requires
     (λ c κs. search rules)
     returns)

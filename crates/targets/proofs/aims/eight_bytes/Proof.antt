@@ -14,11 +14,11 @@ returns c =
     let a = b.before in
     let o = a.before in
     let s = o.before in
-    eight_is s.args.value s.args.place s.args.offset _ _ _ _ _ _ _ _ (search rules) s.requires.0 s.requires.1 o.low_byte.ensures a.low-byte2.ensures
-    b.low-byte3.ensures d.low-byte4.ensures e.low-byte5.ensures f.low-byte6.ensures g.low-byte7.ensures c.low-byte8.ensures
+    eight_is s.args.value s.args.place s.args.offset _ _ _ _ _ _ _ _ (search rules) s.requires.0 s.requires.1 o.low_byte.ensures a.low_byte2.ensures
+    b.low_byte3.ensures d.low_byte4.ensures e.low_byte5.ensures f.low_byte6.ensures g.low_byte7.ensures c.low_byte8.ensures
 
-pub eight-bytes-spec : {M : Type 1} → statement M
-eight-bytes-spec =
+pub eight_bytes_spec : {M : Type 1} → statement M
+eight_bytes_spec =
     tie.close
     (tie.spec
     (λ c κs. search rules)

@@ -11,11 +11,11 @@ use Rattle.targets.proofs.aims.place_of.Tie as tie
 small : (c : tie.After-known-told) → Small (At c.before.o.given.0.0 c.before.o.given.0.1.0)
 small c = subst Small c.before.o.given.1 c.before.before.before.requires
 
-cast-result : tie.Need-overflow-cast-result
-cast-result c = omega (arith, (small c.before).0)
+cast_result : tie.Need-overflow-cast-result
+cast_result c = omega (arith, (small c.before).0)
 
 returns : tie.Need-returns
 returns c = (sym (ap place_in c.before.before.o.given.1), omega (arith, (small c.before).0))
 
-pub place-of-spec : {M : Type 1} → statement M
-place-of-spec = tie.close (tie.spec (λ c. search rules) cast-result (λ c. search rules) returns (λ c. search rules))
+pub place_of_spec : {M : Type 1} → statement M
+place_of_spec = tie.close (tie.spec (λ c. search rules) cast_result (λ c. search rules) returns (λ c. search rules))

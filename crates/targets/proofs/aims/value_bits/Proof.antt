@@ -16,8 +16,8 @@ as_passed c = search rules
 returns : tie.Need-returns
 returns c = c.bits.ensures ∙ ap (of_z w32) (as_passed c.before) ∙ sym (ap (λ (x : Outcome). of_z w32 (number_of x)) c.before.before.v.given.1)
 
-pub value-bits-spec : {M : Type 1} → statement M
-value-bits-spec =
+pub value_bits_spec : {M : Type 1} → statement M
+value_bits_spec =
     tie.close
     (tie.spec
     (λ c. search rules)

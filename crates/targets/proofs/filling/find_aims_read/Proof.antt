@@ -7,8 +7,8 @@ use borrow.Author.Rules.{rules}
 use Rattle.rules.specs.Judging.{assembles}
 use Rattle.listing.specs.Tables.{Held, input_of}
 use Rattle.slots.specs.Links.{Beside}
-use Rattle.slots.specs.State.{startsIn}
-use Rattle.targets.proofs.Reading.{aims-as, read-program, read-good, read-stands, read-beside}
+use Rattle.slots.specs.State.{starts_in}
+use Rattle.targets.proofs.Reading.{aims_as, read_program, read_good, read_stands, read_beside}
 use Rattle.targets.proofs.filling.find_aims_read.Statement.{statement}
 use Rattle.targets.proofs.filling.find_aims_read.Tie as tie
 
@@ -33,20 +33,20 @@ module _ (c : tie.After-stripes) where
       (sym c.stripes.ensures)
       (begin.pre.0, begin.pre.1, begin.pre.2)
 
-start-state-requires : tie.Need-start-state-requires
-start-state-requires c κs = (frames c.before, (known c.before).0)
+start_state_requires : tie.Need-start-state-requires
+start_state_requires c κs = (frames c.before, (known c.before).0)
 
-find-aims-requires : tie.Need-find-aims-requires
-find-aims-requires c κs =
+find_aims_requires : tie.Need-find-aims-requires
+find_aims_requires c κs =
     let y = c.before.before in
     let b = y.before.before in
     let f = frames b in
     let r = b.stripes.result in
     let k = known b in
-    let e = y.start-state.ensures f k.0 in (
-      read-stands f r (count b) k.0 k.1 _ e,
-      read-good f r (count b) k.0 k.1 _ e,
-      read-beside f r (count b) k.0 k.1 _ e (begin b).args.links.now k.2,
+    let e = y.start_state.ensures f k.0 in (
+      read_stands f r (count b) k.0 k.1 _ e,
+      read_good f r (count b) k.0 k.1 _ e,
+      read_beside f r (count b) k.0 k.1 _ e (begin b).args.links.now k.2,
       (begin b).requires.3,
     )
 
@@ -55,8 +55,8 @@ returns c =
     let y = c.before.before.before in
     let b = y.before.before in
     let k = known b in
-    let read = read-program (frames b) b.stripes.result (count b) k.0 k.1 _ (y.start-state.ensures (frames b) k.0) in
-    aims-as _ _ (read ∙ ap (λ (z : List ℕ). input_of (frames b) z (count b)) b.stripes.ensures) c.find-aims.ensures
+    let read = read_program (frames b) b.stripes.result (count b) k.0 k.1 _ (y.start_state.ensures (frames b) k.0) in
+    aims_as _ _ (read ∙ ap (λ (z : List ℕ). input_of (frames b) z (count b)) b.stripes.ensures) c.find_aims.ensures
 
-pub find-aims-read-spec : {M : Type 1} → statement M
-find-aims-read-spec = tie.close (tie.spec (λ c κs. search rules) start-state-requires find-aims-requires returns)
+pub find_aims_read_spec : {M : Type 1} → statement M
+find_aims_read_spec = tie.close (tie.spec (λ c κs. search rules) start_state_requires find_aims_requires returns)

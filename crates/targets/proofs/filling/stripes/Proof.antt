@@ -6,46 +6,46 @@ use Prim.Native.Nat.{ℕ, suc, ◌+◌, ◌-◌, ◌/◌, ◌%◌, ◌≤◌, �
 use native.Mathlib.Omega.{arith}
 use lib.ListN.{length, get_or, set, length-set, length-replicate}
 use lib.Seq.{get_or-set_same, get_or-set_other}
-use Rattle.laws.proofs.Counts.{below_suc, tab-is}
-use Rattle.slots.specs.State.{startsIn}
+use Rattle.laws.proofs.Counts.{below_suc, tab_is}
+use Rattle.slots.specs.State.{starts_in}
 use Rattle.targets.proofs.filling.stripes.Statement.{statement}
 use Rattle.targets.proofs.filling.stripes.Tie as tie
 
 abbrev number_at : (state : List (List ℕ)) (k : ℕ) → ℕ
 number_at state k = get_or (get_or state (k / 1025) []) (k % 1025) 0
 
-abbrev invariant-loop : tie.invariant-loop
-invariant-loop state starts₀ k₀ starts k = (k ≤ 4100) × (length starts ≡ 4100) × ((j : ℕ) → j < k → get_or starts j 0 ≡ number_at state j)
+abbrev invariant_loop : tie.invariant_loop
+invariant_loop state starts₀ k₀ starts k = (k ≤ 4100) × (length starts ≡ 4100) × ((j : ℕ) → j < k → get_or starts j 0 ≡ number_at state j)
 
-abbrev decreases-loop : tie.decreases-loop
-decreases-loop state starts₀ k₀ starts k = 4100 - k
+abbrev decreases_loop : tie.decreases_loop
+decreases_loop state starts₀ k₀ starts k = 4100 - k
 
-loop-holds : tie.Need-loop-init invariant-loop decreases-loop
-loop-holds c = (omega arith, length-replicate {A = ℕ} 4100 0, λ j l. absurd (omega arith))
+loop_holds : tie.Need-loop-init invariant_loop decreases_loop
+loop_holds c = (omega arith, length-replicate {A = ℕ} 4100 0, λ j l. absurd (omega arith))
 
-mul-starts : tie.Need-overflow-mul-starts invariant-loop decreases-loop
-mul-starts c = omega arith
+mul_starts : tie.Need-overflow-mul-starts invariant_loop decreases_loop
+mul_starts c = omega arith
 
-mul-starts-2 : tie.Need-overflow-mul-starts-2 invariant-loop decreases-loop
-mul-starts-2 c = omega arith
+mul_starts_2 : tie.Need-overflow-mul-starts-2 invariant_loop decreases_loop
+mul_starts_2 c = omega arith
 
-index-1-starts : tie.Need-bounds-1-starts invariant-loop decreases-loop
-index-1-starts c = omega arith
+index_1_starts : tie.Need-bounds-1-starts invariant_loop decreases_loop
+index_1_starts c = omega arith
 
-index-2-starts : tie.Need-bounds-2-starts invariant-loop decreases-loop
-index-2-starts c = omega arith
+index_2_starts : tie.Need-bounds-2-starts invariant_loop decreases_loop
+index_2_starts c = omega arith
 
-mul-starts-3 : tie.Need-overflow-mul-starts-3 invariant-loop decreases-loop
-mul-starts-3 c = omega arith
+mul_starts_3 : tie.Need-overflow-mul-starts-3 invariant_loop decreases_loop
+mul_starts_3 c = omega arith
 
-array-write-starts : tie.Need-array-write-starts invariant-loop decreases-loop
-array-write-starts c = omega arith
+array_write_starts : tie.Need-array-write-starts invariant_loop decreases_loop
+array_write_starts c = omega arith
 
-add-k : tie.Need-overflow-add-k invariant-loop decreases-loop
-add-k c = omega arith
+add_k : tie.Need-overflow-add-k invariant_loop decreases_loop
+add_k c = omega arith
 
-loop-less : tie.Need-loop-smaller invariant-loop decreases-loop
-loop-less c = omega arith
+loop_less : tie.Need-loop-smaller invariant_loop decreases_loop
+loop_less c = omega arith
 
 -- one number more
 next : (state : List (List ℕ)) (starts : List ℕ) (k : ℕ) → k < length starts → ((j : ℕ) → j < k → get_or starts j 0 ≡ number_at state j)
@@ -56,8 +56,8 @@ next state starts k h below j l =
     (λ lt. get_or-set_other starts k j (number_at state k) 0 (λ e. omega arith) ∙ below j lt)
     (below_suc j k (let m : j < suc k = omega arith in m))
 
-loop-again : tie.Need-loop-preserved invariant-loop decreases-loop
-loop-again c =
+loop_again : tie.Need-loop-preserved invariant_loop decreases_loop
+loop_again c =
     let l = c.before.before.loop in
     let s = c.before.before.before in (
       omega arith,
@@ -65,26 +65,26 @@ loop-again c =
       next s.args.state.now l.starts l.k (omega (arith, l.invariant.1)) l.invariant.2,
     )
 
-returns : tie.Need-returns invariant-loop decreases-loop
-unfolding startsIn
+returns : tie.Need-returns invariant_loop decreases_loop
+unfolding starts_in
 returns c =
     let l = c.before.loop in
-    tab-is (number_at c.before.before.args.state.now) 4100 l.starts 0 l.invariant.1 (λ i h. l.invariant.2 i (omega arith))
+    tab_is (number_at c.before.before.args.state.now) 4100 l.starts 0 l.invariant.1 (λ i h. l.invariant.2 i (omega arith))
 
-pub stripes-spec : {M : Type 1} → statement M
-stripes-spec =
+pub stripes_spec : {M : Type 1} → statement M
+stripes_spec =
     tie.close
     (tie.spec
-    invariant-loop
-    decreases-loop
-    loop-holds
-    mul-starts
-    mul-starts-2
-    index-1-starts
-    index-2-starts
-    mul-starts-3
-    array-write-starts
-    add-k
-    loop-less
-    loop-again
+    invariant_loop
+    decreases_loop
+    loop_holds
+    mul_starts
+    mul_starts_2
+    index_1_starts
+    index_2_starts
+    mul_starts_3
+    array_write_starts
+    add_k
+    loop_less
+    loop_again
     returns)

@@ -14,8 +14,8 @@ returns : tie.Need-returns
 returns c =
     let s = c.before.before in record { size = s.requires.0; bound = s.requires.1; within = omega arith; is = λ h. absurd (omega arith) }
 
-put-number-requires : tie.Need-put-number-requires
-put-number-requires c κs =
+put_number_requires : tie.Need-put-number-requires
+put_number_requires c κs =
     let s = c.before.before.before.before.before.before.before.before.before.before.before in
     let w4 = c.before in
     let w3 = w4.before.before in
@@ -23,20 +23,20 @@ put-number-requires c κs =
     let w1 = w2.before.before in
     (s.requires.0, s.requires.1, omega (arith, w1.wide.ensures.1, w2.wide2.ensures.1, w3.wide3.ensures.1, w4.wide4.ensures.1))
 
-returns-2 : tie.Need-returns-2
-returns-2 c =
+returns_2 : tie.Need-returns-2
+returns_2 c =
     let w4 = c.before.before in
     let w3 = w4.before.before in
     let w2 = w3.before.before in
     let w1 = w2.before.before in
     let e = w1.before.before in
-    let r = c.put-number.ensures in
+    let r = c.put_number.ensures in
     let high = ap₂ (λ x y. x * 16777216 + y * 65536) w1.wide.ensures.0 w2.wide2.ensures.0 in
     let low = ap₂ (λ x y. x + y) (ap₂ (λ x y. x + y) high (ap (λ x. x * 256) w3.wide3.ensures.0)) w4.wide4.ensures.0 in
     record { size = r.size; bound = r.within; within = e.if1.false; is = λ h. (same_text (ap (λ x. number (to_z w32 x)) low) r, refl) }
 
-pub number-at-spec : {M : Type 1} → statement M
-number-at-spec =
+pub number_at_spec : {M : Type 1} → statement M
+number_at_spec =
     tie.close
     (tie.spec
     returns
@@ -54,5 +54,5 @@ number-at-spec =
     (λ c. search rules)
     (λ c κs. search rules)
     (λ c. search rules)
-    put-number-requires
-    returns-2)
+    put_number_requires
+    returns_2)

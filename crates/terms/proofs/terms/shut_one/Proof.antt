@@ -7,5 +7,5 @@ use Rattle.terms.proofs.terms.shut_one.Tie as tie
 returns : tie.Need-returns
 returns c = wrote_then c.before.before.put.ensures c.put_if.ensures
 
-pub shut-one-spec : {M : Type 1} → statement M
-shut-one-spec = tie.close (tie.spec (λ c κs. search rules) (λ c κs. search rules) returns)
+pub shut_one_spec : {M : Type 1} → statement M
+shut_one_spec = tie.close (tie.spec (λ c κs. search rules) (λ c κs. search rules) returns)

@@ -2,31 +2,31 @@
 use mathlib.Core.Path.{sym, subst}
 use borrow.Author.Rules.{rules}
 use Rattle.staying.specs.declared.Reason.{Reason}
-use Rattle.staying.specs.Lines.{faultIn}
+use Rattle.staying.specs.Lines.{fault_in}
 use Rattle.fault.specs.Faults.{IsFault}
 use Rattle.why.proofs.lines.fault_in.Statement.{statement}
 use Rattle.why.proofs.lines.fault_in.Tie as tie
 
 returns : tie.Need-returns
-returns c = subst (λ (q : Reason). IsFault c.fault-of.result (faultIn q)) (sym c.before.before.reason.given.1) c.fault-of.ensures
+returns c = subst (λ (q : Reason). IsFault c.fault_of.result (fault_in q)) (sym c.before.before.reason.given.1) c.fault_of.ensures
 
-returns-2 : tie.Need-returns-2
-returns-2 c = subst (λ (q : Reason). IsFault c.no-fault.result (faultIn q)) (sym c.before.enum_told.given.1) c.no-fault.ensures
+returns_2 : tie.Need-returns-2
+returns_2 c = subst (λ (q : Reason). IsFault c.no_fault.result (fault_in q)) (sym c.before.enum_told.given.1) c.no_fault.ensures
 
-returns-3 : tie.Need-returns-3
-returns-3 c = subst (λ (q : Reason). IsFault c.no-fault2.result (faultIn q)) (sym c.before.enum-told2.given.1) c.no-fault2.ensures
+returns_3 : tie.Need-returns-3
+returns_3 c = subst (λ (q : Reason). IsFault c.no_fault2.result (fault_in q)) (sym c.before.enum_told2.given.1) c.no_fault2.ensures
 
-returns-4 : tie.Need-returns-4
-returns-4 c = subst (λ (q : Reason). IsFault c.no-fault3.result (faultIn q)) (sym c.before.enum-told3.given.1) c.no-fault3.ensures
+returns_4 : tie.Need-returns-4
+returns_4 c = subst (λ (q : Reason). IsFault c.no_fault3.result (fault_in q)) (sym c.before.enum_told3.given.1) c.no_fault3.ensures
 
-returns-5 : tie.Need-returns-5
-returns-5 c = subst (λ (q : Reason). IsFault c.no-fault4.result (faultIn q)) (sym c.before.enum-told4.given.1) c.no-fault4.ensures
+returns_5 : tie.Need-returns-5
+returns_5 c = subst (λ (q : Reason). IsFault c.no_fault4.result (fault_in q)) (sym c.before.enum_told4.given.1) c.no_fault4.ensures
 
-returns-6 : tie.Need-returns-6
-returns-6 c = subst (λ (q : Reason). IsFault c.no-fault5.result (faultIn q)) (sym c.before.enum-told5.given.1) c.no-fault5.ensures
+returns_6 : tie.Need-returns-6
+returns_6 c = subst (λ (q : Reason). IsFault c.no_fault5.result (fault_in q)) (sym c.before.enum_told5.given.1) c.no_fault5.ensures
 
-pub fault-in-spec : {M : Type 1} → statement M
-fault-in-spec =
+pub fault_in_spec : {M : Type 1} → statement M
+fault_in_spec =
     tie.close
     (tie.spec
     (λ c. search rules)
@@ -42,8 +42,8 @@ fault-in-spec =
     (λ c. search rules)
     (λ c κs. search rules)
     returns
-    returns-2
-    returns-3
-    returns-4
-    returns-5
-    returns-6)
+    returns_2
+    returns_3
+    returns_4
+    returns_5
+    returns_6)

@@ -6,8 +6,8 @@ use borrow.Author.Tests.{not-true, not-false}
 use Rattle.rules.specs.Programs.{Program}
 use Rattle.slots.specs.Slots.{program_of}
 use Rattle.slots.specs.State.{table_of}
-use Rattle.patterns.specs.Order.{patternOf}
-use Rattle.why.proofs.Numbers.{fold-off, fold_on, br-on, jmp-on, call-off, call-on, br-fits, jmp-fits, call_fits, jmpf-transfers, callf-transfers}
+use Rattle.patterns.specs.Order.{pattern_of}
+use Rattle.why.proofs.Numbers.{fold_off, fold_on, br_on, jmp_on, call_off, call_on, br_fits, jmp_fits, call_fits, jmpf_transfers, callf_transfers}
 use Rattle.why.proofs.tries.attempted.Statement.{statement}
 use Rattle.why.proofs.tries.attempted.Tie as tie
 
@@ -19,54 +19,54 @@ module _ (s : tie.Start) where
   inside = omega (arith, s.pre.3)
 
 returns : tie.Need-returns
-returns c = let s = c.before.before.before.before in fold-off s.args.asked (program s) s.args.m c.before.before.if1.true (not-true _ c.if2.true)
+returns c = let s = c.before.before.before.before in fold_off s.args.asked (program s) s.args.m c.before.before.if1.true (not-true _ c.if2.true)
 
-pattern-requires : tie.Need-pattern-requires
-pattern-requires c κs = c.before.before.if1.true
+pattern_requires : tie.Need-pattern-requires
+pattern_requires c κs = c.before.before.if1.true
 
-try-fold-requires : tie.Need-try-fold-requires
-try-fold-requires c κs = let s = c.before.before.before.before.before in (s.requires.0, c.pattern.ensures.1, inside s, s.requires.2)
+try_fold_requires : tie.Need-try-fold-requires
+try_fold_requires c κs = let s = c.before.before.before.before.before in (s.requires.0, c.pattern.ensures.1, inside s, s.requires.2)
 
-returns-2 : tie.Need-returns-2
-returns-2 c =
+returns_2 : tie.Need-returns-2
+returns_2 c =
     let s = c.before.before.before.before.before.before in
-    fold_on s.args.asked (program s) s.args.m c.before.before.before.before.if1.true (not-false _ c.before.before.if2.false) (patternOf c.before.pattern.result) c.before.pattern.ensures.0 _ c.try-fold.ensures
+    fold_on s.args.asked (program s) s.args.m c.before.before.before.before.if1.true (not-false _ c.before.before.if2.false) (pattern_of c.before.pattern.result) c.before.pattern.ensures.0 _ c.try_fold.ensures
 
-try-shorter-requires : tie.Need-try-shorter-requires
-try-shorter-requires c κs = let s = c.before.before.before in (s.requires.0, s.requires.1, s.requires.2, inside s, jmpf-transfers, br-fits)
+try_shorter_requires : tie.Need-try-shorter-requires
+try_shorter_requires c κs = let s = c.before.before.before in (s.requires.0, s.requires.1, s.requires.2, inside s, jmpf_transfers, br_fits)
 
-returns-3 : tie.Need-returns-3
-returns-3 c = let s = c.before.before.before.before in br-on s.args.asked (program s) s.args.m c.before.if3.true _ c.try-shorter.ensures
+returns_3 : tie.Need-returns-3
+returns_3 c = let s = c.before.before.before.before in br_on s.args.asked (program s) s.args.m c.before.if3.true _ c.try_shorter.ensures
 
-try-shorter-requires-2 : tie.Need-try-shorter-requires-2
-try-shorter-requires-2 c κs = let s = c.before.before.before.before in (s.requires.0, s.requires.1, s.requires.2, inside s, jmpf-transfers, jmp-fits)
+try_shorter_requires_2 : tie.Need-try-shorter-requires-2
+try_shorter_requires_2 c κs = let s = c.before.before.before.before in (s.requires.0, s.requires.1, s.requires.2, inside s, jmpf_transfers, jmp_fits)
 
-returns-4 : tie.Need-returns-4
-returns-4 c = let s = c.before.before.before.before.before in jmp-on s.args.asked (program s) s.args.m c.before.if4.true _ c.try-shorter2.ensures
+returns_4 : tie.Need-returns-4
+returns_4 c = let s = c.before.before.before.before.before in jmp_on s.args.asked (program s) s.args.m c.before.if4.true _ c.try_shorter2.ensures
 
-returns-5 : tie.Need-returns-5
-returns-5 c = let s = c.before.before.before.before.before.before in call-off s.args.asked (program s) s.args.m c.before.before.before.before.if1.false c.before.before.before.if3.false c.before.before.if4.false (not-true _ c.if5.true)
+returns_5 : tie.Need-returns-5
+returns_5 c = let s = c.before.before.before.before.before.before in call_off s.args.asked (program s) s.args.m c.before.before.before.before.if1.false c.before.before.before.if3.false c.before.before.if4.false (not-true _ c.if5.true)
 
-try-shorter-requires-3 : tie.Need-try-shorter-requires-3
-try-shorter-requires-3 c κs = let s = c.before.before.before.before.before.before in (s.requires.0, s.requires.1, s.requires.2, inside s, callf-transfers, call_fits)
+try_shorter_requires_3 : tie.Need-try-shorter-requires-3
+try_shorter_requires_3 c κs = let s = c.before.before.before.before.before.before in (s.requires.0, s.requires.1, s.requires.2, inside s, callf_transfers, call_fits)
 
-returns-6 : tie.Need-returns-6
-returns-6 c =
+returns_6 : tie.Need-returns-6
+returns_6 c =
     let s = c.before.before.before.before.before.before.before in
-    call-on s.args.asked (program s) s.args.m c.before.before.before.before.before.if1.false c.before.before.before.before.if3.false c.before.before.before.if4.false (not-false _ c.before.if5.false) _ c.try-shorter3.ensures
+    call_on s.args.asked (program s) s.args.m c.before.before.before.before.before.if1.false c.before.before.before.before.if3.false c.before.before.before.if4.false (not-false _ c.before.if5.false) _ c.try_shorter3.ensures
 
-pub attempted-spec : {M : Type 1} → statement M
-attempted-spec =
+pub attempted_spec : {M : Type 1} → statement M
+attempted_spec =
     tie.close
     (tie.spec
     returns
-    pattern-requires
-    try-fold-requires
-    returns-2
-    try-shorter-requires
-    returns-3
-    try-shorter-requires-2
-    returns-4
-    returns-5
-    try-shorter-requires-3
-    returns-6)
+    pattern_requires
+    try_fold_requires
+    returns_2
+    try_shorter_requires
+    returns_3
+    try_shorter_requires_2
+    returns_4
+    returns_5
+    try_shorter_requires_3
+    returns_6)

@@ -8,9 +8,9 @@ use Rattle.slots.specs.Slots.{Slots, program_of}
 use Rattle.slots.specs.State.{table_of}
 use Rattle.patterns.specs.Matches.{TrampolineShaped, TrampolineBegins}
 use Rattle.attempts.proofs.Attempts.{told}
-use Rattle.staying.specs.Reasons.{reasonOf}
-use Rattle.why.proofs.Said.{fold-untried, fold-between, fold-inside, fold-said}
-use Rattle.why.proofs.Found.{bounces, bounced-left}
+use Rattle.staying.specs.Reasons.{reason_of}
+use Rattle.why.proofs.Said.{fold_untried, fold_between, fold_inside, fold_said}
+use Rattle.why.proofs.Found.{bounces, bounced_left}
 use Rattle.why.proofs.tries.try_trampoline.Statement.{statement}
 use Rattle.why.proofs.tries.try_trampoline.Tie as tie
 
@@ -21,11 +21,11 @@ module _ (s : tie.Start) where
   abbrev i : ℕ
   i = s.args.at.0
 
-trampoline-shape-requires : tie.Need-trampoline-shape-requires
-trampoline-shape-requires c κs = let s = c.before in (s.requires.0.sound, told (old s) s.args.links.now s.requires.0 s.requires.3, s.requires.1, s.requires.2)
+trampoline_shape_requires : tie.Need-trampoline-shape-requires
+trampoline_shape_requires c κs = let s = c.before in (s.requires.0.sound, told (old s) s.args.links.now s.requires.0 s.requires.3, s.requires.1, s.requires.2)
 
-enum-known-skip : tie.Need-enum-known-skip
-enum-known-skip c = search rules
+enum_known_skip : tie.Need-enum-known-skip
+enum_known_skip c = search rules
 
 enum_told : tie.Need-enum-told
 enum_told c = search rules
@@ -34,8 +34,8 @@ returns : tie.Need-returns
 returns c =
     let m = c.before.before in
     let s = c.before.before.before.before in
-    fold-untried (program_of (old s)) (trampoline s.args.form) (i s)
-    (subst (TrampolineBegins (old s) s.args.form (i s)) c.enum_told.given.1 m.trampoline-shape.ensures)
+    fold_untried (program_of (old s)) (trampoline s.args.form) (i s)
+    (subst (TrampolineBegins (old s) s.args.form (i s)) c.enum_told.given.1 m.trampoline_shape.ensures)
 
 -- the shape that stands
 module _ (c : tie.After-skip) where
@@ -55,54 +55,54 @@ module _ (c : tie.After-skip) where
   label = c.skip.given.0.1.1.1.0.0
 
   found : TrampolineShaped (old start) start.args.form (i start) skip target last label
-  found = subst (TrampolineBegins (old start) start.args.form (i start)) c.skip.given.1 c.before.before.trampoline-shape.ensures
+  found = subst (TrampolineBegins (old start) start.args.form (i start)) c.skip.given.1 c.before.before.trampoline_shape.ensures
 
-no-inner-label-between-requires : tie.Need-no-inner-label-between-requires
-no-inner-label-between-requires c κs = c.before.before.before.before.before.requires.0.sound
+no_inner_label_between_requires : tie.Need-no-inner-label-between-requires
+no_inner_label_between_requires c κs = c.before.before.before.before.before.requires.0.sound
 
-returns-2 : tie.Need-returns-2
-returns-2 c =
+returns_2 : tie.Need-returns-2
+returns_2 c =
     let j = c.before.before.before in
     let s = start j in
-    fold-between (program_of (old s)) (trampoline s.args.form) (i s) _ (found j).shape (sym c.before.no-inner-label-between.ensures ∙ not-true _ c.if1.true)
+    fold_between (program_of (old s)) (trampoline s.args.form) (i s) _ (found j).shape (sym c.before.no_inner_label_between.ensures ∙ not-true _ c.if1.true)
 
-no-interior-label-at-requires : tie.Need-no-interior-label-at-requires
-no-interior-label-at-requires c κs = c.before.before.before.before.before.before.before.requires.0.sound
+no_interior_label_at_requires : tie.Need-no-interior-label-at-requires
+no_interior_label_at_requires c κs = c.before.before.before.before.before.before.before.requires.0.sound
 
-returns-3 : tie.Need-returns-3
-returns-3 c =
+returns_3 : tie.Need-returns-3
+returns_3 c =
     let j = c.before.before.before.before.before in
     let s = start j in
-    fold-inside (program_of (old s)) (trampoline s.args.form) (i s) _ (found j).shape
-    (sym c.before.before.before.no-inner-label-between.ensures ∙ not-false _ c.before.before.if1.false)
-    (sym c.before.no-interior-label-at.ensures ∙ not-true _ c.if2.true)
+    fold_inside (program_of (old s)) (trampoline s.args.form) (i s) _ (found j).shape
+    (sym c.before.before.before.no_inner_label_between.ensures ∙ not-false _ c.before.before.if1.false)
+    (sym c.before.no_interior_label_at.ensures ∙ not-true _ c.if2.true)
 
-bounced-reason-requires : tie.Need-bounced-reason-requires
-bounced-reason-requires c κs =
+bounced_reason_requires : tie.Need-bounced-reason-requires
+bounced_reason_requires c κs =
     let j = c.before.before.before.before.before in
     let s = start j in
     (s.pre.0, bounces (old s) s.args.form (i s) (skip j) (target j) (last j) (label j) (found j), s.pre.3)
 
-returns-4 : tie.Need-returns-4
-returns-4 c =
+returns_4 : tie.Need-returns-4
+returns_4 c =
     let j = c.before.before.before.before.before.before in
     let s = start j in
-    fold-said (program_of (old s)) (trampoline s.args.form) (i s) _ (found j).shape
-    (sym c.before.before.before.before.no-inner-label-between.ensures ∙ not-false _ c.before.before.before.if1.false)
-    (sym c.before.before.no-interior-label-at.ensures ∙ not-false _ c.before.if2.false)
-    c.bounced-reason.result (c.bounced-reason.ensures ∙ ap reasonOf (bounced-left (old s) s.args.form (i s) (skip j) (target j) (last j)))
+    fold_said (program_of (old s)) (trampoline s.args.form) (i s) _ (found j).shape
+    (sym c.before.before.before.before.no_inner_label_between.ensures ∙ not-false _ c.before.before.before.if1.false)
+    (sym c.before.before.no_interior_label_at.ensures ∙ not-false _ c.before.if2.false)
+    c.bounced_reason.result (c.bounced_reason.ensures ∙ ap reason_of (bounced_left (old s) s.args.form (i s) (skip j) (target j) (last j)))
 
-pub try-trampoline-spec : {M : Type 1} → statement M
-try-trampoline-spec =
+pub try_trampoline_spec : {M : Type 1} → statement M
+try_trampoline_spec =
     tie.close
     (tie.spec
-    trampoline-shape-requires
-    enum-known-skip
+    trampoline_shape_requires
+    enum_known_skip
     enum_told
     returns
-    no-inner-label-between-requires
-    returns-2
-    no-interior-label-at-requires
-    returns-3
-    bounced-reason-requires
-    returns-4)
+    no_inner_label_between_requires
+    returns_2
+    no_interior_label_at_requires
+    returns_3
+    bounced_reason_requires
+    returns_4)

@@ -1,117 +1,117 @@
 -- `statements::line` meets its contract.
 use mathlib.Core.Path.{◌≡◌}
 use lib.ListN.{get_or}
-use Rattle.wording.proofs.Lineds.{least, long, long-by, known-form, data-left, data-long, lined, lined-data}
+use Rattle.wording.proofs.Lineds.{least, long, long_by, known_form, data_left, data_long, lined, lined_data}
 use Rattle.wording.proofs.statements.line.Statement.{statement}
 use Rattle.wording.proofs.statements.line.Tie as tie
 
-shared-slice-read-kind : tie.Need-shared-slice-read-kind
-shared-slice-read-kind c = let a = c.before.before in (long a.args.frame.now a.requires.1).0
+shared_slice_read_kind : tie.Need-shared-slice-read-kind
+shared_slice_read_kind c = let a = c.before.before in (long a.args.frame.now a.requires.1).0
 
-instruction-line-requires : tie.Need-instruction-line-requires
+instruction_line_requires : tie.Need-instruction-line-requires
 unfolding least
-instruction-line-requires c κs =
+instruction_line_requires c κs =
     let a = c.before.before.before.before in
     let s = a.args.frame.now in
     let t : get_or s 0 0 ≡ 1 = c.before.if1.true in
-    (a.requires.0, long-by s a.requires.1 1 t, known-form s a.requires.1 t)
+    (a.requires.0, long_by s a.requires.1 1 t, known_form s a.requires.1 t)
 
 returns : tie.Need-returns
-returns c = lined c.before.before.before.before.before.args.frame.now 1 c.before.before.if1.true c.instruction-line.ensures
+returns c = lined c.before.before.before.before.before.args.frame.now 1 c.before.before.if1.true c.instruction_line.ensures
 
-label-line-requires : tie.Need-label-line-requires
+label_line_requires : tie.Need-label-line-requires
 unfolding least
-label-line-requires c κs =
-    let a = c.before.before.before.before.before in (a.requires.0, long-by a.args.frame.now a.requires.1 2 c.before.if2.true)
+label_line_requires c κs =
+    let a = c.before.before.before.before.before in (a.requires.0, long_by a.args.frame.now a.requires.1 2 c.before.if2.true)
 
-returns-2 : tie.Need-returns-2
-returns-2 c = lined c.before.before.before.before.before.before.args.frame.now 2 c.before.before.if2.true c.label-line.ensures
+returns_2 : tie.Need-returns-2
+returns_2 c = lined c.before.before.before.before.before.before.args.frame.now 2 c.before.before.if2.true c.label_line.ensures
 
-variable-line-requires : tie.Need-variable-line-requires
+variable_line_requires : tie.Need-variable-line-requires
 unfolding least
-variable-line-requires c κs =
-    let a = c.before.before.before.before.before.before in (a.requires.0, long-by a.args.frame.now a.requires.1 3 c.before.if3.true)
+variable_line_requires c κs =
+    let a = c.before.before.before.before.before.before in (a.requires.0, long_by a.args.frame.now a.requires.1 3 c.before.if3.true)
 
-returns-3 : tie.Need-returns-3
-returns-3 c =
-    lined c.before.before.before.before.before.before.before.args.frame.now 3 c.before.before.if3.true c.variable-line.ensures
+returns_3 : tie.Need-returns-3
+returns_3 c =
+    lined c.before.before.before.before.before.before.before.args.frame.now 3 c.before.before.if3.true c.variable_line.ensures
 
-comment-line-requires : tie.Need-comment-line-requires
-comment-line-requires c κs =
+comment_line_requires : tie.Need-comment-line-requires
+comment_line_requires c κs =
     let a = c.before.before.before.before.before.before.before in (a.requires.0, (long a.args.frame.now a.requires.1).0)
 
-returns-4 : tie.Need-returns-4
-returns-4 c =
+returns_4 : tie.Need-returns-4
+returns_4 c =
     lined c.before.before.before.before.before.before.before.before.args.frame.now 4 c.before.before.if4.true
-    c.comment-line.ensures
+    c.comment_line.ensures
 
-org-line-requires : tie.Need-org-line-requires
+org_line_requires : tie.Need-org-line-requires
 unfolding least
-org-line-requires c κs =
+org_line_requires c κs =
     let a = c.before.before.before.before.before.before.before.before in
-    (a.requires.0, long-by a.args.frame.now a.requires.1 5 c.before.if5.true)
+    (a.requires.0, long_by a.args.frame.now a.requires.1 5 c.before.if5.true)
 
-returns-5 : tie.Need-returns-5
-returns-5 c =
+returns_5 : tie.Need-returns-5
+returns_5 c =
     lined c.before.before.before.before.before.before.before.before.before.args.frame.now 5 c.before.before.if5.true
-    c.org-line.ensures
+    c.org_line.ensures
 
-pad-line-requires : tie.Need-pad-line-requires
+pad_line_requires : tie.Need-pad-line-requires
 unfolding least
-pad-line-requires c κs =
+pad_line_requires c κs =
     let a = c.before.before.before.before.before.before.before.before.before in
-    (a.requires.0, long-by a.args.frame.now a.requires.1 8 c.before.if6.true)
+    (a.requires.0, long_by a.args.frame.now a.requires.1 8 c.before.if6.true)
 
-returns-6 : tie.Need-returns-6
-returns-6 c =
+returns_6 : tie.Need-returns-6
+returns_6 c =
     lined c.before.before.before.before.before.before.before.before.before.before.args.frame.now 8 c.before.before.if6.true
-    c.pad-line.ensures
+    c.pad_line.ensures
 
-data-line-requires : tie.Need-data-line-requires
-data-line-requires c κs =
+data_line_requires : tie.Need-data-line-requires
+data_line_requires c κs =
     let e = c.before in
     let a = e.before.before.before.before.before.before.before.before in
     let s = a.args.frame.now in
-    let w = data-long s a.requires.1 (data-left s a.requires.1 (record {
-      no-instr = e.before.before.before.before.before.if1.false;
+    let w = data_long s a.requires.1 (data_left s a.requires.1 (record {
+      no_instr = e.before.before.before.before.before.if1.false;
       no_label = e.before.before.before.before.if2.false;
-      no-variable = e.before.before.before.if3.false;
-      no-comment = e.before.before.if4.false;
-      no-org = e.before.if5.false;
-      no-pad = e.if6.false;
+      no_variable = e.before.before.before.if3.false;
+      no_comment = e.before.before.if4.false;
+      no_org = e.before.if5.false;
+      no_pad = e.if6.false;
     })) in
     (a.requires.0, w.0, w.1, w.2)
 
-returns-7 : tie.Need-returns-7
-returns-7 c =
+returns_7 : tie.Need-returns-7
+returns_7 c =
     let e = c.before.before in
     let a = e.before.before.before.before.before.before.before.before in
     let s = a.args.frame.now in
-    lined-data s (data-left s a.requires.1 (record {
-      no-instr = e.before.before.before.before.before.if1.false;
+    lined_data s (data_left s a.requires.1 (record {
+      no_instr = e.before.before.before.before.before.if1.false;
       no_label = e.before.before.before.before.if2.false;
-      no-variable = e.before.before.before.if3.false;
-      no-comment = e.before.before.if4.false;
-      no-org = e.before.if5.false;
-      no-pad = e.if6.false;
-    })) c.data-line.ensures
+      no_variable = e.before.before.before.if3.false;
+      no_comment = e.before.before.if4.false;
+      no_org = e.before.if5.false;
+      no_pad = e.if6.false;
+    })) c.data_line.ensures
 
-pub line-spec : {M : Type 1} → statement M
-line-spec =
+pub line_spec : {M : Type 1} → statement M
+line_spec =
     tie.close
     (tie.spec
-    shared-slice-read-kind
-    instruction-line-requires
+    shared_slice_read_kind
+    instruction_line_requires
     returns
-    label-line-requires
-    returns-2
-    variable-line-requires
-    returns-3
-    comment-line-requires
-    returns-4
-    org-line-requires
-    returns-5
-    pad-line-requires
-    returns-6
-    data-line-requires
-    returns-7)
+    label_line_requires
+    returns_2
+    variable_line_requires
+    returns_3
+    comment_line_requires
+    returns_4
+    org_line_requires
+    returns_5
+    pad_line_requires
+    returns_6
+    data_line_requires
+    returns_7)

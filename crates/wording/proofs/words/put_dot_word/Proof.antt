@@ -7,5 +7,5 @@ use Rattle.wording.proofs.words.put_dot_word.Tie as tie
 returns : tie.Need-returns
 returns c = same_text c.before.before.before.dot_word.ensures.0 c.put_word.ensures
 
-pub put-dot-word-spec : {M : Type 1} → statement M
-put-dot-word-spec = tie.close (tie.spec (λ c κs. search rules) (λ c. search rules) (λ c κs. search rules) returns)
+pub put_dot_word_spec : {M : Type 1} → statement M
+put_dot_word_spec = tie.close (tie.spec (λ c κs. search rules) (λ c. search rules) (λ c κs. search rules) returns)

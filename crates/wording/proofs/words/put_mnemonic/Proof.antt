@@ -7,5 +7,5 @@ use Rattle.wording.proofs.words.put_mnemonic.Tie as tie
 returns : tie.Need-returns
 returns c = same_text c.before.before.before.mnemonic.ensures.0 c.put_word.ensures
 
-pub put-mnemonic-spec : {M : Type 1} → statement M
-put-mnemonic-spec = tie.close (tie.spec (λ c κs. search rules) (λ c. search rules) (λ c κs. search rules) returns)
+pub put_mnemonic_spec : {M : Type 1} → statement M
+put_mnemonic_spec = tie.close (tie.spec (λ c κs. search rules) (λ c. search rules) (λ c κs. search rules) returns)
