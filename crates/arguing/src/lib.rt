@@ -1,5 +1,7 @@
 // C-19: the arguments of an instruction: which of its mnemonic's forms a line is of is told by what stands before each argument, `#`,
 // `@` or nothing.
+#![tactic(auto)]
+
 ghost use Rattle.std.specs.Prelude.{◌≡◌, [], ℕ, ◌+◌, ◌≤◌, ◌<◌, length, drop};
 ghost use Rattle.plans.specs.Families.{args_plan, family_of};
 ghost use Rattle.leaves.specs.declared.Found.{Found};
@@ -14,7 +16,7 @@ use leaves::lexing::look;
 use marks::{mark_of, narrowed};
 
 // An argument: the first form that it leaves, where it ends, where its bytes end; or the byte that no good line could have there.
-#[derive(Drop)]
+#[derive(Clone, Copy)]
 pub enum Arg {
     Ends(u8, usize, usize),
     Not(usize),

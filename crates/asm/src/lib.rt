@@ -1,4 +1,6 @@
 // What is refused of a program in slots, 3 to 11 in document 01's order, as src/asm.rs has `assemble`.
+#![tactic(auto)]
+
 mod candidates; // the verdict on a rewritten program, as a test
 mod judging; // the verdict
 mod names; // 3, then 5 and 6, then the variables
@@ -13,14 +15,14 @@ use rules::{Place, Refusal};
 pub use start::start_state;
 
 // The program assembles, or the first refusal.
-#[derive(Drop)]
+#[derive(Clone, Copy)]
 pub enum Verdict {
     Good,
     Refused(Refusal),
 }
 
 // Where a byte stems from: an offset of the statement at a place; or no statement has it.
-#[derive(Drop)]
+#[derive(Clone, Copy)]
 pub enum Origin {
     At(Place, usize),
     Nothing,

@@ -1,4 +1,6 @@
 // Rewrites that are tried: one edit in place, and undone where the candidate does not count.
+#![tactic(auto)]
+
 mod accepting; // whether a candidate counts
 mod deepest; // how deep inner labels reach
 mod folds; // the two shapes of a fold

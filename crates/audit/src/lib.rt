@@ -1,4 +1,6 @@
 // A shipped image held against what its long listing shrinks to.
+#![tactic(auto)]
+
 use asm::Origin;
 use rules::{Address, Refusal};
 
@@ -10,7 +12,7 @@ pub use entry::audit;
 
 // Both are the same; or the first address at which they are not: both have a byte there, or only the wanted image has, or only the shipped
 // one. With both bytes, the wanted one first, and the origin of the wanted one; or the listing is refused.
-#[derive(Drop)]
+#[derive(Clone, Copy)]
 pub enum Found {
     Same,
     Differs(Address, u8, u8, Origin),

@@ -1,4 +1,6 @@
 // The entries for C and Rust. Nothing is asked of the caller, and every lent byte is accounted for.
+#![tactic(auto)]
+
 mod answering; // an audit, the rewrites, and why something stays
 mod differing; // C-13
 mod exported; // C-21, C-24

@@ -11,7 +11,7 @@ use store::{Edition, Found, Numbered, Setting, Shown};
 
 // Of `add_edition` and `drop_old`: the edition's number.
 #[repr(C)]
-#[derive(Drop)]
+#[derive(Clone, Copy)]
 pub struct NumberedReply {
     pub number: u64,
     pub place: u64,
@@ -22,7 +22,7 @@ pub struct NumberedReply {
 
 // Of `get_edition` and `get_newest`: the edition's number and its settings, 1 for yes.
 #[repr(C)]
-#[derive(Drop)]
+#[derive(Clone, Copy)]
 pub struct FoundReply {
     pub number: u64,
     pub place: u64,
@@ -36,7 +36,7 @@ pub struct FoundReply {
 
 // Of `show_place`: 1 where the place holds an edition, and then which, with its settings, 1 for yes.
 #[repr(C)]
-#[derive(Drop)]
+#[derive(Clone, Copy)]
 pub struct ShownReply {
     pub number: u64,
     pub place: u64,

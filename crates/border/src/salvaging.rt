@@ -12,7 +12,7 @@ use salvage::entry::salvage;
 
 // How many statements come out, and what is in the lent rooms.
 #[repr(C)]
-#[derive(Drop)]
+#[derive(Clone, Copy)]
 pub struct SavedReply {
     pub number: u64,
     pub place: u64,

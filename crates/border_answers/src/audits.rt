@@ -14,7 +14,7 @@ use rules::{Address, Refusal};
 // The finding: 0 the same, 1 another byte, 2 the shipped image ends there, 3 only it goes on. The address, both bytes, and whether the
 // wanted byte belongs to a statement (1), its place and the byte's offset.
 #[repr(C)]
-#[derive(Drop)]
+#[derive(Clone, Copy)]
 pub struct AuditReply {
     pub number: u64,
     pub place: u64,
@@ -30,7 +30,7 @@ pub struct AuditReply {
 }
 
 // The statement that a byte belongs to, as numbers.
-#[derive(Drop)]
+#[derive(Clone, Copy)]
 pub struct Behind {
     pub owned: u64,
     pub statement: u64,

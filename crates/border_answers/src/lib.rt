@@ -1,4 +1,6 @@
 // The answers about the rewriting for C and Rust: an audit, the rewrites, and why something stays, each as a struct of numbers.
+#![tactic(auto)]
+
 mod audits; // an image held against a listing
 mod rewrites; // the rewrites one by one
 mod whys; // why something stays

@@ -11,7 +11,7 @@ use steps::steps;
 
 // How many bytes of lines are in the lent room, and how many rewrites they tell.
 #[repr(C)]
-#[derive(Drop)]
+#[derive(Clone, Copy)]
 pub struct StepsReply {
     pub number: u64,
     pub place: u64,

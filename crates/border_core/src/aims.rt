@@ -9,7 +9,7 @@ use targets::{Told, targets};
 
 // How many bytes of lines are in the lent room, for how many transfers, and how many of them are marked.
 #[repr(C)]
-#[derive(Drop)]
+#[derive(Clone, Copy)]
 pub struct TargetsReply {
     pub number: u64,
     pub place: u64,

@@ -6,7 +6,7 @@ ghost use Rattle.border_core.specs.Replies.{asked_by, Tells};
 use entries::fault_of;
 use rules::{Refusal, Settings};
 
-#[derive(Drop)]
+#[derive(Clone, Copy)]
 pub struct Told {
     pub number: u64,
     pub place: u64,

@@ -12,7 +12,7 @@ use rules::{Answer, Refusal};
 
 // How many bytes of the page are what is printed, how many of them the listing, the rewrites, and the bytes of the image.
 #[repr(C)]
-#[derive(Drop)]
+#[derive(Clone, Copy)]
 pub struct PrintedReply {
     pub number: u64,
     pub place: u64,

@@ -11,7 +11,7 @@ use sits::Sits;
 
 // Of `assemble` and `optimize_jumps`: what is in the lent rooms.
 #[repr(C)]
-#[derive(Drop)]
+#[derive(Clone, Copy)]
 pub struct Reply {
     pub number: u64,
     pub place: u64,
@@ -24,7 +24,7 @@ pub struct Reply {
 
 // Of `check` and `all_sit`: how many statements there are.
 #[repr(C)]
-#[derive(Drop)]
+#[derive(Clone, Copy)]
 pub struct CountedReply {
     pub number: u64,
     pub place: u64,
@@ -35,7 +35,7 @@ pub struct CountedReply {
 
 // Of `where_sits`: the address.
 #[repr(C)]
-#[derive(Drop)]
+#[derive(Clone, Copy)]
 pub struct SitsReply {
     pub number: u64,
     pub place: u64,

@@ -9,7 +9,7 @@ use rules::Refusal;
 
 // What is in the lent rooms; the list has two bytes for each of its `stems` entries.
 #[repr(C)]
-#[derive(Drop)]
+#[derive(Clone, Copy)]
 pub struct StemsReply {
     pub number: u64,
     pub place: u64,

@@ -8,7 +8,7 @@ use rules::Refusal;
 
 // Whose refusal it is, 1 the first listing's, 2 the second's, 0 neither's; and how many bytes of text are in the lent room.
 #[repr(C)]
-#[derive(Drop)]
+#[derive(Clone, Copy)]
 pub struct DiffersReply {
     pub number: u64,
     pub place: u64,

@@ -1,4 +1,6 @@
 // C-19 for the border: a text for people read into a listing, with its answer as a struct of numbers.
+#![tactic(auto)]
+
 ghost use Rattle.rules.specs.declared.Answer.TheVariants.{Refused};
 ghost use Rattle.border_read.specs.Replies.{Says, Replies};
 
@@ -8,7 +10,7 @@ use rules::{Answer, Refusal};
 
 // 0 and the listing's length; or a refusal's number, its place, and for 15 the column.
 #[repr(C)]
-#[derive(Drop)]
+#[derive(Clone, Copy)]
 pub struct ReadReply {
     pub number: u64,
     pub place: u64,

@@ -11,7 +11,7 @@ use rules::Refusal;
 
 // How many bytes of lines are in the lent room, and for how many rows.
 #[repr(C)]
-#[derive(Drop)]
+#[derive(Clone, Copy)]
 pub struct MapReply {
     pub number: u64,
     pub place: u64,

@@ -4,7 +4,7 @@ ghost use Rattle.rules.specs.Forms.{size_at};
 ghost use Rattle.decoding.specs.Opcodes.{form_of_byte};
 
 // A form, and its size in bytes.
-#[derive(Drop)]
+#[derive(Clone, Copy)]
 pub struct Opcode(pub u8, pub usize);
 
 // "Decide by ranges of the first byte".

@@ -65,7 +65,7 @@ pub fn held(form: u8, kind: Kind, b0: u8, b1: u8, b2: u8) -> u16
 }
 
 // The number that is written for an argument.
-#[derive(Drop)]
+#[derive(Clone, Copy)]
 pub enum Number {
     Is(usize),
     Outside,

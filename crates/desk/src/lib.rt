@@ -1,4 +1,6 @@
 // Many listings in one run: blocks of standard input that a line `==` ends, and the answer to each.
+#![tactic(auto)]
+
 mod answers; // one listing
 mod blocks; // where a block ends
 mod rooms; // the front of a room, and digits

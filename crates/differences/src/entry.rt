@@ -14,7 +14,7 @@ use pairing::{Counted, entry_count, find_lines, pair_alike, statements_of, take_
 use rules::{Place, Refusal};
 
 // How many bytes were written, or the first refusal: of the first listing, of the second, or of both with their pairing.
-#[derive(Drop)]
+#[derive(Clone, Copy)]
 pub enum Differs {
     Written(usize),
     OfFirst(Refusal),
@@ -31,7 +31,7 @@ fn same_form(first: &[u8], second: &[u8]) -> bool
 }
 
 // How many pairs there are, or 13.
-#[derive(Drop)]
+#[derive(Clone, Copy)]
 enum Paired {
     Are(usize),
     Refused(Refusal),

@@ -13,7 +13,7 @@ const REMOVED: u8 = 0x71;
 const ADDED: u8 = 0x72;
 
 // How many statements the listings have, and how many pairs there are.
-#[derive(Drop)]
+#[derive(Clone, Copy)]
 pub struct Counts {
     pub first: usize,
     pub second: usize,

@@ -1,4 +1,6 @@
 // Bytes to upper-case digit pairs, stored in a lent room.
+#![tactic(auto)]
+
 ghost use Rattle.std.specs.Prelude.{◌≡◌, ◌+◌, ◌*◌, ◌<◌, ◌≤◌, ◌/◌, ◌%◌, length};
 ghost use Rattle.rules.specs.Output.{hex_digit, hex_byte, line_of};
 ghost use Rattle.digits.specs.Digits.{hex_of, laid};

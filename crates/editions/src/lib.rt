@@ -1,4 +1,6 @@
 // C-24: a run under a family's edition, or under its newest. The store is judged and asked first; the run is that of the settings found.
+#![tactic(auto)]
+
 ghost use Rattle.std.specs.Prelude.{length};
 ghost use Rattle.finishing.specs.Ending.{Delivers};
 ghost use Rattle.editions.specs.Under.{run_found, run_edition, run_newest};

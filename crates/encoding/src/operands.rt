@@ -8,7 +8,7 @@ ghost use Rattle.encoding.specs.Operands.{field_as, ranged, held};
 use rules::{Address, Kind, Place, Refusal};
 
 // What is written for an operand.
-#[derive(Drop)]
+#[derive(Clone, Copy)]
 pub enum Field {
     Is(u16),
     Refused(Refusal),

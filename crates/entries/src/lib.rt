@@ -1,4 +1,6 @@
 // The public entries: nothing is asked of the caller, and every lent byte is accounted for.
+#![tactic(auto)]
+
 mod assembling; // a listing to its image
 mod optimizing; // a listing to its end form
 

@@ -126,7 +126,7 @@ fn place_read(
 }
 
 // What is in the lent rooms, and how many statements came out: the list has two bytes for each.
-#[derive(Drop)]
+#[derive(Clone, Copy)]
 pub enum Stemmed {
     Done(Sizes, usize),
     Refused(Refusal),

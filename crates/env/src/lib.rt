@@ -1,5 +1,7 @@
 // Names by context, positions and variables, as src/env.rs and `compute_names` have them: the maps become tables by place, and each pass over
 // the statements ends at its first refusal.
+#![tactic(auto)]
+
 mod contexts; // the context of each place
 mod layout; // positions: 5 and 6
 mod links; // the place that each name means
@@ -24,14 +26,14 @@ const LOCAL: u16 = 0x8000;
 const NO_NAME: u32 = 65536;
 
 // The position after a statement.
-#[derive(Drop)]
+#[derive(Clone, Copy)]
 enum Moved {
     To(Address),
     Refused(Refusal),
 }
 
 // What stands in the table of values.
-#[derive(Drop)]
+#[derive(Clone, Copy)]
 enum Valued {
     Is(i64),
     Refused(Refusal),

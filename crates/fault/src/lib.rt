@@ -1,4 +1,6 @@
 // Each refusal by its number, its place, and for 8 to 11 the argument's place and the number at fault.
+#![tactic(auto)]
+
 ghost use Rattle.std.specs.Prelude.{◌≡◌};
 ghost use Rattle.rules.specs.Refusals.{of_statement, of_argument, fault_of};
 ghost use Rattle.fault.specs.Faults.{IsFault};
@@ -6,7 +8,7 @@ ghost use Rattle.fault.specs.Faults.{IsFault};
 use rules::{Place, Refusal};
 
 // The number and the place of a refusal; the argument's place and the signed number at fault, zeros but for 8 to 11.
-#[derive(Drop)]
+#[derive(Clone, Copy)]
 pub struct Fault {
     pub number: u8,
     pub place: usize,

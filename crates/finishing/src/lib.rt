@@ -1,4 +1,6 @@
 // An end form is judged once more, and its listing and image are written if both rooms hold them, and the list's room its stems.
+#![tactic(auto)]
+
 ghost use Rattle.std.specs.Prelude.{◌≡◌, true};
 ghost use Rattle.rules.specs.Listing.{Beside as Lines};
 ghost use Rattle.rules.specs.Judging.{assembles};
@@ -16,7 +18,7 @@ use rules::{Answer, Refusal, Settings, Sizes};
 use slots::State;
 
 // What a run is asked for: the switches, the listing's form, and how many bytes are lent for the list of stems (C-13).
-#[derive(Drop)]
+#[derive(Clone, Copy)]
 pub struct Wanted {
     pub settings: Settings,
     pub marked: bool,

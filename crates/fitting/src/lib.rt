@@ -1,4 +1,6 @@
 // The image of slots that encode, in a lent room: 12 where that is too short, before a byte is written.
+#![tactic(auto)]
+
 ghost use Rattle.std.specs.Prelude.{◌≡◌, true, length};
 ghost use Rattle.rules.specs.Answers.{is_ok};
 ghost use Rattle.image.specs.Tables.{Tables, tables_of, Ready};

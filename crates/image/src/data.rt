@@ -14,7 +14,7 @@ use rules::{Outcome, Place, Refusal};
 use slots::{Checked, item_in};
 
 // What the items of data are.
-#[derive(Drop)]
+#[derive(Clone, Copy)]
 pub enum Data {
     Bytes,
     Words,

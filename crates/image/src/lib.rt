@@ -1,4 +1,6 @@
 // The image of a program in slots: what its operands are worth, how its statements encode, and the bytes that they become.
+#![tactic(auto)]
+
 mod checking; // the encoding pass
 mod data; // the items of data
 mod codes; // the bytes of an instruction
@@ -12,7 +14,7 @@ pub use worth::{argument_worth, own_worth, target_worth};
 pub use writing::{image_length, write_image};
 
 // The bytes of an instruction, or why it has none.
-#[derive(Drop)]
+#[derive(Clone, Copy)]
 pub enum Encoded {
     Is(Code),
     Refused(Refusal),

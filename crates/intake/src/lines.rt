@@ -8,7 +8,7 @@ use people::read_line;
 use rules::{Place, Refusal};
 
 // Where the line ends, its line feed included, and how many bytes its frame has; or why it is refused.
-#[derive(Drop)]
+#[derive(Clone, Copy)]
 pub enum Turn {
     Frame(usize, usize),
     Refused(Refusal),

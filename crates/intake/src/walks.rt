@@ -8,7 +8,7 @@ use digits::put_line;
 use rules::Refusal;
 
 // How many statements a text has, and how many characters its listing, line feeds included; or the first line's refusal.
-#[derive(Drop)]
+#[derive(Clone, Copy)]
 pub enum Extent {
     Is(usize, usize),
     Refused(Refusal),

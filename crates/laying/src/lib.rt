@@ -1,5 +1,7 @@
 // C-19: a frame's bytes, laid one behind the other in a room of 120. The end is 121 where they have no room, or an expression none in its
 // 32; then nothing more is laid, and reading goes on.
+#![tactic(auto)]
+
 ghost use Rattle.std.specs.Prelude.{◌≡◌, [], ◌∷◌, ℕ, ◌+◌, ◌≤◌, ◌<◌, length, drop};
 ghost use Rattle.laying.specs.Laying.{Added, Copied, Termed};
 
@@ -7,7 +9,7 @@ use leaves::Found;
 use sums::expression;
 
 // The frame's end in its room, 121 where it passes a limit; or the byte that no good line could have there.
-#[derive(Drop)]
+#[derive(Clone, Copy)]
 pub enum Told {
     Frame(usize),
     Wrong(usize),

@@ -1,4 +1,6 @@
 // C-22: one line of a damaged text by itself, and what comes out for it.
+#![tactic(auto)]
+
 mod judging; // the number that refuses it
 mod standing; // what comes out
 mod texts; // pieces of text stored in a room

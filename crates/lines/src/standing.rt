@@ -15,7 +15,7 @@ use listing::{line_bytes, take_line};
 
 // The first line of a text: where it ends, its line feed included, the number that it is refused with by itself, or 0, and how many characters come
 // out for it.
-#[derive(Drop)]
+#[derive(Clone, Copy)]
 pub struct Turn {
     pub end: usize,
     pub number: u8,

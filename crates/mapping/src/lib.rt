@@ -1,4 +1,6 @@
 // Where each instruction and each piece of data stands in the long image and in the short one: a row (78, or 79 where it was dropped) each.
+#![tactic(auto)]
+
 mod entry; // the public entry
 mod laying; // the addresses of a program in slots
 mod rows; // one row
@@ -8,14 +10,14 @@ pub use entry::mapping;
 use rules::Refusal;
 
 // How many bytes of lines there are, and for how many rows.
-#[derive(Drop)]
+#[derive(Clone, Copy)]
 pub struct Counts {
     pub bytes: usize,
     pub rows: usize,
 }
 
 // The lines stand in the lent room; or the refusal.
-#[derive(Drop)]
+#[derive(Clone, Copy)]
 pub enum Mapped {
     Done(Counts),
     Refused(Refusal),

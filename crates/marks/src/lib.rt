@@ -1,4 +1,6 @@
 // C-19: which of its mnemonic's forms a line is of is told by what stands before each argument, `#`, `@` or nothing.
+#![tactic(auto)]
+
 ghost use Rattle.std.specs.Prelude.{◌≡◌, ◌<◌};
 ghost use Rattle.marks.specs.Narrowing.{mark_number, chosen};
 

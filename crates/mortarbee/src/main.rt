@@ -1,4 +1,6 @@
 // Document 01's program: a listing on standard input; on standard output the new one and a last line, or the 7E line of a refusal.
+#![tactic(auto)]
+
 ghost use Rattle.std.specs.Prelude.{◌≡◌};
 ghost use Rattle.rules.specs.Settings.{by_default};
 

@@ -1,5 +1,7 @@
 // C-19: which word a line begins with. "Mnemonics compared with C-16's strings": byte by byte, and the longest front that the line has in
 // common with any of them is as far as it is good.
+#![tactic(auto)]
+
 ghost use Rattle.std.specs.Prelude.{◌≡◌, ◌++◌, ◌&&◌, cond, ℕ, ◌+◌, ◌≤◌, ◌<◌, eqb, leb, length, take, drop};
 ghost use Rattle.grammar.specs.Reading.{look};
 ghost use Rattle.plans.specs.Fronts.{opens};
@@ -11,7 +13,7 @@ use leaves::lexing::look;
 use text::{dot_word, mnemonic};
 
 // How far a line goes with a word: it is met, and the line goes on from there; or it is not, and so many bytes are the same.
-#[derive(Drop)]
+#[derive(Clone, Copy)]
 pub enum Front {
     Whole(usize),
     Part(usize),
@@ -88,7 +90,7 @@ fn larger(a: usize, b: usize) -> usize
 }
 
 // What a line begins with: a name, a word by its number, which ends there, or none; then so many bytes are good.
-#[derive(Drop)]
+#[derive(Clone, Copy)]
 pub enum Begun {
     Global,
     Local,

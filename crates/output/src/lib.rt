@@ -1,4 +1,6 @@
 // Slots to text: each statement that is left as a line of upper-case digit pairs, and the last line.
+#![tactic(auto)]
+
 mod last; // the last line
 mod lines; // how long each slot's line is, and the text
 mod showing; // which slots are shown

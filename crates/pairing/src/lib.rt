@@ -1,4 +1,6 @@
 // C-13: which statements of two listings are paired: by a list of entries, or where the listings begin and end alike.
+#![tactic(auto)]
+
 mod entries; // a list of entries
 mod found; // a common beginning and a common end
 mod lines; // where the lines of a listing begin

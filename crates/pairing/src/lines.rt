@@ -9,7 +9,7 @@ use listing::{Listed, new_form, read_listing, take_line};
 use rules::Refusal;
 
 // How many statements a listing has, or its first refusal.
-#[derive(Drop)]
+#[derive(Clone, Copy)]
 pub enum Counted {
     Are(usize),
     Refused(Refusal),

@@ -17,21 +17,21 @@ use rules::Place;
 use slots::State;
 
 // The place of an unconditional.
-#[derive(Drop)]
+#[derive(Clone, Copy)]
 enum Jump {
     At(Place),
     Nothing,
 }
 
 // The place and the name of a local label.
-#[derive(Drop)]
+#[derive(Clone, Copy)]
 enum Landing {
     At(Place, u16),
     Nothing,
 }
 
 // The places of an unconditional and of a local label behind it, and the label's name.
-#[derive(Drop)]
+#[derive(Clone, Copy)]
 enum Opening {
     At(Place, Place, u16),
     Nothing,

@@ -1,4 +1,6 @@
 // C-19: one line of the people's text to a frame.
+#![tactic(auto)]
+
 ghost use Rattle.std.specs.Prelude.{◌≡◌, ℕ, ◌≤◌, ◌<◌, length};
 ghost use Rattle.plans.specs.Lines.{line_plan};
 ghost use Rattle.plans.specs.Fronts.{spelling, opens, Matches};

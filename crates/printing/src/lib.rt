@@ -1,4 +1,6 @@
 // The program's answer to a text as the bytes that it prints: the new listing and the last line on a page, or a refusal's 7E line.
+#![tactic(auto)]
+
 ghost use Rattle.std.specs.Prelude.{◌≡◌, ◌≤◌, length};
 ghost use Rattle.printing.specs.Page.{Lent, Printable, last_after, PrintedRun, page_length, refusal_line};
 

@@ -14,14 +14,14 @@ use instruction::tables::{Operand, operand_count, operand_kind};
 use rules::{Address, Kind};
 
 // Where a piece of a frame ends, or that a target falls outside 0..65,535.
-#[derive(Drop)]
+#[derive(Clone, Copy)]
 pub enum Written {
     To(usize),
     Outside,
 }
 
 // How many bytes of the image a statement takes, and how many its frame has.
-#[derive(Drop)]
+#[derive(Clone, Copy)]
 pub struct Step(pub usize, pub usize);
 
 // The byte at k; bytes that an instruction does not have count for nothing.

@@ -10,7 +10,7 @@ use digits::put_line;
 use rules::Address;
 
 // How many statements there are, and how many characters their listing has.
-#[derive(Drop)]
+#[derive(Clone, Copy)]
 pub struct Extent(pub usize, pub usize);
 
 // The statement at q.

@@ -1,4 +1,6 @@
 // C-22: a damaged listing salvaged.
+#![tactic(auto)]
+
 use rules::Refusal;
 
 pub mod entry;
@@ -7,7 +9,7 @@ mod walks; // over the lines, first to measure and then to write
 pub use walks::Extent;
 
 // What is in the lent rooms, or 12.
-#[derive(Drop)]
+#[derive(Clone, Copy)]
 pub enum Saved {
     Done(Extent),
     Refused(Refusal),

@@ -11,7 +11,7 @@ use listing::line_bytes;
 use rules::Place;
 
 // How many statements come out, and how many bytes of listing and of report.
-#[derive(Drop)]
+#[derive(Clone, Copy)]
 pub struct Extent {
     pub statements: usize,
     pub listing: usize,

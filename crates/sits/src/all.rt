@@ -8,7 +8,7 @@ use listing::{Listed, Starts, read_listing};
 use slots::Checked;
 
 // How many statements there are, or the first refusal, and the table: the position of each statement, then that of the end.
-#[derive(Drop)]
+#[derive(Clone, Copy)]
 pub struct Laid {
     pub answer: Listed,
     pub positions: [u32; 1025],

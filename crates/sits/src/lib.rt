@@ -1,4 +1,6 @@
 // C-17: where statement n sits, answered from the frames before n alone.
+#![tactic(auto)]
+
 ghost use Rattle.std.specs.Prelude.{◌≡◌};
 ghost use Rattle.listing.specs.Tables.{input_of, Held};
 ghost use Rattle.sits.specs.Sits.{sits_among, sits, sits_as};
@@ -15,7 +17,7 @@ mod before; // how many bytes come before statement n
 pub use all::{Laid, all_sit};
 
 // The address, or the first refusal.
-#[derive(Drop)]
+#[derive(Clone, Copy)]
 pub enum Sits {
     At(Address),
     Refused(Refusal),

@@ -1,4 +1,6 @@
 // A listing read, judged and anchored, its tables lent by the caller: what an answer about the rewriting starts from.
+#![tactic(auto)]
+
 ghost use Rattle.std.specs.Prelude.{◌≡◌, ℕ, length};
 ghost use Rattle.listing.specs.Tables.{input_of, Held};
 ghost use Rattle.env.specs.Tables.{Any};
@@ -17,7 +19,7 @@ use rules::Refusal;
 use slots::State;
 
 // So many statements stand in the tables, anchored; or the first refusal.
-#[derive(Drop)]
+#[derive(Clone, Copy)]
 pub enum Begun {
     Read(usize),
     Refused(Refusal),

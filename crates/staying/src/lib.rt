@@ -1,9 +1,11 @@
 // Why a rewrite that is tried is not done. specs/ says what is tried at each place and what stands in its way, proofs/ that nothing is
 // left out.
+#![tactic(auto)]
+
 use rules::Refusal;
 
 // `Counts` is the reason of a rewrite that would be done: where no rewrite remains, no attempt has it.
-#[derive(Drop)]
+#[derive(Clone, Copy)]
 pub enum Reason {
     Counts,
     Change, // the Jmpf is a change jump
@@ -14,7 +16,7 @@ pub enum Reason {
 }
 
 // Whether a form or a pattern is tried at a place, and why it is not done there.
-#[derive(Drop)]
+#[derive(Clone, Copy)]
 pub enum Attempted {
     Stays(Reason),
     Untried,

@@ -10,7 +10,7 @@ use rules::{Answer, Refusal, Settings, Sizes};
 use starting::{Begun, begin};
 
 // How many statements a listing has and how many rewrites it gets; or its refusal.
-#[derive(Drop)]
+#[derive(Clone, Copy)]
 enum Counted {
     Of(usize, usize),
     Refused(Refusal),

@@ -1,4 +1,6 @@
 // C-24: settings kept by edition, in lent room: 32 places of five bytes. What they mean is said in specs/.
+#![tactic(auto)]
+
 use rules::{Refusal, Settings};
 
 mod adding; // a new edition
@@ -15,7 +17,7 @@ pub use dropping::drop_old;
 pub use showing::show_place;
 
 // What a place of the store holds. `switches` has a bit for each: 1 keeps comments, 2 lets Callf shrink, 4 lets folds run.
-#[derive(Drop)]
+#[derive(Clone, Copy)]
 pub struct Setting {
     pub family: u16,
     pub edition: u16,
@@ -23,35 +25,35 @@ pub struct Setting {
 }
 
 // An edition of a family: its number, and the settings of a run under it.
-#[derive(Drop)]
+#[derive(Clone, Copy)]
 pub struct Edition {
     pub number: u16,
     pub settings: Settings,
 }
 
 // The store may be asked, or the first refusal.
-#[derive(Drop)]
+#[derive(Clone, Copy)]
 enum Verdict {
     Good,
     Refused(Refusal),
 }
 
 // The switches of a family's edition, if a place holds it.
-#[derive(Drop)]
+#[derive(Clone, Copy)]
 enum Held {
     Is(u8),
     Nothing,
 }
 
 // What was asked for, or why it is refused.
-#[derive(Drop)]
+#[derive(Clone, Copy)]
 pub enum Found {
     Is(Edition),
     Refused(Refusal),
 }
 
 // What a place holds, or why the store is refused.
-#[derive(Drop)]
+#[derive(Clone, Copy)]
 pub enum Shown {
     Is(Setting),
     Free,
@@ -59,7 +61,7 @@ pub enum Shown {
 }
 
 // The number of the edition that was added, or of the one that stays; or why that is refused.
-#[derive(Drop)]
+#[derive(Clone, Copy)]
 pub enum Numbered {
     Is(u16),
     Refused(Refusal),

@@ -1,5 +1,7 @@
 // Expressions: the readers of operands, products and sums call each other; the text that remains falls. Each leaves the bytes of its tree
 // in the room, from `at` on.
+#![tactic(auto)]
+
 ghost use Rattle.std.specs.Prelude.{◌≡◌, ℕ, ◌+◌, ◌^◌, ◌≤◌, ◌<◌, length, drop};
 ghost use Rattle.rules.specs.declared.Op2.{Op2};
 ghost use Rattle.rules.specs.Expressions.{code2};

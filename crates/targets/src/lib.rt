@@ -1,4 +1,6 @@
 // What each transfer of the output names, beside what its target named in the input: a line (74) each, marked where it needs eyes.
+#![tactic(auto)]
+
 mod aims; // what a target comes to
 mod entry; // the public entry
 mod filling; // of each transfer of a program
@@ -12,7 +14,7 @@ use rules::Refusal;
 pub type Aims = [[u8; 8]; 1024];
 
 // How many bytes of lines there are, for how many transfers, and how many of them are marked.
-#[derive(Drop)]
+#[derive(Clone, Copy)]
 pub struct Counts {
     pub bytes: usize,
     pub transfers: usize,
@@ -20,7 +22,7 @@ pub struct Counts {
 }
 
 // The lines stand in the lent room; or the refusal.
-#[derive(Drop)]
+#[derive(Clone, Copy)]
 pub enum Told {
     Done(Counts),
     Refused(Refusal),

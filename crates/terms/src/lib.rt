@@ -1,4 +1,6 @@
 // The listing for people, written: bytes, numbers, names and expressions, in a room of 1,024 bytes. Where these are too few the end is 1,025.
+#![tactic(auto)]
+
 mod pieces; // bytes, numbers, names
 mod terms; // expressions
 
@@ -6,7 +8,7 @@ pub use pieces::{digits, put, put_name};
 pub use terms::{term, wide};
 
 // How many bytes of the frame an expression took, and where its text ends.
-#[derive(Drop)]
+#[derive(Clone, Copy)]
 pub struct Went {
     pub taken: usize,
     pub to: usize,

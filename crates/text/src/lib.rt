@@ -1,4 +1,6 @@
 // The words of the listing for people (C-16) as fixed byte strings of eight, spaces behind: written by C-16, compared by C-19.
+#![tactic(auto)]
+
 ghost use Rattle.std.specs.Prelude.{◌≡◌, ◌≤◌, ◌<◌, length};
 ghost use Rattle.text.specs.Text.{mnemonic as mnemonic_of};
 ghost use Rattle.text.specs.Words.{said, dot_word};
