@@ -1,6 +1,6 @@
 // Blocks of standard input: a line `==` ends each, the last one may lack it.
 ghost use Rattle.std.specs.Prelude.{◌≤◌, ◌<◌};
-ghost use Rattle.io.specs.Counts.{IsPrefixLen};
+ghost use Rattle.desk.specs.Counts.{IsPrefixLen};
 
 // The characters `==` and a line feed stand at i.
 fn mark_at(text: &[u8], i: usize) -> bool {

@@ -1,8 +1,7 @@
 // The front of a room, and a byte as digits.
-ghost use Rattle.io.specs.Counts.{IsPrefixLen};
+ghost use Rattle.desk.specs.Counts.{IsPrefixLen};
 
-use io::write_all;
-use libc::STDOUT_FILENO;
+use std::io;
 
 // At most as much as a room has.
 pub fn part(n: usize, room: &[u8]) -> usize
@@ -20,13 +19,13 @@ fn digit(x: u8) -> u8 {
 }
 
 // A byte as two digits on standard output.
-pub fn put_pair(b: u8) {
+pub fn put_pair(rt: &impl Print, b: u8) -> io::Result<()> {
     let pair = [digit(b / 16), digit(b % 16)];
-    write_all(STDOUT_FILENO, &pair);
+    rt.write_all(&pair)
 }
 
 // One digit on standard output.
-pub fn put_digit(x: u8) {
+pub fn put_digit(rt: &impl Print, x: u8) -> io::Result<()> {
     let one = [digit(x)];
-    write_all(STDOUT_FILENO, &one);
+    rt.write_all(&one)
 }

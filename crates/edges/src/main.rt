@@ -2,6 +2,8 @@
 // rooms that are one byte too short, and under the other settings. tools/edges writes its input and holds its output against those tables.
 #![tactic(auto)]
 
-fn main() {
-    desk::answer_all(desk::numbered(7), true);
+use std::io;
+
+fn main(rt: HostRuntime) -> io::Result<()> {
+    desk::answer_all(&rt, desk::numbered(7), true)
 }

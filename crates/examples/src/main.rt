@@ -2,6 +2,8 @@
 // answers that stand there.
 #![tactic(auto)]
 
-fn main() {
-    desk::answer_all(desk::numbered(6), false);
+use std::io;
+
+fn main(rt: HostRuntime) -> io::Result<()> {
+    desk::answer_all(&rt, desk::numbered(6), false)
 }

@@ -4,17 +4,16 @@
 ghost use Rattle.std.specs.Prelude.{◌≡◌};
 ghost use Rattle.rules.specs.Settings.{by_default};
 
-use desk::{put_page, put_refusal};
-use io::read_full;
-use libc::STDIN_FILENO;
+use desk::{put_page, put_refusal, read_full};
 use printing::{page_length, print_run};
 use rules::{Answer, Settings};
+use std::io;
 
 // A text that is longer than the buffer is refused within it: 57,344 characters, 1,024 line feeds and the first line are the most that is accepted.
-fn main() {
-    let mut text = io::large_buffer();
-    let n = read_full(STDIN_FILENO, &mut text);
-    print_answer(&text[..n]);
+fn main(rt: HostRuntime) -> io::Result<()> {
+    let mut text = [0u8; 65536];
+    let n = read_full(&mut rt.reader(), &mut text)?;
+    print_answer(&rt, &text[..n])
 }
 
 // C-18: "By default, drop them": comments go, Callf is tried as Call, and folds are tried.
@@ -28,12 +27,12 @@ fn by_default() -> Settings
     }
 }
 
-fn print_answer(text: &[u8]) {
+fn print_answer(rt: &impl Print, text: &[u8]) -> io::Result<()> {
     let mut page = [0u8; 62482];
     let mut image = [0u8; 65536];
     let answer = print_run(by_default(), text, &mut page, &mut image);
     match answer {
-        Answer::Done(_) => put_page(&page, page_length(answer)),
-        Answer::Refused(r) => put_refusal(r),
+        Answer::Done(_) => put_page(rt, &page, page_length(answer)),
+        Answer::Refused(r) => put_refusal(rt, r),
     }
 }
