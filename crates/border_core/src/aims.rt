@@ -53,8 +53,7 @@ fn targets_reply(answer: Told) -> TargetsReply
 }
 
 // `targets`, for C.
-#[unsafe(no_mangle)]
-pub extern "C" fn mortarbee_targets(
+pub fn mortarbee_targets(
     comments: u8,
     callf: u8,
     folds: u8,

@@ -60,8 +60,7 @@ fn printed_reply(answer: Answer) -> PrintedReply
 }
 
 // `print_run`, for C.
-#[unsafe(no_mangle)]
-pub extern "C" fn mortarbee_print_run(
+pub fn mortarbee_print_run(
     comments: u8,
     callf: u8,
     folds: u8,
@@ -76,8 +75,7 @@ pub extern "C" fn mortarbee_print_run(
 }
 
 // The 7E line of four numbers, for C.
-#[unsafe(no_mangle)]
-pub extern "C" fn mortarbee_refusal_line(
+pub fn mortarbee_refusal_line(
     number: u8,
     place: u16,
     argument: u8,

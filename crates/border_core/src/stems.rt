@@ -56,8 +56,7 @@ fn stems_reply(answer: Stemmed) -> StemsReply
 }
 
 // `optimize_stems`, for C.
-#[unsafe(no_mangle)]
-pub extern "C" fn mortarbee_stems(
+pub fn mortarbee_stems(
     comments: u8,
     callf: u8,
     folds: u8,
