@@ -1,12 +1,12 @@
 #!/bin/sh
 # usage: build.sh
-# Links the C programs of this folder with target/staticlib/libborder.a (rt staticlib border) into target/bindings. Status 3: no compiler.
+# Links the C programs of this folder with target/staticlib/libborder.a (bindings/archive.sh border) into target/bindings. Status 3: no compiler.
 # On another processor than x86-64 it takes x86_64-linux-gnu-gcc, or clang with the linker and the C library of the Rattle kit.
 set -eu
 here=$(cd "$(dirname "$0")" && pwd)
 target=$(cd "$here/.." && pwd)/target
 archive=$target/staticlib/libborder.a
-[ -f "$archive" ] || { echo "build.sh: no $archive: run 'rt staticlib border' first" >&2; exit 2; }
+[ -f "$archive" ] || { echo "build.sh: no $archive: run 'bindings/archive.sh border' first" >&2; exit 2; }
 flags="-std=c11 -D_GNU_SOURCE -O2 -Wall -Wextra"
 cc=${CC:-cc}
 [ "$(uname -m)" = x86_64 ] || cc=x86_64-linux-gnu-gcc

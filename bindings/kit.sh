@@ -5,7 +5,7 @@ find_kit() {
     kit=${RATTLE_HOME-}
     [ -n "$kit" ] || kit=$(dirname -- "$(dirname -- "$(readlink -f -- "$(command -v rt || echo /none)")")")
     [ -f "$kit/KIT-ID" ] || kit=$(cat "$target/kit" 2>/dev/null || echo /none)
-    [ -f "$kit/KIT-ID" ] || kit=$(dirname -- "$(dirname -- "$(rt doc 2>/dev/null || echo /none)")")
+    [ -f "$kit/KIT-ID" ] || kit=$(dirname -- "$(rt doc 2>/dev/null || echo /none/none)")
     [ -f "$kit/KIT-ID" ] || return 1
     [ ! -d "$target" ] || [ "$kit" = "$(cat "$target/kit" 2>/dev/null)" ] || { printf '%s\n' "$kit" >"$target/kit"; } 2>/dev/null || :
 }

@@ -1,5 +1,5 @@
-/* The entries of Mortarbee for C, as the archive of `rt staticlib border` has them (x86-64 Linux, the C calling convention). Those that say "core" stand in
-   the smaller archive of `rt staticlib border_core` too; a program links one of the two.
+/* The entries of Mortarbee for C, as the archive of `bindings/archive.sh border` has them (x86-64 Linux, the C calling convention). Those that say "core" stand in
+   the smaller archive of `bindings/archive.sh border_core` too; a program links one of the two.
    The toolchain writes no header: this one says its rules, and fuzz/fuzz.c and the tests of rust/ hold it to the archive. */
 #ifndef MORTARBEE_H
 #define MORTARBEE_H

@@ -9,9 +9,9 @@ top=$(cd "$here/.." && pwd)
 target=$top/target
 size=${1-} again=${2-}
 case $size in
-    texts) archive='' ;;
-    core) archive=border_core ;;
-    all) archive=border ;;
+    texts) archive='' crate='' ;;
+    core) archive=border_core crate=border_core_c ;;
+    all) archive=border crate=border ;;
     *) echo "usage: build.sh texts|core|all [again]" >&2; exit 2 ;;
 esac
 made=$target/command/$size/mortarbee
@@ -39,12 +39,12 @@ end_by() {
 
 # ---- the archive
 
-# The crates that the archive is made of, without it: those on its line of crates.txt, those on theirs, and so on, bottom to top.
+# The crates that the archive's crate stands on: those on its line of crates.txt, those on theirs, and so on, bottom to top.
 crates() {
-    awk -v archive="$archive" '
-        /^[a-z]/ { name = $1; sub(/:$/, "", name); $1 = ""; below[name] = $0; order[++all] = name }
+    awk -v crate="$crate" '
+        /^[a-z]/ { name = $1; sub(/:$/, "", name); sub(/^[^:]*:/, ""); below[name] = $0; order[++all] = name }
         END {
-            reached[1] = archive; count = 1
+            reached[1] = crate; count = 1
             for (i = 1; i <= count; i++) {
                 n = split(below[reached[i]], names, " ")
                 for (j = 1; j <= n; j++) if (!seen[names[j]]++) reached[++count] = names[j]
@@ -56,8 +56,9 @@ crates() {
 # show LOG SHOWN: what rt says, each crate as it is proved, of how many, and for how long; prints how many were shown.
 show() {
     awk -v all="$count" -v shown="$2" -v seconds="$(($(date +%s) - began))" '
-        /^rt: [a-z0-9_]+ proved/ && !seen[$2]++ && ++n > shown {
-            printf "mortarbee: crate %d of %d: %s (%d s)\n", n, all, $2, seconds > "/dev/stderr"
+        /^crate [a-z0-9_]+:/ { name = $2; sub(/:$/, "", name) }
+        /^logic=proved/ && name != "" && !seen[name]++ && ++n > shown {
+            printf "mortarbee: crate %d of %d: %s (%d s)\n", n, all, name, seconds > "/dev/stderr"
         }
         END { print n + 0 }' "$1"
 }
@@ -73,8 +74,7 @@ prove() {
     say "$1 is proved and built: $count crates; this takes some minutes and is done once"
     log=$target/command/$archive.log
     : >"$log" || stop "$log cannot be written"
-    # rt staticlib proves one crate after the other; rt check before it takes all processors.
-    (cd "$top" && exec setsid sh -c 'rt check "$@" && rt staticlib "$0"' "$archive" $(crates) >"$log" 2>&1 </dev/null) &
+    (exec setsid "$top/bindings/archive.sh" "$archive" >"$log" 2>&1 </dev/null) &
     builder=$!
     while kill -0 "$builder" 2>/dev/null; do
         sleep 1
@@ -86,7 +86,7 @@ prove() {
         stop "the proof failed; $log has what rt said"
     }
     builder=''
-    [ -f "$target/staticlib/lib$archive.a" ] || stop "rt staticlib $archive made no archive; $log has what it said"
+    [ -f "$target/staticlib/lib$archive.a" ] || stop "bindings/archive.sh $archive made no archive; $log has what it said"
     say "proved in $(($(date +%s) - began)) s"
 }
 
@@ -117,7 +117,7 @@ flock -n 9 || { say "another build is under way: it is waited for" && flock 9; }
 is_there && exit 0
 if [ -n "$archive" ]; then
     [ "$(uname -m)" = x86_64 ] ||
-        stop "the archive is for x86-64, and this is $(uname -m): bindings/run.sh runs document 01's program (rt check mortarbee)"
+        stop "the archive is for x86-64, and this is $(uname -m): bindings/run.sh runs document 01's program (rt run in crates/mortarbee)"
     case $size in core) what='the main job' ;; *) what='what this word needs' ;; esac
     ! is_newer || prove "$what"
     export MORTARBEE_ARCHIVE="$target/staticlib"

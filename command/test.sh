@@ -45,7 +45,7 @@ if [ "$(uname -m)" != x86_64 ]; then
     echo "test.sh: the archives are for x86-64, and this is $(uname -m); left out:"
     for file in "$top"/bindings/rust/tests/*.rs "$here"/tests/*.rs "$here"/tests/data/*.txt; do echo "  ${file#"$top/"}"; done
 elif [ ! -f "$MORTARBEE_ARCHIVE/libborder.a" ]; then
-    echo "test.sh: no $MORTARBEE_ARCHIVE/libborder.a: run 'rt staticlib border' first" >&2
+    echo "test.sh: no $MORTARBEE_ARCHIVE/libborder.a: run 'bindings/archive.sh border' first" >&2
     exit 2
 else
     try "bindings/rust over libborder.a" "$top/bindings/rust"

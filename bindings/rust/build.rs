@@ -23,6 +23,6 @@ fn main() {
         println!("cargo:rustc-link-search=native={}", folder.display());
         println!("cargo:rustc-link-lib=static={name}");
     } else {
-        println!("cargo:warning=no {}: run 'rt staticlib {name}' first", archive.display());
+        println!("cargo:warning=no {}: run 'bindings/archive.sh {name}' first", archive.display());
     }
 }

@@ -1,7 +1,7 @@
 #!/bin/sh
 # usage: build.sh SOURCES ARCHIVE OUT [WHICH..]
 # SOURCES  the folder with waterbear's published files (lib.rs, asm.rs ..)
-# ARCHIVE  the folder of libborder.a (rt staticlib border)
+# ARCHIVE  the folder of libborder.a (bindings/archive.sh border)
 # OUT      gets bin/wb-orig (waterbear's own optimizer), bin/wb-doc (its own with document 01's patterns), bin/wb-drop (the drop-in) and
 #          bin/wb-tested (the drop-in with the variables for tests). No text of waterbear is kept elsewhere.
 # WHICH    orig, doc, drop, tested; all four if none is named. The variable OPT is how far waterbear is optimized, 0 to 3 (3)
@@ -14,7 +14,7 @@ sources=$(cd "$1" && pwd); archive=$(cd "$2" && pwd)
 for name in asm ast cheader debug env expression files img input instruction lexer lib location optimize parser; do
     [ -f "$sources/$name.rs" ] || { echo "build.sh: no $name.rs in $1" >&2; exit 2; }
 done
-[ -f "$archive/libborder.a" ] || { echo "build.sh: no libborder.a in $2: run 'rt staticlib border' first" >&2; exit 2; }
+[ -f "$archive/libborder.a" ] || { echo "build.sh: no libborder.a in $2: run 'bindings/archive.sh border' first" >&2; exit 2; }
 mkdir -p "$3/derive/src" "$3/bin" "$3/gen" "$3/.cargo"; out=$(cd "$3" && pwd); shift 3
 # What is the same keeps its time, so that cargo builds no more than it has to.
 put() { cmp -s "$1" "$2" || { rm -f "$2"; cp "$1" "$2"; }; }

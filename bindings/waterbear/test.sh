@@ -22,7 +22,7 @@ sum() { # a log whose last line is `N passed, M failed`; a run that did not come
     esac
 }
 crate() {
-    [ -f "$archive/libborder.a" ] || { leave_out "the crate's own tests: no $archive/libborder.a (rt staticlib border)"; return 0; }
+    [ -f "$archive/libborder.a" ] || { leave_out "the crate's own tests: no $archive/libborder.a (bindings/archive.sh border)"; return 0; }
     command -v cargo >/dev/null && [ "$(uname -m)" = x86_64 ] || { leave_out "the crate's own tests: no cargo for x86-64 here"; return 0; }
     status=0
     (cd "$here" && MORTARBEE_ARCHIVE="$archive" CARGO_TARGET_DIR="$out/crate" cargo test --offline --quiet) || status=$?

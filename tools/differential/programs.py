@@ -89,7 +89,7 @@ class Model:
 def ours(assemble):
     batch = os.path.join(TARGET, "bindings", "batch")
     if not os.path.exists(batch):
-        raise SystemExit("no %s: run 'rt staticlib border' and bindings/build.sh first" % batch)
+        raise SystemExit("no %s: run 'bindings/archive.sh border' and bindings/build.sh first" % batch)
     trial = subprocess.run([RUNNER, batch, "--assemble"], stdin=subprocess.DEVNULL, capture_output=True, text=True)
     if trial.returncode:
         raise SystemExit(trial.stderr.strip() or "%s cannot be run here" % batch)

@@ -1,6 +1,6 @@
 #!/usr/bin/env bash
 # tools/edits/run.sh [CRATE..]: lays the edits of tools/edits/CRATE into a copy of the repository and calls `rt must-fail` there, which has
-# to see each refused. Without names: all of them. Results in target/ are taken over, so that only what changed is proved again.
+# to see each refused. Without names: all of them. It begins with what `rt check` kept here, so that only what changed is proved again.
 set -eu
 top=$(cd "$(dirname "$0")/../.." && pwd -P)
 cd "$top/tools/edits"
@@ -13,8 +13,7 @@ done
 copy=$(mktemp -d)
 trap 'rm -rf "$copy"' EXIT
 trap 'exit 1' HUP INT TERM
-cp -R "$top/crates" "$top/crates.txt" "$copy"
-[ ! -d "$top/target" ] || cp -R "$top/target" "$copy"
+tar -C "$top" -cf - --exclude='crates/*/out' crates crates.txt | tar -C "$copy" -xf -
 # the gate has tried its own
 rm -rf "$copy"/crates/*/must-fail
 for crate in "$@"; do

@@ -13,9 +13,9 @@ from pathlib import Path
 
 TOP = Path(__file__).resolve().parents[2]
 TICKS = re.compile(r'`([^`]*)`')
-NAME = re.compile(r"[A-Za-z][A-Za-z0-9ℕ'-]*$")
-DOTTED = re.compile(r"([A-Z][A-Za-z0-9]*)\.([A-Za-z][A-Za-z0-9ℕ'-]*)$")
-DEFINED = re.compile(r"^ *(?:(?:abbrev|unfoldable|pub|record|data) )*([A-Za-z][A-Za-z0-9ℕ'-]*)(?: .*)? ?:(?: |$)")
+NAME = re.compile(r"[A-Za-z][A-Za-z0-9ℕ'_-]*$")
+DOTTED = re.compile(r"([A-Z][A-Za-z0-9]*)\.([A-Za-z][A-Za-z0-9ℕ'_-]*)$")
+DEFINED = re.compile(r"^ *(?:(?:abbrev|unfoldable|pub|record|data) )*([A-Za-z][A-Za-z0-9ℕ'_-]*)(?: .*)? ?:(?: |$)")
 CODED = re.compile(r'^ *(?:pub )?(?:extern "C" )?(?:fn|enum|struct|const) ([A-Za-z0-9_]+)', re.M)
 OTHERS = ['PROMISES', 'DECISIONS', 'AUDIT', 'ARCHITECTURE', 'FORMAT', 'RULES']
 
