@@ -16,7 +16,7 @@ use border_core::{
     mortarbee_assemble as assemble, mortarbee_check as check,
     mortarbee_optimize_jumps as optimize_jumps, mortarbee_positions as positions_of,
     mortarbee_print_run as print_run, mortarbee_refusal_line as refusal_line,
-    mortarbee_stems as optimize_stems, mortarbee_targets as targets,
+    mortarbee_stems as optimize_stems, mortarbee_targets as targets_of,
     mortarbee_text as readable_text, mortarbee_where_sits as where_sits,
 };
 
@@ -118,7 +118,7 @@ pub extern "C" fn mortarbee_targets(
 ) -> TargetsReply
     ensures { Aims (askedBy comments callf folds) listing.now result out.old out.new }
 {
-    targets(comments, callf, folds, listing, out)
+    targets_of(comments, callf, folds, listing, out)
 }
 
 // `optimize_stems`, for C.
