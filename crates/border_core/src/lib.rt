@@ -1,6 +1,8 @@
 // The entries for C and Rust of the main job: a listing judged, assembled, rewritten and printed, where its statements sit, how they read, what its
 // transfers name. A library exports nothing: `border_core_c` hands them on in an archive of their own, `border` in that of all entries. Nothing is asked
 // of the caller, and every lent byte is accounted for.
+#![tactic(auto)]
+
 mod aims; // what the transfers name
 mod faults; // a refusal as four numbers, and settings as three bytes
 mod pages; // what the program prints

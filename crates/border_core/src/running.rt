@@ -1,9 +1,9 @@
 // A listing judged, assembled or rewritten, and where its statements sit.
 ghost use Rattle.std.specs.Prelude.{◌≡◌, length};
-ghost use Rattle.rules.specs.Listing.{readListing};
+ghost use Rattle.rules.specs.Listing.{read_listing};
 ghost use Rattle.rules.specs.Run.{run};
-ghost use Rattle.sits.specs.Sits.{sits, sitsAs};
-ghost use Rattle.border_core.specs.Replies.{askedBy, countedAs, SaysCounted, SaysSits, Assembles, Ends, Positions};
+ghost use Rattle.sits.specs.Sits.{sits, sits_as};
+ghost use Rattle.border_core.specs.Replies.{asked_by, counted_as, SaysCounted, SaysSits, Assembles, Ends, Positions};
 
 use crate::faults::settings_of;
 use crate::replies::{CountedReply, Reply, SitsReply, counted_reply, reply_of, sits_reply};
@@ -27,7 +27,7 @@ pub fn mortarbee_optimize_jumps(
     out: &mut [u8],
     image: &mut [u8],
 ) -> Reply
-    ensures { let asked = askedBy comments callf folds in
+    ensures { let asked = asked_by comments callf folds in
         let end = run asked listing.now (length out.old) (length image.old) in
         Ends end result out.old image.old out.new image.new }
 {
@@ -36,7 +36,7 @@ pub fn mortarbee_optimize_jumps(
 
 // How many statements a text has that keeps the form of a listing: 1 and 2 alone.
 fn count(listing: &[u8]) -> Listed
-    ensures { result ≡ countedAs (readListing listing.now) }
+    ensures { result ≡ counted_as (read_listing listing.now) }
 {
     let mut frames = [0u8; 28672];
     let mut starts = [0u16; 4100];
@@ -46,14 +46,14 @@ fn count(listing: &[u8]) -> Listed
 
 // The same for C.
 pub fn mortarbee_check(listing: &[u8]) -> CountedReply
-    ensures { SaysCounted result (countedAs (readListing listing.now)) }
+    ensures { SaysCounted result (counted_as (read_listing listing.now)) }
 {
     counted_reply(count(listing))
 }
 
 // `where_sits`, for C.
 pub fn mortarbee_where_sits(listing: &[u8], n: usize) -> SitsReply
-    ensures { SaysSits result (sitsAs (sits listing.now n)) }
+    ensures { SaysSits result (sits_as (sits listing.now n)) }
 {
     sits_reply(where_sits(listing, n))
 }

@@ -2,11 +2,11 @@
 #![tactic(auto)]
 
 ghost use Rattle.std.specs.Prelude.{◌≡◌, length};
-ghost use Rattle.rules.specs.Listing.{readListing};
-ghost use Rattle.rules.specs.Output.{refusedLine};
+ghost use Rattle.rules.specs.Listing.{read_listing};
+ghost use Rattle.rules.specs.Output.{refused_line};
 ghost use Rattle.rules.specs.Run.{run};
-ghost use Rattle.sits.specs.Sits.{sits, sitsAs};
-ghost use Rattle.border_core.specs.Replies.{askedBy, countedAs, SaysCounted, SaysSits, Assembles, Reads, Ends, Positions};
+ghost use Rattle.sits.specs.Sits.{sits, sits_as};
+ghost use Rattle.border_core.specs.Replies.{asked_by, counted_as, SaysCounted, SaysSits, Assembles, Reads, Ends, Positions};
 ghost use Rattle.border_core.specs.Pages.{Prints};
 ghost use Rattle.border_core.specs.Aims.{Aims};
 ghost use Rattle.border_core.specs.Stems.{HandsOut};
@@ -38,7 +38,7 @@ pub extern "C" fn mortarbee_optimize_jumps(
     out: &mut [u8],
     image: &mut [u8],
 ) -> Reply
-    ensures { let asked = askedBy comments callf folds in
+    ensures { let asked = asked_by comments callf folds in
         let end = run asked listing.now (length out.old) (length image.old) in
         Ends end result out.old image.old out.new image.new }
 {
@@ -55,7 +55,7 @@ pub extern "C" fn mortarbee_print_run(
     page: &mut [u8; 62482],
     image: &mut [u8; 65536],
 ) -> PrintedReply
-    ensures { Prints (askedBy comments callf folds) listing.now result page.old image.old
+    ensures { Prints (asked_by comments callf folds) listing.now result page.old image.old
         page.new image.new }
 {
     print_run(comments, callf, folds, listing, page, image)
@@ -70,7 +70,7 @@ pub extern "C" fn mortarbee_refusal_line(
     amount: i32,
     line: &mut [u8; 19],
 )
-    ensures { line.new ≡ refusedLine (record { number = number; place = place; argument = argument; amount = amount }) }
+    ensures { line.new ≡ refused_line (record { number = number; place = place; argument = argument; amount = amount }) }
 {
     refusal_line(number, place, argument, amount, line);
 }
@@ -78,7 +78,7 @@ pub extern "C" fn mortarbee_refusal_line(
 // Whether a text keeps the form of a listing, for C.
 #[unsafe(no_mangle)]
 pub extern "C" fn mortarbee_check(listing: &[u8]) -> CountedReply
-    ensures { SaysCounted result (countedAs (readListing listing.now)) }
+    ensures { SaysCounted result (counted_as (read_listing listing.now)) }
 {
     check(listing)
 }
@@ -86,7 +86,7 @@ pub extern "C" fn mortarbee_check(listing: &[u8]) -> CountedReply
 // `where_sits`, for C.
 #[unsafe(no_mangle)]
 pub extern "C" fn mortarbee_where_sits(listing: &[u8], n: usize) -> SitsReply
-    ensures { SaysSits result (sitsAs (sits listing.now n)) }
+    ensures { SaysSits result (sits_as (sits listing.now n)) }
 {
     where_sits(listing, n)
 }
@@ -116,7 +116,7 @@ pub extern "C" fn mortarbee_targets(
     listing: &[u8],
     out: &mut [u8],
 ) -> TargetsReply
-    ensures { Aims (askedBy comments callf folds) listing.now result out.old out.new }
+    ensures { Aims (asked_by comments callf folds) listing.now result out.old out.new }
 {
     targets_of(comments, callf, folds, listing, out)
 }
@@ -132,7 +132,7 @@ pub extern "C" fn mortarbee_stems(
     image: &mut [u8],
     list: &mut [u8],
 ) -> StemsReply
-    ensures { let asked = askedBy comments callf folds in
+    ensures { let asked = asked_by comments callf folds in
         HandsOut asked listing.now result out.old image.old list.old
         out.new image.new list.new }
 {
