@@ -123,7 +123,7 @@ module _ (p : Program) where
   low_all w i =
       by_instr (λ s. at p i ≡ s → Low (retarget (anchor_in p i) s) × Low s)
       (λ f xs c e. let m = made_instr p w i f xs c e in (last_below i xs m.1, every_weaken is_plain (of_inner below_owner) xs plain_below m.1))
-      (λ s n e. let z : args_of s ≡ [] = other [] _ s n in let low : Low s = rw z in (rw (other s _ s n) low, low))
+      (λ s n e. let z : args_of s ≡ [] = other [] (λ x. x.args) s n in let low : Low s = rw z in (rw (other s _ s n) low, low))
 
   -- an accepted input, anchored, is acceptable
   pub anchor_acceptable : WellMade p → (image : List ℕ) → judge p ≡ ok image → acceptable (anchor p) ≡ true

@@ -1,9 +1,9 @@
 -- C-12: the argument's place and the number at fault that a refusal of encoding gives are those of the argument that was refused.
-use mathlib.Core.Path.{◌≡◌, refl, sym, ◌∙◌, ap, subst}
+use mathlib.Core.Path.{◌≡◌, refl, sym, ap, subst}
 use mathlib.Core.Logic.{◌⊎◌, inl, inr}
 use mathlib.Core.List.{List, [], ◌∷◌}
-use mathlib.Core.Bool.{Bool, true, false}
-use Prim.Native.Nat.{ℕ, zero, suc, ◌+◌, ◌<◌}
+use mathlib.Core.Bool.{true}
+use Prim.Native.Nat.{ℕ, suc, ◌+◌, ◌<◌}
 use native.Mathlib.Omega.{arith}
 use lib.Dec.{eqb}
 use lib.IntN.{ℤ, pos, ◌-ℤ◌}
@@ -14,7 +14,7 @@ use Rattle.rules.specs.declared.Kind.TheVariants.{Reg, I8, D9, Bit, Rel8, A12, A
 use Rattle.rules.specs.declared.Outcome.{Outcome}
 use Rattle.rules.specs.declared.Outcome.TheVariants.{Is, Unknown, Nothing}
 use Rattle.rules.specs.declared.Refusal.{Refusal}
-use Rattle.rules.specs.declared.Refusal.TheVariants.{NoName, NoValue, Range, Outside, Far, Page}
+use Rattle.rules.specs.declared.Refusal.TheVariants.{Range}
 use Rattle.rules.specs.Answers.{at_place, Judged, ok, no, ◌>>=◌, require}
 use Rattle.rules.specs.Values.{below, signed_byte, nat, mod256}
 use Rattle.rules.specs.Encoding.{page, field, byte, word}

@@ -9,7 +9,7 @@ use Rattle.laws.specs.Lists.{total}
 use Rattle.laws.proofs.Tests.{lt_or_le, cond_both}
 use Rattle.laws.proofs.Stores.{get_out}
 use Rattle.laws.proofs.Lists.{get_or_map_in}
-use Rattle.rules.specs.Programs.{Placeℕ, Operand, Stmt, gone, Program, at, retarget}
+use Rattle.rules.specs.Programs.{on_last, instr, Placeℕ, Operand, Stmt, gone, Program, at, retarget}
 use Rattle.rules.specs.Names.{Placed, placed, context_at}
 use Rattle.rules.specs.Judging.{names_of}
 use Rattle.rules.specs.Rewriting.{is_anchored, anchor_target, anchor_at, anchor, instr_bytes, moving_of}
@@ -53,7 +53,7 @@ anchored_keeps P p i x y = cond_both P (is_anchored (names_of p) p i (at p i)) (
 
 -- a change of operands changes no size
 pub instr_bytes_retarget : (f : Operand → Operand) (s : Stmt) → instr_bytes (retarget f s) ≡ instr_bytes s
-instr_bytes_retarget f s = by_change (λ s t. instr_bytes t ≡ instr_bytes s) _ (λ g xs c. refl) (λ s n. refl) s
+instr_bytes_retarget f s = by_change (λ s t. instr_bytes t ≡ instr_bytes s) (λ x. instr x.form (on_last f x.args) x.carried) (λ g xs c. refl) (λ s n. refl) s
 
 -- so anchoring keeps the instruction bytes
 pub instr_bytes_anchor : (p : Program) → total instr_bytes (anchor p) ≡ total instr_bytes p

@@ -112,7 +112,7 @@ of_place_own c f xs = rw (eq-eqb c c refl)
 
 -- a change of operands leaves it
 pub of_place_retarget : (c : Placeℕ) (f : Operand → Operand) (s : Stmt) → of_place c (retarget f s) ≡ of_place c s
-of_place_retarget c f s = by_change (λ s t. of_place c t ≡ of_place c s) _ (λ g xs d. refl) (λ s n. refl) s
+of_place_retarget c f s = by_change (λ s t. of_place c t ≡ of_place c s) (λ x. instr x.form (on_last f x.args) x.carried) (λ g xs d. refl) (λ s n. refl) s
 
 -- a rewrite makes none
 pub of_place_step : (c : Placeℕ) (p q : Program) → Step p q → total (of_place c) q ≤ total (of_place c) p
@@ -134,7 +134,7 @@ of_place_made p w c j n = ap (of_place c) (at_anchor p j) ∙ anchored_keeps (λ
     on =
         by_instr (λ s. at p j ≡ s → of_place c s ≡ 0)
         (λ f xs d e. let own = (made_instr p w j f xs d e).0 in rw (ne_eqb c d (λ z. n (sym (z ∙ own)))))
-        (λ s k e. other 0 _ s k)
+        (λ s k e. other 0 (λ x. cond (eqb c x.carried) 1 0) s k)
 
     there : of_place c (at p j) ≡ 0
     there = on (at p j) refl

@@ -1,7 +1,6 @@
 -- The three demands, of whatever `optimize_jumps` answers and writes: each starts from its contract, `Answered`.
 use mathlib.Core.Path.{◌≡◌, refl, sym, ◌∙◌, ap, subst}
 use mathlib.Core.List.{List}
-use mathlib.Core.Bool.{true}
 use Prim.Native.Nat.{ℕ, ◌+◌, ◌≤◌}
 use native.Mathlib.Omega.{arith}
 use lib.ListN.{length, take}
@@ -11,7 +10,7 @@ use Rattle.rules.specs.declared.Answer.TheVariants.{Done, Refused}
 use Rattle.rules.specs.declared.Sizes.{Sizes}
 use Rattle.rules.specs.declared.Refusal.{Refusal}
 use Rattle.rules.specs.Answers.{ok}
-use Rattle.rules.specs.Programs.{Placeℕ, Program, Stmt, gone, at}
+use Rattle.rules.specs.Programs.{instr, Placeℕ, Program, Stmt, gone, at}
 use Rattle.rules.specs.Listing.{read_listing, ListingForm, line_bytes, beside_of}
 use Rattle.rules.specs.Judging.{judge}
 use Rattle.rules.specs.Run.{Output, output_of, run, answer_of, rewritten}
@@ -52,7 +51,7 @@ own_total w q l =
     )
   where
     own_frame : (i : Placeℕ) (s : Stmt) → length (frame_of (own i s)) ≡ length (frame_of s)
-    own_frame i = by_change (λ s t. length (frame_of t) ≡ length (frame_of s)) _ (λ f xs c. unfold frame_of in refl) (λ s n. refl)
+    own_frame i = by_change (λ s t. length (frame_of t) ≡ length (frame_of s)) (λ x. instr x.form x.args i) (λ f xs c. unfold frame_of in refl) (λ s n. refl)
 
 -- of a text that reads and assembles, and of its output
 of_output : (asked : Settings) (text : List ℕ) (p : Program) (image : List ℕ) → read_listing text ≡ ok p → judge p ≡ ok image

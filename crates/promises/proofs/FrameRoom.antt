@@ -115,7 +115,7 @@ plain_width p (value e) = refl
 plain_width p (inner i o) = refl
 
 room_same : (f : Operand → Operand) → ((x : Operand) → width (f x) ≡ width x) → (s : Stmt) → frame_room (retarget f s) ≡ frame_room s
-room_same f h s = by_change (λ s t. frame_room t ≡ frame_room s) _ (λ g xs c. ap (λ (n : ℕ). 2 + n) (last_same f h xs)) (λ s n. refl) s
+room_same f h s = by_change (λ s t. frame_room t ≡ frame_room s) (λ x. instr x.form (on_last f x.args) x.carried) (λ g xs c. ap (λ (n : ℕ). 2 + n) (last_same f h xs)) (λ s n. refl) s
 
 -- at each place
 anchored_room : (p : Program) (i : Placeℕ) (s : Stmt) → frame_room (cond (is_anchored (names_of p) p i s) (retarget (anchor_in p i) s) s)
@@ -183,14 +183,14 @@ plain_operands (x ∷ xs) h =
 
 plain_room : (s : Stmt) → plain_stmt s ≡ true → frame_bytes s ≡ frame_room s
 unfolding frame_of
-plain_room s = by_instr (λ s. plain_stmt s ≡ true → frame_bytes s ≡ frame_room s) (λ f xs c h. omega (arith, plain_operands xs h)) (λ s n h. sym (other (frame_bytes s) _ s n)) s
+plain_room s = by_instr (λ s. plain_stmt s ≡ true → frame_bytes s ≡ frame_room s) (λ f xs c h. omega (arith, plain_operands xs h)) (λ s n h. sym (other (frame_bytes s) (λ x. 2 + total width x.args) s n)) s
 
 plain_total : (p : Program) → every plain_stmt p ≡ true → total frame_bytes p ≡ total frame_room p
 plain_total p h = total_ext frame_bytes frame_room p gone (λ i k. plain_room (at p i) (every_any plain_stmt p i gone (unfold every in refl) h))
 
 made_plain : (p : Program) → WellMade p → (i : Placeℕ) (s : Stmt) → at p i ≡ s → plain_stmt s ≡ true
 unfolding every
-made_plain p w i = by_instr (λ s. at p i ≡ s → plain_stmt s ≡ true) (λ f xs c e. (made_instr p w i f xs c e).1) (λ s n e. ap (every is_plain) (other [] _ s n))
+made_plain p w i = by_instr (λ s. at p i ≡ s → plain_stmt s ≡ true) (λ f xs c e. (made_instr p w i f xs c e).1) (λ s n e. ap (every is_plain) (other [] (λ x. x.args) s n))
 
 -- nor do comments that go
 shown_frames : (asked : Settings) (p : Program) → total frame_bytes (shown asked p) ≤ total frame_bytes p

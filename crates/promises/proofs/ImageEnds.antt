@@ -1,6 +1,6 @@
 -- C-11: the image never grows by a rewrite. Its length is where the last statement that has bytes ends; a pad that grows ends no later than it did, and
 -- before it came the bytes that went.
-use mathlib.Core.Path.{◌≡◌, refl, ◌∙◌, ap}
+use mathlib.Core.Path.{◌≡◌, refl, ap}
 use mathlib.Core.Logic.{◌⊎◌, inl, inr, ⊎_elim}
 use mathlib.Core.List.{List, [], ◌∷◌}
 use Prim.Native.Nat.{ℕ, zero, suc, ◌+◌, ◌-◌, ◌*◌, ◌≤◌, max}

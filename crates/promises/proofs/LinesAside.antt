@@ -3,7 +3,7 @@ use mathlib.Core.Path.{◌≡◌, refl, sym, ◌∙◌, ap}
 use mathlib.Core.List.{List, [], ◌∷◌, ◌++◌}
 use mathlib.Core.Bool.{Bool, true, false, cond}
 use Prim.Native.Nat.{ℕ}
-use lib.ListN.{get_or, drop}
+use lib.ListN.{drop}
 use Rattle.laws.specs.Lists.{each}
 use Rattle.laws.proofs.Tests.{clash}
 use Rattle.rules.specs.declared.Settings.{Settings}

@@ -13,7 +13,7 @@ use Rattle.laws.proofs.Tests.{none_some, and_true}
 use Rattle.rules.specs.declared.Outcome.{Outcome}
 use Rattle.rules.specs.declared.Outcome.TheVariants.{Is, Unknown, Nothing}
 use Rattle.rules.specs.Answers.{ok, check_each}
-use Rattle.rules.specs.Programs.{Placeℕ, Addressℕ, Operand, Stmt, Program, at, byte_count, retarget, Space, empty, exactly, from, space_at, bytes_in}
+use Rattle.rules.specs.Programs.{on_last, instr, Placeℕ, Addressℕ, Operand, Stmt, Program, at, byte_count, retarget, Space, empty, exactly, from, space_at, bytes_in}
 use Rattle.rules.specs.Layout.{after, position_from, position, Origin, origin_from, origin, behind, size_in}
 use Rattle.rules.specs.Names.{enter, placed_from, placed}
 use Rattle.rules.specs.Judging.{settles, positions_fit, settles_in}
@@ -30,7 +30,7 @@ room_same s = record { goes_on = λ q. refl; as_big = λ q. refl }
 
 -- operands changed
 pub room_retarget : (f : Operand → Operand) (s : Stmt) → SameRoom s (retarget f s)
-room_retarget f s = by_change SameRoom _ (λ g xs c. record { goes_on = λ q. refl; as_big = λ q. refl }) (λ s n. room_same s) s
+room_retarget f s = by_change SameRoom (λ x. instr x.form (on_last f x.args) x.carried) (λ g xs c. record { goes_on = λ q. refl; as_big = λ q. refl }) (λ s n. room_same s) s
 
 -- two programs of one length whose statements take the same room, place by place
 abbrev pub AllSameRoom : Program → Program → Type 0

@@ -7,7 +7,7 @@ use native.Mathlib.Omega.{arith}
 use lib.ListN.{length, get_or}
 use Rattle.laws.specs.Lists.{total}
 use Rattle.laws.proofs.Tests.{true_false}
-use Rattle.rules.specs.Programs.{Placeℕ, Addressℕ, Operand, Stmt, gone, Program, at, byte_count, retarget, is_gone}
+use Rattle.rules.specs.Programs.{on_last, instr, Placeℕ, Addressℕ, Operand, Stmt, gone, Program, at, byte_count, retarget, is_gone}
 use Rattle.rules.specs.Layout.{after, position_from, position}
 use Rattle.rules.specs.Output.{compact, stems_from, stems, plain_target, write_back}
 use Rattle.rules.proofs.Laws.{by_change}
@@ -66,7 +66,7 @@ stems_rank p b d h = let r = stems_from_rank 0 p b d h in (r.0, omega (arith, r.
 
 -- ---- writing back drops nothing
 pub gone_retarget : (f : Operand → Operand) (s : Stmt) → is_gone (retarget f s) ≡ is_gone s
-gone_retarget f s = by_change (λ s t. is_gone t ≡ is_gone s) _ (λ g xs c. refl) (λ s n. refl) s
+gone_retarget f s = by_change (λ s t. is_gone t ≡ is_gone s) (λ x. instr x.form (on_last f x.args) x.carried) (λ g xs c. refl) (λ s n. refl) s
 
 rank_map : (f : Operand → Operand) (p : Program) (b : Placeℕ) → rank (map (λ s. retarget f s) p) b ≡ rank p b
 rank_map f [] b = refl

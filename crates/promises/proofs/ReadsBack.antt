@@ -94,7 +94,7 @@ compact_writable (s ∷ p) k h = on (view s) (k 0) (h 0) (compact_writable p (λ
 own_alike : (p p' : Program) → Kept p p' → (names : List Entry) (k : ℕ) (i : Placeℕ) (s : Stmt) → Alike names p p' k s (own i s)
 unfolding as_name encode
 own_alike p p' kept names k i s =
-    by_change (Alike names p p' k) _
+    by_change (Alike names p p' k) (λ x. instr x.form x.args i)
     (λ f xs c. let a = same_alike p p' kept names k (instr f xs c) in
     record {
       goes_on = a.goes_on;
@@ -108,7 +108,7 @@ own_alike p p' kept names k i s =
     (λ s n. same_alike p p' kept names k s) s
 
 own_room : (i : Placeℕ) (s : Stmt) → SameRoom s (own i s)
-own_room i s = by_change SameRoom _ (λ f xs c. record { goes_on = λ q. refl; as_big = λ q. refl }) (λ s n. room_same s) s
+own_room i s = by_change SameRoom (λ x. instr x.form x.args i) (λ f xs c. record { goes_on = λ q. refl; as_big = λ q. refl }) (λ s n. room_same s) s
 
 -- as many statements
 pub length_own : (i : Placeℕ) (p : Program) → length (own_from i p) ≡ length p

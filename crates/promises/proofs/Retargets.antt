@@ -68,7 +68,7 @@ module _ (p p' : Program) (kept : Kept p p') where
       pub retarget_alike : (s : Stmt) → Alike names p p' k s (retarget f s)
       unfolding encode as_name
       retarget_alike s =
-          by_change (Alike names p p' k) _
+          by_change (Alike names p p' k) (λ x. instr x.form (on_last f x.args) x.carried)
           (λ g xs c. record {
             goes_on = λ q. refl;
             enters = λ j. refl;

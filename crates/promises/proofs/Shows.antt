@@ -1,5 +1,5 @@
 -- C-18: comments left out. A comment takes no room, defines no name and has no byte, so that a program without its comments is judged as it was.
-use mathlib.Core.Path.{◌≡◌, refl, sym, ◌∙◌, ap, ap₂, subst}
+use mathlib.Core.Path.{◌≡◌, refl, sym, ◌∙◌, ap, ap₂}
 use mathlib.Core.Bool.{Bool, true, false, not, cond}
 use mathlib.Core.List.{List, [], ◌∷◌, map}
 use Prim.Native.Nat.{ℕ, zero, suc, ◌+◌}
@@ -104,7 +104,7 @@ last_ext f g h (x ∷ y ∷ xs) = ap (λ (l : List Operand). x ∷ l) (last_ext 
 
 retarget_ext : (f g : Operand → Operand) → ((x : Operand) → f x ≡ g x) → (s : Stmt) → retarget f s ≡ retarget g s
 retarget_ext f g h s =
-    by_instr (λ s. retarget f s ≡ retarget g s) (λ k xs c. ap (λ (l : List Operand). instr k l c) (last_ext f g h xs)) (λ s n. other s _ s n ∙ sym (other s _ s n)) s
+    by_instr (λ s. retarget f s ≡ retarget g s) (λ k xs c. ap (λ (l : List Operand). instr k l c) (last_ext f g h xs)) (λ s n. other s (λ x. instr x.form (on_last f x.args) x.carried) s n ∙ sym (other s (λ x. instr x.form (on_last g x.args) x.carried) s n)) s
 
 retarget_spoken : (asked : Settings) (f : Operand → Operand) (s : Stmt) → retarget f (spoken asked s) ≡ spoken asked (retarget f s)
 retarget_spoken asked f gone = refl

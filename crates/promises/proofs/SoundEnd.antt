@@ -90,7 +90,7 @@ sound_anchored p j false (inner i o) s = s
 
 kept_retarget : (f : Operand → Operand) → ((b : Bool) (x : Operand) → Sound b x → Sound b (f x)) → (s : Stmt) → Kept-sound s → Kept-sound (retarget f s)
 kept_retarget f h s =
-    by_change (λ s t. Kept-sound s → Kept-sound t) _ (λ g xs c k. record { sound = (k.sound.0, sounds_last f h (shapes g) xs k.sound.1); short = refl }) (λ s n k. k) s
+    by_change (λ s t. Kept-sound s → Kept-sound t) (λ x. instr x.form (on_last f x.args) x.carried) (λ g xs c k. record { sound = (k.sound.0, sounds_last f h (shapes g) xs k.sound.1); short = refl }) (λ s n k. k) s
 
 AllKept : Program → Type 0
 AllKept p = (i : Placeℕ) → Kept-sound (at p i)
@@ -100,7 +100,7 @@ unfolding AllKept
 made_kept p w i = record { sound = w.sound i; short = on (at p i) (w.short i) }
   where
     on : (s : Stmt) → frame_bytes s ≤ 120 → instr_or_short s ≡ true
-    on = by_instr (λ s. frame_bytes s ≤ 120 → instr_or_short s ≡ true) (λ f xs c h. refl) (λ s n h. other (leb (frame_bytes s) 120) _ s n ∙ le-leb (frame_bytes s) 120 h)
+    on = by_instr (λ s. frame_bytes s ≤ 120 → instr_or_short s ≡ true) (λ f xs c h. refl) (λ s n h. other (leb (frame_bytes s) 120) (λ x. true) s n ∙ le-leb (frame_bytes s) 120 h)
 
 anchor_kept : (p : Program) → WellMade p → AllKept (anchor p)
 unfolding AllKept
@@ -193,7 +193,7 @@ sounds_written p l (b ∷ bs) (x ∷ y ∷ xs) t s =
 kept_written : (p : Program) → positions_fit (placed p) ≡ ok tt → (s : Stmt) → every (of_inner (λ owner o. ltb o (size_in p owner))) (args_of s) ≡ true → Kept-sound s
     → Kept-sound (retarget (plain_target p) s)
 kept_written p l s =
-    by_change (λ s t. every (of_inner (λ owner o. ltb o (size_in p owner))) (args_of s) ≡ true → Kept-sound s → Kept-sound t) _
+    by_change (λ s t. every (of_inner (λ owner o. ltb o (size_in p owner))) (args_of s) ≡ true → Kept-sound s → Kept-sound t) (λ x. instr x.form (on_last (plain_target p) x.args) x.carried)
     (λ f xs c t k. record { sound = (k.sound.0, sounds_written p l (shapes f) xs t k.sound.1); short = refl }) (λ s n t k. k) s
 
 -- the end form, written back

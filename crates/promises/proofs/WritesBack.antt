@@ -88,11 +88,11 @@ front_plain_lem (x ∷ y ∷ xs) h =
     and_both (is_plain x) (front_plain (y ∷ xs)) t.0 (front_plain_lem (y ∷ xs) t.1)
 
 inner_retarget : (f : Operand → Operand) (s : Stmt) → inner_last s ≡ true → inner_last (retarget f s) ≡ true
-inner_retarget f s = by_change (λ s t. inner_last s ≡ true → inner_last t ≡ true) _ (λ g xs c h. front_on_last f xs ∙ h) (λ s n h. h) s
+inner_retarget f s = by_change (λ s t. inner_last s ≡ true → inner_last t ≡ true) (λ x. instr x.form (on_last f x.args) x.carried) (λ g xs c h. front_on_last f xs ∙ h) (λ s n h. h) s
 
 -- of what was read, of what is anchored, and of what a step leaves
 inner_made : (p : Program) → WellMade p → (i : Placeℕ) (s : Stmt) → at p i ≡ s → inner_last s ≡ true
-inner_made p w i = by_instr (λ s. at p i ≡ s → inner_last s ≡ true) (λ f xs c e. front_plain_lem xs (made_instr p w i f xs c e).1) (λ s n e. ap front_plain (other [] _ s n))
+inner_made p w i = by_instr (λ s. at p i ≡ s → inner_last s ≡ true) (λ f xs c e. front_plain_lem xs (made_instr p w i f xs c e).1) (λ s n e. ap front_plain (other [] (λ x. x.args) s n))
 
 inner_anchor : (p : Program) → WellMade p → every inner_last (anchor p) ≡ true
 inner_anchor p w =
@@ -136,7 +136,7 @@ plain_last p (x ∷ y ∷ xs) h =
 
 plain_retarget : (p : Program) (s : Stmt) → inner_last s ≡ true → plain_stmt (retarget (plain_target p) s) ≡ true
 unfolding every
-plain_retarget p s = by_change (λ s t. inner_last s ≡ true → plain_stmt t ≡ true) _ (λ f xs c h. plain_last p xs h) (λ s n h. ap (every is_plain) (other [] _ s n)) s
+plain_retarget p s = by_change (λ s t. inner_last s ≡ true → plain_stmt t ≡ true) (λ x. instr x.form (on_last (plain_target p) x.args) x.carried) (λ f xs c h. plain_last p xs h) (λ s n h. ap (every is_plain) (other [] (λ x. x.args) s n)) s
 
 -- in a whole program
 pub write_back_plain : (p : Program) → every inner_last p ≡ true → every plain_stmt (write_back p) ≡ true

@@ -1,6 +1,6 @@
 -- The three demands down to the entry: what an answer of `optimize_jumps` says of the bytes that it wrote. Its contract is `Answered` (Demand2), and
 -- proofs/Entry derives what stands here from that alone.
-use Rattle.std.specs.Prelude.{◌≡◌, List, [], ◌∷◌, true, ℕ, ◌≤◌, ◌+◌, length, take, drop, pos}
+use Rattle.std.specs.Prelude.{◌≡◌, List, [], ◌∷◌, true, ℕ, ◌≤◌, length, take, drop, pos}
 use Rattle.std.proofs.Math.Option.{some}
 use Rattle.laws.specs.Lists.{total}
 use Rattle.rules.specs.declared.Settings.{Settings}

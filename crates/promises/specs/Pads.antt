@@ -1,5 +1,5 @@
 -- Document 02, C-11: what is promised of pads.
-use Rattle.std.specs.Prelude.{◌≡◌, List, ℕ, ◌+◌, ◌%◌, ◌≤◌, ◌<◌, length}
+use Rattle.std.specs.Prelude.{◌≡◌, List, ℕ, ◌+◌, ◌%◌, ◌≤◌, length}
 use Rattle.std.proofs.Math.Option.{some}
 use Rattle.rules.specs.declared.Settings.{Settings}
 use Rattle.rules.specs.Programs.{Placeℕ, Addressℕ, pad, Program, up_to}
