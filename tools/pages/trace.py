@@ -94,14 +94,15 @@ class Page:
         return set().union(*(names for file, names in self.defined.items() if file == owner or owner in names))
 
     def said(self, n, cell):
-        """`File.name`, or a record and its field; a name without a file stands in the file named before it."""
+        """`File.name`, or a record and its field; a name without a file stands in the file named before it, or is a function's."""
         here = self.anywhere
+        called = set().union(*self.coded.values())
         for token in TICKS.findall(cell):
             dotted = DOTTED.match(token)
             if dotted:
                 here = self.scope(dotted.group(1))
             name = dotted.group(2) if dotted else token
-            if (NAME.match(name) or '.' in name or '::' in name) and name not in here:
+            if (NAME.match(name) or '.' in name or '::' in name) and name not in here and (dotted or name not in called):
                 self.say(n, f'no definition {token}')
 
     def code(self, n, cell):
