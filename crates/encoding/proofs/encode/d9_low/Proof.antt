@@ -1,7 +1,0 @@
--- `encoding::encode::d9_low` meets its contract, by what its bytes' functions ensure. Assumes nothing.
-use borrow.Author.Rules.{rules}
-use Rattle.encoding.proofs.encode.d9_low.Statement.{statement}
-use Rattle.encoding.proofs.encode.d9_low.Tie as tie
-
-pub d9_low_spec : {M : Type 1} → statement M
-d9_low_spec = tie.close (tie.spec (λ c κs. search rules) (λ c κs. search rules) (λ c κs. search rules) (λ c. cc))
