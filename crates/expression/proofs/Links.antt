@@ -15,7 +15,7 @@ use Rattle.laws.proofs.Tests.{eq_or_not, lt_or_le}
 use Rattle.rules.specs.declared.Op1.{Op1}
 use Rattle.rules.specs.declared.Op2.{Op2}
 use Rattle.rules.specs.declared.Outcome.{Outcome}
-use Rattle.rules.specs.declared.Outcome.TheVariants.{Is, Unknown, Nothing}
+use Rattle.rules.specs.declared.Outcome.TheVariants.{Is, Nothing}
 use Rattle.rules.specs.declared.Tag.TheVariants.{Number, Name, Two, One, Bad}
 use Rattle.rules.specs.Values.{in_range}
 use Rattle.rules.specs.Names.{key_of, same_key, lookup}
@@ -23,8 +23,7 @@ use Rattle.rules.specs.Expressions.{number_of, name_of, tag_of, eval_tree, with1
 use Rattle.expression.specs.declared.Valued.{Valued}
 use Rattle.expression.specs.Environment.{is_here, entries_of}
 use Rattle.expression.specs.Evaluating.{no_value, number_at}
-use Rattle.expression.specs.Along.{Along}
-use Rattle.expression.specs.Linked.{unless_gone, stands_at, link_at, Linked, Evaluated, Links, Shown, stands, dropped}
+use Rattle.expression.specs.Linked.{stands_at, link_at, Linked, Evaluated, Links, Shown, stands, dropped}
 use Rattle.expression.proofs.Alongs.{empty_along, bad_along, number_along, name_along, one_along, two_along}
 use Rattle.expression.proofs.Entries.{at_place, found, here}
 

@@ -2,7 +2,7 @@
 use mathlib.Core.Path.{◌≡◌, refl, sym, ap, ◌∙◌}
 use mathlib.Core.Bool.{Bool, true, false, cond}
 use mathlib.Core.List.{List}
-use Prim.Native.Nat.{ℕ, ◌+◌, ◌-◌, ◌≤◌, ◌<◌}
+use Prim.Native.Nat.{ℕ, ◌+◌, ◌-◌, ◌≤◌}
 use native.Mathlib.Omega.{arith}
 use lib.Dec.{leb, eqb}
 use lib.ListN.{length, get_or, drop, take, length-drop}
@@ -15,7 +15,6 @@ use Rattle.rules.specs.declared.Tag.TheVariants.{Number, Name, Two, One, Bad}
 use Rattle.rules.specs.Expressions.{name_of, tag_of, mentions}
 use Rattle.expression.specs.declared.Tally.{Tally}
 use Rattle.expression.specs.Naming.{no_names, leaf_tally, link_tally, Referred, Counted}
-use Rattle.expression.specs.Along.{Along}
 use Rattle.expression.proofs.Alongs.{empty_along, bad_along, number_along, name_along, one_along, two_along}
 
 found : Tally → ℕ
