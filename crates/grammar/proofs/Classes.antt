@@ -7,7 +7,7 @@ use Prim.Native.Nat.{ℕ}
 use lib.Dec.{eqb}
 use borrow.Author.Tests.{eqb-true}
 use Rattle.rules.specs.declared.Op1.TheVariants.{Negate}
-use Rattle.grammar.specs.Reading.{is_decimal, look, minus, global, touches}
+use Rattle.grammar.specs.Reading.{is_decimal, look, touches}
 use Rattle.text.specs.Text.{sign1}
 use Rattle.grammar.specs.Going as going
 use Rattle.grammar.specs.Going.{Class, class_of, Start, leaf, paren, sign, nothing, led_by, led}

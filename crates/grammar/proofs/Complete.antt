@@ -2,27 +2,24 @@
 -- nothing.
 use mathlib.Core.Path.{◌≡◌, refl, sym, ap, ◌∙◌, subst}
 use mathlib.Core.Logic.{◌⊎◌, inl, inr}
-use mathlib.Core.List.{List, [], ◌∷◌, ◌++◌, append_assoc, append-nil}
-use mathlib.Core.Option.{Option, none, some}
-use mathlib.Core.Bool.{Bool, true, false, ◌&&◌, cond, not}
-use Prim.Native.Nat.{ℕ, zero, suc, ◌+◌, ◌≤◌, ◌<◌}
+use mathlib.Core.List.{List, [], ◌∷◌, ◌++◌, append_assoc}
+use mathlib.Core.Option.{none}
+use mathlib.Core.Bool.{Bool, true, false, cond, not}
+use Prim.Native.Nat.{ℕ, zero, suc, ◌+◌, ◌<◌}
 use native.Mathlib.Omega.{arith}
-use lib.Dec.{leb, eqb}
+use lib.Dec.{eqb}
 use lib.IntN.{pos, neg_ℤ}
-use lib.ListN.{length, drop}
-use borrow.Author.Tests.{leb-true, eqb-true}
-use Rattle.laws.proofs.Tests.{clash, and_true}
+use lib.ListN.{length}
+use borrow.Author.Tests.{eqb-true}
 use Rattle.rules.specs.declared.Op1.{Op1}
-use Rattle.rules.specs.declared.Op1.TheVariants.{Negate, Upper, Lower}
 use Rattle.rules.specs.declared.Op2.{Op2}
 use Rattle.rules.specs.declared.Op2.TheVariants.{Plus, Minus, Times, Divide, Xor, And, Or}
 use Rattle.rules.specs.Expressions.{Expr, num, name, two, one}
 use Rattle.text.specs.Text.{sign1, sign2}
 use Rattle.grammar.specs.Reading as reading
 use Rattle.grammar.specs.Reading.{is_decimal, worth, look, spaces, touches, level_of, Decimal, Exp, number, named, signed, parens, tighter, joined}
-use Rattle.grammar.specs.Going as going
-use Rattle.grammar.specs.Going.{Read, got, stuck, on_got, digits, fixed, class_of, leaf, paren, led, start, skip, infix_of, op_at, is_some, gap, close, Mode, alone, whole, rest, Goes, leafs, opens, signs, nones, ends, fails, firsts, sinks, stops, agains, breaks}
-use Rattle.grammar.proofs.Digits.{AllDigits, first_digit, digits_all, fixed_all}
+use Rattle.grammar.specs.Going.{Read, got, stuck, on_got, fixed, class_of, leaf, start, skip, infix_of, op_at, is_some, gap, close, Mode, alone, whole, rest, Goes, leafs, opens, signs, nones, ends, fails, firsts, sinks, stops, agains, breaks}
+use Rattle.grammar.proofs.Digits.{first_digit, digits_all, fixed_all}
 use Rattle.grammar.proofs.Classes.{class_digit, FineLed, fine_led}
 use Rattle.grammar.proofs.Starts.{sign_starts, start_sign, paren_starts, start_paren, start_global, start_local}
 use Rattle.grammar.proofs.Spaces.{skip_clear, skip_spaces, skip_over, sign_clear, infix_sign, op_at_lem, op_other, head_look}

@@ -1,15 +1,15 @@
 -- Numbers and names: what their readers take, and that they take every number and every name in range. Assumes nothing.
-use mathlib.Core.Path.{◌≡◌, refl, sym, ap, ◌∙◌, subst}
+use mathlib.Core.Path.{◌≡◌, refl, sym, ap, ◌∙◌}
 use mathlib.Core.List.{List, [], ◌∷◌, ◌++◌}
 use mathlib.Core.Bool.{Bool, true, false, ◌&&◌, cond}
-use Prim.Native.Nat.{ℕ, zero, suc, ◌+◌, ◌-◌, ◌*◌, ◌≤◌, ◌<◌}
+use Prim.Native.Nat.{ℕ, zero, suc, ◌+◌, ◌-◌, ◌*◌, ◌≤◌}
 use native.Mathlib.Omega.{arith}
-use lib.Dec.{leb, eqb}
+use lib.Dec.{leb}
 use lib.ListN.{length, replicate, length-replicate}
 use borrow.Author.Tests.{leb-true, le-leb}
 use Rattle.laws.specs.Lists.{every}
-use Rattle.laws.proofs.Tests.{false_true, true_false, and_true, and_both}
-use Rattle.grammar.specs.Reading.{is_decimal, worth, look, Decimal}
+use Rattle.laws.proofs.Tests.{false_true, and_true, and_both}
+use Rattle.grammar.specs.Reading.{is_decimal, worth, look}
 use Rattle.grammar.specs.Going.{Read, got, stuck, digits, fixed}
 use Rattle.text.specs.Text.{tens}
 use Rattle.grammar.proofs.Takes.{Took, idle}

@@ -3,16 +3,15 @@
 use mathlib.Core.Path.{◌≡◌, refl, sym, ap, ◌∙◌, subst}
 use mathlib.Core.Logic.{◌⊎◌, inl, inr}
 use mathlib.Core.List.{List, [], ◌∷◌, ◌++◌, append_assoc, append-nil}
-use mathlib.Core.Option.{Option, none, some}
+use mathlib.Core.Option.{none}
 use mathlib.Core.Bool.{Bool, true, false, ◌&&◌, cond, not}
-use Prim.Native.Nat.{ℕ, zero, suc, ◌+◌, ◌-◌, ◌*◌, ◌≤◌, ◌<◌}
-use native.Mathlib.Omega.{arith}
-use lib.Dec.{leb, eqb, lit≤}
+use Prim.Native.Nat.{ℕ, zero, suc}
+use lib.Dec.{eqb, lit≤}
 use lib.IntN.{pos}
-use lib.ListN.{length, drop, replicate}
+use lib.ListN.{drop}
 use borrow.Author.Tests.{eqb-true, not-false}
 use Rattle.laws.specs.Lists.{every}
-use Rattle.laws.proofs.Tests.{clash, false_true, true_false, and_true}
+use Rattle.laws.proofs.Tests.{clash}
 use Rattle.rules.specs.declared.Op1.{Op1}
 use Rattle.rules.specs.declared.Op1.TheVariants.{Negate, Upper, Lower}
 use Rattle.rules.specs.declared.Op2.{Op2}
@@ -21,10 +20,10 @@ use Rattle.rules.specs.Expressions.{Expr, num, two, one}
 use Rattle.text.specs.Text.{sign1, sign2}
 use Rattle.grammar.specs.Reading as reading
 use Rattle.grammar.specs.Reading.{look, spaces, touches, level_of, Exp, number, signed, parens, tighter, joined, worth}
-use Rattle.grammar.specs.Going.{Read, got, stuck, on_got, leaf, paren, sign, nothing, start, skip, infix_of, op_at, is_some, gap, close, Mode, alone, whole, rest, Goes, leafs, opens, signs, nones, ends, fails, firsts, sinks, stops, agains, breaks}
-use Rattle.grammar.proofs.Takes.{Took, front, idle, push, pull, turn, after}
-use Rattle.grammar.proofs.Starts.{Can, FineLeaf, fine_leaf, Signed, sign_starts, start_sign, paren_starts, start_paren, Blank, start_nothing}
-use Rattle.grammar.proofs.Spaces.{skip_look, spaced, leading, trailed, Operator, operator, op_at_lem, head_look}
+use Rattle.grammar.specs.Going.{Read, got, stuck, on_got, nothing, start, skip, infix_of, op_at, is_some, close, Mode, alone, whole, rest, Goes, leafs, opens, signs, nones, ends, fails, firsts, sinks, stops, agains, breaks}
+use Rattle.grammar.proofs.Takes.{Took, idle, push, pull, turn, after}
+use Rattle.grammar.proofs.Starts.{Can, FineLeaf, fine_leaf, sign_starts, start_sign, paren_starts, start_paren, start_nothing}
+use Rattle.grammar.proofs.Spaces.{spaced, leading, trailed, operator, op_at_lem, head_look}
 
 -- ---- what is meant
 

@@ -1,7 +1,7 @@
 -- The readers of spaces and digits, by index. Assumes nothing.
-use mathlib.Core.Path.{◌≡◌, refl, sym, ap, ◌∙◌, subst}
-use mathlib.Core.List.{List, [], ◌∷◌, ◌++◌}
-use mathlib.Core.Bool.{Bool, true, false, ◌&&◌}
+use mathlib.Core.Path.{◌≡◌, refl, sym, ap, ◌∙◌}
+use mathlib.Core.List.{List, ◌∷◌}
+use mathlib.Core.Bool.{true, false}
 use Prim.Native.Nat.{ℕ, zero, suc, ◌+◌, ◌-◌, ◌*◌, ◌≤◌, ◌<◌}
 use native.Mathlib.Numerals.{add-one}
 use native.Mathlib.Omega.{arith}
@@ -9,10 +9,10 @@ use native.Mathlib.Nat.{mul-le-mul}
 use lib.Dec.{leb, eqb}
 use lib.ListN.{length, get_or, drop, drop_of_length-le}
 use lib.Seq.{drop-cons}
-use borrow.Author.Tests.{leb-true, le-leb, lt-leb, eqb-true, eq-eqb, ne_eqb}
+use borrow.Author.Tests.{leb-true, le-leb, lt-leb, eq-eqb, ne_eqb}
 use Rattle.laws.proofs.Tests.{and_true, and_both, second_false, first_false}
 use Rattle.grammar.specs.Reading.{is_decimal, look}
-use Rattle.grammar.specs.Going.{Read, got, stuck, skip, digits, fixed}
+use Rattle.grammar.specs.Going.{got, stuck, skip, digits, fixed}
 use Rattle.text.specs.Text.{tens}
 use Rattle.grammar.proofs.Digits.{digits_stop, digits_step, digits_over, fixed_step, fixed_stop}
 use Rattle.grammar.proofs.Spaces.{skip_clear}

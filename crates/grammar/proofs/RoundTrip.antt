@@ -2,24 +2,20 @@
 use mathlib.Core.Path.{◌≡◌, refl, sym, ap, ◌∙◌, subst}
 use mathlib.Core.List.{List, [], ◌∷◌, ◌++◌}
 use mathlib.Core.Bool.{Bool, true, false, cond}
-use Prim.Native.Nat.{ℕ, zero, suc, ◌+◌, ◌-◌, ◌*◌, ◌/◌, ◌%◌, ◌^◌, ◌≤◌, ◌<◌}
+use Prim.Native.Nat.{ℕ, zero, suc, ◌+◌, ◌-◌, ◌*◌, ◌/◌, ◌%◌, ◌≤◌, ◌<◌}
 use native.Mathlib.Omega.{arith}
-use lib.Dec.{ltb, leb}
-use lib.IntN.{ℤ, pos, negsuc, neg_ℤ}
+use lib.Dec.{ltb}
+use lib.IntN.{pos, negsuc}
 use lib.ListN.{length, length-append}
-use mir.Syntax.{w32}
-use mir.Val.{SFits}
 use borrow.Author.Tests.{ltb-true, ltb-false, lt-ltb}
 use Rattle.laws.specs.Lists.{every}
-use Rattle.laws.proofs.Tests.{and_both}
 use Rattle.rules.specs.declared.Op1.{Op1}
 use Rattle.rules.specs.declared.Op1.TheVariants.{Negate, Upper, Lower}
 use Rattle.rules.specs.declared.Op2.{Op2}
 use Rattle.rules.specs.declared.Op2.TheVariants.{Plus, Minus, Times, Divide, Xor, And, Or}
 use Rattle.rules.specs.Expressions.{Expr, num, name, two, one}
 use Rattle.promises.proofs.Parses.{Fine}
-use Rattle.text.specs.Text as text
-use Rattle.text.specs.Text.{digits_of, five, name_text, sign1, sign2, in_parens, closed, expr_text}
+use Rattle.text.specs.Text.{digits_of, five, name_text, sign2, closed, expr_text}
 use Rattle.grammar.specs.Reading as reading
 use Rattle.grammar.specs.Reading.{is_decimal, worth, touches, Decimal, Exp, number, named, signed, parens, tighter, joined}
 use Rattle.grammar.proofs.Digits.{AllDigits, more_digits, first_digit}

@@ -1,27 +1,23 @@
 -- Spaces, operators, and the first byte of an expression. Assumes nothing.
 use mathlib.Core.Path.{◌≡◌, refl, sym, ap, ◌∙◌, subst}
-use mathlib.Core.Logic.{◌⊎◌, inl, inr}
-use mathlib.Core.List.{List, [], ◌∷◌, ◌++◌, append_assoc, append-nil}
+use mathlib.Core.List.{List, [], ◌∷◌, ◌++◌, append_assoc}
 use mathlib.Core.Option.{Option, none, some}
-use mathlib.Core.Bool.{Bool, true, false, ◌&&◌, cond, not}
-use Prim.Native.Nat.{ℕ, zero, suc, ◌+◌, ◌-◌, ◌*◌, ◌≤◌, ◌<◌}
+use mathlib.Core.Bool.{Bool, true, false, cond}
+use Prim.Native.Nat.{ℕ, zero, suc}
 use native.Mathlib.Omega.{arith}
-use lib.Dec.{leb, eqb, lit≤}
-use lib.ListN.{length, replicate}
-use borrow.Author.Tests.{leb-true, le-leb, eqb-true, eq-eqb, ne_eqb}
-use Rattle.laws.specs.Lists.{every}
-use Rattle.laws.proofs.Tests.{clash, false_true, true_false, and_true, and_both}
+use lib.Dec.{eqb}
+use borrow.Author.Tests.{eqb-true, eq-eqb, ne_eqb}
+use Rattle.laws.proofs.Tests.{clash}
 use Rattle.rules.specs.declared.Op1.{Op1}
 use Rattle.rules.specs.declared.Op1.TheVariants.{Negate, Upper, Lower}
 use Rattle.rules.specs.declared.Op2.{Op2}
 use Rattle.rules.specs.declared.Op2.TheVariants.{Plus, Minus, Times, Divide, Xor, And, Or}
-use Rattle.rules.specs.Expressions.{Expr, num, name, two, one}
+use Rattle.rules.specs.Expressions.{Expr}
 use Rattle.text.specs.Text.{sign1, sign2}
 use Rattle.grammar.specs.Reading as reading
 use Rattle.grammar.specs.Reading.{is_decimal, look, spaces, level_of, Decimal, Number, Name, Exp, number, named, signed, parens, tighter, joined}
-use Rattle.grammar.specs.Going.{skip, infix_of, at_level, op_at, is_some}
+use Rattle.grammar.specs.Going.{skip, infix_of, at_level, op_at}
 use Rattle.grammar.proofs.Takes.{Took, front}
-use Rattle.grammar.proofs.Digits.{AllDigits, first_digit}
 
 -- ---- spaces
 

@@ -1,7 +1,7 @@
 -- How the reader of C-19 goes over an expression, byte by byte with one byte of look-ahead. The words of the code's contracts:
 -- `Goes m t o` says that reading the text t in mode m comes to o. That this is the grammar of Reading.antt, and that it gets stuck at the right
 -- byte, is proved.
-use Rattle.std.specs.Prelude.{◌≡◌, List, [], ◌∷◌, ◌++◌, Bool, true, false, ◌&&◌, ◌||◌, cond, not, ℕ, zero, suc, ◌+◌, ◌-◌, ◌*◌, leb, eqb, ℤ, pos, neg_ℤ, drop}
+use Rattle.std.specs.Prelude.{◌≡◌, List, [], ◌∷◌, Bool, true, false, ◌&&◌, cond, not, ℕ, zero, suc, ◌+◌, ◌-◌, ◌*◌, leb, eqb, pos, neg_ℤ, drop}
 use Rattle.std.proofs.Math.Option.{Option, none, some}
 use Rattle.rules.specs.declared.Op1.{Op1}
 use Rattle.rules.specs.declared.Op1.TheVariants.{Negate, Upper, Lower}

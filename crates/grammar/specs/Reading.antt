@@ -1,7 +1,7 @@
 -- Document 02, C-19, "Read the people's listing": which texts are lines, of which statement, and the column of a text that is none. A
 -- grammar: each constructor is one way to write something. `Exp l e t` says that the text t is an expression of level l that stands for
 -- the tree e.
-use Rattle.std.specs.Prelude.{◌≡◌, List, [], ◌∷◌, ◌++◌, Bool, true, false, ◌&&◌, cond, ℕ, suc, ◌+◌, ◌-◌, ◌*◌, ◌≤◌, ◌<◌, leb, eqb, ℤ, pos, neg_ℤ, length, get_or, take, replicate}
+use Rattle.std.specs.Prelude.{◌≡◌, List, [], ◌∷◌, ◌++◌, Bool, true, false, ◌&&◌, cond, ℕ, suc, ◌+◌, ◌-◌, ◌*◌, ◌≤◌, ◌<◌, leb, ℤ, pos, neg_ℤ, length, get_or, take, replicate}
 use Rattle.laws.specs.Lists.{every}
 use Rattle.rules.specs.declared.Kind.{Kind}
 use Rattle.rules.specs.declared.Kind.TheVariants.{Reg, I8, D9, Bit, Rel8, A12, A16, Rel16}
