@@ -5,9 +5,8 @@ use mathlib.Core.Bool.{Bool, true, false, ◌&&◌, ◌||◌, cond}
 use Prim.Native.Nat.{ℕ, ◌+◌, ◌<◌}
 use native.Mathlib.Omega.{arith}
 use lib.Dec.{eqb, ltb}
-use lib.ListN.{length}
 use lib.IntN.{pos}
-use borrow.Author.Tests.{ltb-true, eq-eqb}
+use borrow.Author.Tests.{ltb-true}
 use Rattle.laws.specs.Lists.{every}
 use Rattle.laws.proofs.Tests.{and_true, and_both, or_first, or_second}
 use Rattle.laws.proofs.Lists.{every_any, every_all}
@@ -23,12 +22,12 @@ use Rattle.promises.specs.Demand2.{own, own_from}
 use Rattle.promises.proofs.Acceptable.{acceptable_parts}
 use Rattle.promises.proofs.Looks.{last_of_on_last}
 use Rattle.promises.proofs.Positions.{origin_at}
-use Rattle.promises.proofs.Ranks.{rank, at_rank, byte_live}
-use Rattle.promises.proofs.ReadsBack.{at_own, own_same}
+use Rattle.promises.proofs.Ranks.{rank, byte_live}
+use Rattle.promises.proofs.ReadsBack.{at_own}
 use Rattle.promises.proofs.WritesBack.{at_write_back}
 use Rattle.walk.specs.Walk.{nop}
-use Rattle.walk.specs.SameWalk.{is_first_byte, is_plain_target, is_walked, only_walked}
-use Rattle.walk.proofs.Machines.{Deed, Machine, deed}
+use Rattle.walk.specs.SameWalk.{is_plain_target, is_walked, only_walked}
+use Rattle.walk.proofs.Machines.{Deed, Machine}
 use Rattle.walk.proofs.Links.{branch_on, Matches, is_gone_lem, is_label, is_comment, is_nop, is_jump, is_test}
 use Rattle.walk.proofs.Resolves.{Lands, named, anchored, Resolved}
 use Rattle.walk.proofs.Alikes.{every_last}

@@ -9,7 +9,7 @@ use Rattle.laws.proofs.Tests.{and_both}
 use Rattle.laws.proofs.Lists.{every_any, every_all, every_weaken}
 use Rattle.rules.specs.declared.Settings.{Settings}
 use Rattle.rules.specs.Answers.{is_ok}
-use Rattle.rules.specs.Programs.{Placeℕ, Operand, register, value, inner, Stmt, gone, is_gone, comment, Program, at, args_of, retarget}
+use Rattle.rules.specs.Programs.{Placeℕ, Operand, register, value, inner, Stmt, gone, comment, Program, at, args_of, retarget}
 use Rattle.rules.specs.Layout.{size_in}
 use Rattle.rules.specs.Names.{context_at, key_of}
 use Rattle.rules.specs.Judging.{judge, assembles}
@@ -19,7 +19,7 @@ use Rattle.promises.proofs.Acceptable.{acceptable_parts}
 use Rattle.promises.proofs.Positions.{size_same}
 use Rattle.promises.proofs.Ranks.{gone_retarget}
 use Rattle.promises.proofs.Shows.{by_spoken, at_shown, length_shown, shown_room, judge_shown, shown_context}
-use Rattle.walk.proofs.Machines.{Deed, pass, Machine, deed}
+use Rattle.walk.proofs.Machines.{Deed, pass, Machine}
 use Rattle.walk.proofs.Links.{Matches, is_gone_lem, is_label, is_comment, is_nop, is_jump, is_test}
 use Rattle.walk.proofs.Resolves.{Lands, named, anchored, Resolved}
 

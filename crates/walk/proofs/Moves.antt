@@ -6,7 +6,7 @@ use Prim.Native.Nat.{ℕ, zero, suc}
 use lib.Dec.{leb}
 use Rattle.laws.proofs.Tests.{clash, or_first, or_second}
 use Rattle.rules.specs.Expressions.{name, mentions}
-use Rattle.rules.specs.Programs.{Placeℕ, Stmt, label, Naming, unnamed, labels, binds, naming_of, Program, at}
+use Rattle.rules.specs.Programs.{Stmt, label, Naming, unnamed, labels, binds, naming_of, Program, at}
 use Rattle.rules.specs.Layout.{after}
 use Rattle.rules.specs.Names.{enter, context_from, context_at, Placed, placed_from, placed, Key, key_of, same_key}
 use Rattle.rules.specs.Judging.{is_seen}

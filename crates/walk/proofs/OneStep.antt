@@ -13,7 +13,7 @@ use Rattle.rules.specs.Programs.{Operand, Stmt, gone, instr, Program, at}
 use Rattle.rules.specs.Names.{context_at}
 use Rattle.promises.proofs.Steps.{Shrunk, Step, invert, bounce, shrink}
 use Rattle.promises.proofs.Weights.{instr_inside, step_length}
-use Rattle.walk.proofs.Machines.{Machine, deed, steps}
+use Rattle.walk.proofs.Machines.{Machine, deed}
 use Rattle.walk.proofs.Links.{branch_on, Matches, is_jump}
 use Rattle.walk.proofs.Resolves.{Lands, named, anchored, Resolved, matches_map, jump_deed, test_deed, same_context}
 use Rattle.walk.proofs.Alikes.{Alike, alike_same}

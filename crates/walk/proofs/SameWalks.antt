@@ -27,7 +27,7 @@ use Rattle.promises.proofs.Shows.{write_back_shown}
 use Rattle.walk.specs.Walk.{off_the_end, Walk, meets, halts, walk_from, walk, told}
 use Rattle.walk.specs.SameWalk.{only_walked, Keeps, Empty, SameWalk, stem_of}
 use Rattle.walk.proofs.Deeds.{found, nothing}
-use Rattle.walk.proofs.Machines.{Deed, pass, list, jump, test, Machine, deed, is_pass, does, steps, go, Head, head, steps_found, steps_nothing, go_stop, go_known}
+use Rattle.walk.proofs.Machines.{Deed, pass, list, jump, test, Machine, deed, is_pass, does, go, Head, head, steps_found, steps_nothing, go_stop, go_known}
 use Rattle.walk.proofs.Links.{position_zero, origin_found, origin_nothing}
 use Rattle.walk.proofs.Resolves.{Resolved, plain, passes_are, worth_all, resolved_walk}
 use Rattle.walk.proofs.Folds.{Close, close_same, close_trans}
