@@ -178,7 +178,7 @@ once_is g (x ∷ []) = refl
 once_is g (x ∷ y ∷ xs) = ap (λ (l : List Operand). x ∷ l) (once_is g (y ∷ xs))
 
 unaimed : (g : Operand → Operand) (s : Stmt) → is_instr s ≡ false → retarget g s ≡ s
-unaimed g s n = other s _ s n
+unaimed g s n = other s (λ x. instr x.form (on_last g x.args) x.carried) s n
 
 retargeted : (f g : Operand → Operand) (s : Stmt) → SameButTarget s (retarget g (retarget f s))
 retargeted f g s =

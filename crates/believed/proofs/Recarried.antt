@@ -91,7 +91,7 @@ module _ (c : Placeℕ → Placeℕ) where
   -- what does not look at the field
   pub blind : {X : Type 0} (f : Stmt → X) → ((g : ℕ) (xs : List Operand) (a b : Placeℕ) → f (instr g xs a) ≡ f (instr g xs b)) → (s : Stmt)
       → f (recarry c s) ≡ f s
-  blind f h s = by_change (λ s t. f t ≡ f s) _ (λ g xs d. h g xs (c d) d) (λ s n. refl) s
+  blind f h s = by_change (λ s t. f t ≡ f s) (λ x. instr x.form x.args (c x.carried)) (λ g xs d. h g xs (c d) d) (λ s n. refl) s
 
   pub at_re : (p : Program) (i : Placeℕ) → at (R p) i ≡ recarry c (at p i)
   unfolding recarried
@@ -173,7 +173,7 @@ module _ (c : Placeℕ → Placeℕ) where
     where
       alike : (k : ℕ) (s : Stmt) → Alike (names_of p) p (R p) k s (recarry c s)
       alike k s =
-          by_change (Alike (names_of p) p (R p) k) _ (λ f xs d. instruction k f xs d) (λ s n. same_alike p (R p) (kept_re p) (names_of p) k s) s
+          by_change (Alike (names_of p) p (R p) k) (λ x. instr x.form x.args (c x.carried)) (λ f xs d. instruction k f xs d) (λ s n. same_alike p (R p) (kept_re p) (names_of p) k s) s
         where
           instruction : (k f : ℕ) (xs : List Operand) (d : Placeℕ) → Alike (names_of p) p (R p) k (instr f xs d) (instr f xs (c d))
           instruction k f xs d =
@@ -225,7 +225,7 @@ module _ (c : Placeℕ → Placeℕ) where
   pub instr_re : (s : Stmt) → as_instr (recarry c s) ≡ omap re_i (as_instr s)
   unfolding as_instr re_i
   instr_re s =
-      by_change (λ s t. as_instr t ≡ omap re_i (as_instr s)) _ (λ g xs d. refl) (λ s n. let e = other none (λ x. some x) s n in rw e) s
+      by_change (λ s t. as_instr t ≡ omap re_i (as_instr s)) (λ x. instr x.form x.args (c x.carried)) (λ g xs d. refl) (λ s n. let e = other none (λ x. some x) s n in rw e) s
 
   pub branch_re : (f : ℕ) (s : Stmt) → branch f (recarry c s) ≡ omap re_i (branch f s)
   unfolding branch re_i

@@ -13,7 +13,7 @@ use Rattle.rules.specs.declared.Outcome.{Outcome}
 use Rattle.rules.specs.declared.Settings.{Settings}
 use Rattle.rules.specs.Answers.{judged_or}
 use Rattle.rules.specs.Forms.{is_transfer, jmpf, not1}
-use Rattle.rules.specs.Programs.{Placeℕ, Operand, register, value, inner, Stmt, gone, instr, label, variable, comment, org, bytes, words, pad, Program, at, Instruction, on_instr, as_instr, is_form, args_of, retarget, is_gone}
+use Rattle.rules.specs.Programs.{Placeℕ, Operand, register, value, inner, Stmt, gone, instr, label, variable, comment, org, bytes, words, pad, Program, at, Instruction, on_instr, as_instr, is_form, args_of, retarget, is_gone, on_last}
 use Rattle.rules.specs.Layout.{after, position}
 use Rattle.rules.specs.Listing.{ListingForm, old_form, new_form, Beside}
 use Rattle.rules.specs.Names.{context_at, Key, Entry, Placed, placed}
@@ -148,13 +148,13 @@ module _ (c : Placeℕ → Placeℕ) where
 
   -- ---- anchoring, writing back
   still : (s : Stmt) → is_instr s ≡ false → recarry c s ≡ s
-  still s n = other s _ s n
+  still s n = other s (λ x. instr x.form x.args (c x.carried)) s n
 
   aimed_re : (f g : Operand → Operand) → ((x : Operand) → f x ≡ g x) → (s : Stmt) → retarget f (recarry c s) ≡ recarry c (retarget g s)
   aimed_re f g h s =
       by_instr (λ s. retarget f (recarry c s) ≡ recarry c (retarget g s))
       (λ k xs d. ap (λ (l : List Operand). instr k l (c d)) (on_last_ext f g h xs))
-      (λ s n. ap (retarget f) (still s n) ∙ other s _ s n ∙ sym (ap (recarry c) (other s _ s n) ∙ still s n)) s
+      (λ s n. ap (retarget f) (still s n) ∙ other s (λ x. instr x.form (on_last f x.args) x.carried) s n ∙ sym (ap (recarry c) (other s (λ x. instr x.form (on_last g x.args) x.carried) s n) ∙ still s n)) s
 
   target_re : (names : List Entry) (moving : List Key) (p : Program) (k : ℕ) (x : Operand)
       → anchor_target names moving (R p) k x ≡ anchor_target names moving p k x
