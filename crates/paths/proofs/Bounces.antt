@@ -31,7 +31,7 @@ use Rattle.paths.proofs.Names.{Naked, as_is, dropped, Kin, naming_variable, Unna
 use Rattle.paths.proofs.Changes.{no_change, no_cloud}
 use Rattle.paths.proofs.Forms.{length_on_last, branch_asks, unconditional_jumps, event_aimed}
 use Rattle.paths.proofs.Links.{aims}
-use Rattle.paths.proofs.Resolves.{Lands, Resolved, none_between, Aimed, aimed_deed, quiet_pass, label_pass}
+use Rattle.paths.proofs.Resolves.{Lands, Resolved, Aimed, aimed_deed, quiet_pass, label_pass}
 use Rattle.paths.proofs.Rewrites.{Fold, inner_outside, Start, start_was, start_out, folded, jump_deed, aim, old_to, old_lands, fold_resolved, fold_alike, none_before, onward}
 use Rattle.paths.proofs.Branches.{quiet_not1, branch_lands}
 

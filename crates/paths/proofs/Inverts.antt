@@ -21,7 +21,7 @@ use Rattle.paths.proofs.Machines.{Deed, act, Machine, deed, is_pass, does, steps
 use Rattle.paths.proofs.Folds.{Lined, lined, hollowed, Follows}
 use Rattle.paths.proofs.Names.{as_is, Kin, moving_same}
 use Rattle.paths.proofs.Forms.{length_on_last, Opposite, inverted_asks, unconditional_jumps, event_aimed}
-use Rattle.paths.proofs.Resolves.{Resolved, none_between, quiet_pass}
+use Rattle.paths.proofs.Resolves.{Resolved, quiet_pass}
 use Rattle.paths.proofs.Rewrites.{Fold, inner_outside, Start, start_was, start_out, folded, jump_deed, aim, old_to, old_lands, fold_resolved, fold_alike, onward}
 use Rattle.paths.proofs.Branches.{quiet_not1, branch_lands}
 

@@ -20,7 +20,6 @@ use Rattle.promises.proofs.Acceptable.{acceptable_parts}
 use Rattle.promises.proofs.Weights.{instr_inside, step_length}
 use Rattle.promises.proofs.Rises.{step_lowers}
 use Rattle.walk.proofs.Resolves.{same_context}
-use Rattle.walk.proofs.Inverts.{at_i}
 use Rattle.paths.specs.Walk.{class, taken_on, event, Spot, is_code, holds_none, jumps_at, is_clouded, clouded}
 use Rattle.paths.proofs.Machines.{halt, act, Machine, deed}
 use Rattle.paths.proofs.Names.{as_is, Kin, kin_trans, kin_stays, moving_same}
