@@ -1,5 +1,5 @@
 -- Reports computed from the definitions. Form numbers as in paths: Jmpf 2B, Br 2C, Bz 2E, Ret 3E, Nop 43, Not1 by its number in document 01.
-use mathlib.Core.List.{List, [], ◌∷◌, map}
+use mathlib.Core.List.{List, [], ◌∷◌}
 use mathlib.Core.Bool.{Bool}
 use Prim.Native.Nat.{ℕ}
 use Prim.Native.String.{String}

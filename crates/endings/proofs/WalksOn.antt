@@ -4,7 +4,7 @@ use mathlib.Core.Logic.{◌⊎◌, inl, inr, ⊎_elim}
 use mathlib.Core.List.{List, [], ◌∷◌, ◌++◌, map}
 use mathlib.Core.Option.{Option, none, some}
 use mathlib.Core.Bool.{Bool, true, false, cond}
-use Prim.Native.Nat.{ℕ, zero, suc, ◌+◌, ◌-◌, ◌≤◌, ◌<◌}
+use Prim.Native.Nat.{ℕ, zero, suc, ◌+◌, ◌-◌, ◌<◌}
 use native.Mathlib.Numerals.{add-one}
 use native.Mathlib.Omega.{arith}
 use lib.Dec.{eqb}
@@ -21,17 +21,17 @@ use Rattle.rules.specs.declared.Outcome.TheVariants.{Is, Unknown, Nothing}
 use Rattle.rules.specs.Answers.{ok}
 use Rattle.rules.specs.Forms.{size_at}
 use Rattle.rules.specs.Programs.{Placeℕ, Operand, register, value, inner, Stmt, gone, instr, label, variable, comment, org, bytes, words, pad, Program, at, on_instr, last_of}
-use Rattle.rules.specs.Layout.{position, size_in, Origin}
+use Rattle.rules.specs.Layout.{position, Origin}
 use Rattle.rules.specs.Names.{context_at, placed}
 use Rattle.rules.specs.Judging.{worth, worth_of, names_of, positions_fit}
 use Rattle.rules.specs.Rewriting.{moving_of, is_change_jump}
 use Rattle.promises.specs.Demand2.{Input}
 use Rattle.promises.proofs.Passes.{judge_passes}
 use Rattle.walk.specs.Walk.{same_test}
-use Rattle.paths.specs.Walk.{Oracle, Class, jumps, calls, returns, tests, plain, class, Event, event, taken_on, Ending, going, off_the_end, in_data, inside, leaves, computed, clouded, unreturned, no_address, Spot, here, done, State, start_at, Move, stop, on, pick, acts, is_code, code_at, to_spot, label_names, is_followed, aim_at, is_clouded, enters_instr, enters_at, meets_at, meets, Walk, halts, follow, run, walk}
+use Rattle.paths.specs.Walk.{Oracle, Class, jumps, calls, returns, tests, plain, class, Event, event, taken_on, Ending, going, off_the_end, in_data, inside, leaves, computed, clouded, unreturned, no_address, Spot, here, done, State, start_at, Move, stop, on, pick, acts, is_code, code_at, to_spot, label_names, is_followed, aim_at, is_clouded, enters_instr, enters_at, meets_at, meets, halts, follow, run, walk}
 use Rattle.paths.specs.SamePath.{itself}
 use Rattle.paths.proofs.Layouts.{Splits, splits_at, splits_behind}
-use Rattle.endings.specs.Endings.{Reason, is_data, leaves_memory, behind_cloud, computes_label, into_middle, is_no_address, is_return, landing, value_reasons, target_reasons, class_reasons, instr_reasons, reasons_for, reasons_at, Listed, report, Lists, Named, Open}
+use Rattle.endings.specs.Endings.{leaves_memory, behind_cloud, computes_label, into_middle, is_return, landing, value_reasons, target_reasons, class_reasons, reasons_for, reasons_at, Listed, report, Lists, Named, Open}
 use Rattle.endings.proofs.Comes.{ComesFrom, nowhere, comes, comes_from}
 
 -- ---- an address that comes to no middle
