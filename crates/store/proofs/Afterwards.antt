@@ -11,7 +11,7 @@ use lib.ListN.{length}
 use borrow.Author.Tests.{le-leb, eqb-false}
 use Rattle.rules.specs.declared.Refusal.TheVariants.{Unknown}
 use Rattle.rules.specs.declared.Settings.{Settings}
-use Rattle.rules.specs.Answers.{Judged, ok, no, ◌>>◌, require}
+use Rattle.rules.specs.Answers.{Judged, ok, no, require}
 use Rattle.rules.proofs.Laws.{no_ok, require_ok}
 use Rattle.store.specs.declared.Edition.{Edition}
 use Rattle.store.specs.Switches.{switches_of, settings_of}

@@ -15,7 +15,7 @@ use Rattle.laws.proofs.Counts.{tab_ext}
 use Rattle.laws.proofs.Tests.{clash, lt_or_le}
 use Rattle.rules.specs.declared.Refusal.TheVariants.{Room, Unknown, Full, Store as BadStore}
 use Rattle.rules.specs.declared.Settings.{Settings}
-use Rattle.rules.specs.Answers.{Judged, ok, no, ◌>>◌, require}
+use Rattle.rules.specs.Answers.{Judged, ok, no, require}
 use Rattle.store.specs.Switches.{switches_of}
 use Rattle.store.specs.Store.{Store, free, none_twice, is_good, find, newest, known, get, get_newest, has_free, add, drop_old}
 use Rattle.store.specs.Rooms.{store_bytes, setting_at, store_in, in_store, add_in, drop_in, after_add, after_drop}

@@ -14,7 +14,7 @@ use Rattle.laws.proofs.Tests.{and_true}
 use Rattle.rules.specs.declared.Refusal.{Refusal}
 use Rattle.rules.specs.declared.Refusal.TheVariants.{Room, Unknown, Full, Store as BadStore}
 use Rattle.rules.specs.declared.Settings.{Settings}
-use Rattle.rules.specs.Answers.{Judged, ok, no, ◌>>◌}
+use Rattle.rules.specs.Answers.{Judged, ok, no}
 use Rattle.rules.proofs.Laws.{no_ok, next_ok, require_ok}
 use Rattle.store.specs.Switches.{switches_of}
 use Rattle.store.specs.Store.{Store, free, is_good, newest, has_free, added, add, dropped, drop_old}

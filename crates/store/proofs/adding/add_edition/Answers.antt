@@ -1,0 +1,25 @@
+-- `store::adding::add_edition` meets its contract: the store is judged, then changed.
+use mathlib.Core.Path.{◌∙◌, ap}
+use Prim.Native.Nat.{ℕ}
+use Rattle.store.specs.Store.{add, added}
+use Rattle.store.specs.Rooms.{store_in, room_after}
+use Rattle.store.proofs.JudgedFirst.{long_enough, asked_then, refused_first}
+use Rattle.store.proofs.adding.add_edition.Goals as goal
+
+pub add_to-requires : goal.add_to-requires
+add_to-requires c =
+    long_enough c.args.room.now c.judge.result c.judge.ensures c.in-Good.is
+
+pub returns-in-Refused : goal.returns-in-Refused
+returns-in-Refused c =
+    let a = c.args in
+    let e = refused_first a.room.now c.judge.result c.judge.ensures (λ ss. add a.family ss) _ c.in-Refused.is in
+    record { value = rw e; room_after = rw e }
+
+pub returns-in-Good : goal.returns-in-Good
+returns-in-Good c =
+    let a = c.args in
+    let ss = store_in a.room.now in
+    let e = asked_then a.room.now c.judge.result c.judge.ensures (λ ss. add a.family ss) c.in-Good.is in
+    let w = ap (λ (n : ℕ). room_after a.room.now (add a.family ss) (added a.family n ss)) c.switches_of.ensures in
+    record { value = rw e c.add_to.ensures.answered; room_after = rw e (c.add_to.ensures.room_is ∙ w) }
