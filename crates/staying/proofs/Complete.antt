@@ -6,19 +6,17 @@ use mathlib.Core.Bool.{Bool, true, false, ◌&&◌, cond}
 use Prim.Native.Nat.{ℕ, ◌+◌, ◌*◌, ◌/◌, ◌%◌, ◌<◌}
 use native.Mathlib.Omega.{arith}
 use lib.Dec.{ltb, eqb}
-use lib.ListN.{length, get_or}
+use lib.ListN.{length}
 use borrow.Author.Tests.{ltb-true, lt-ltb}
-use Rattle.laws.specs.Options.{first_of, or_else}
+use Rattle.laws.specs.Options.{first_of}
 use Rattle.laws.specs.Lists.{every, each}
 use Rattle.laws.specs.Counts.{tab}
 use Rattle.laws.proofs.Options.{or_else_none, or_else_second, first_of_none, first_of_empty, first_from_none, first_from_empty}
-use Rattle.laws.proofs.Lists.{every_append, every_at, every_all, every_ext}
+use Rattle.laws.proofs.Lists.{every_append, every_at, every_all}
 use Rattle.laws.proofs.Counts.{length_tab, get_or_tab}
-use Rattle.laws.proofs.Tests.{false_true}
 use Rattle.rules.specs.declared.Settings.{Settings}
 use Rattle.rules.specs.Forms.{jmp, br, call}
 use Rattle.rules.specs.Programs.{Placeℕ, Program}
-use Rattle.rules.specs.Names.{Entry}
 use Rattle.rules.specs.Judging.{names_of}
 use Rattle.rules.specs.Rewriting.{Pattern, trampoline, patterns, patterns_for, pattern_at, shrink_at, anywhere, step}
 use Rattle.staying.specs.declared.Reason.{Reason}

@@ -3,11 +3,10 @@ use mathlib.Core.Path.{◌≡◌, refl, sym, ap, ◌∙◌, subst}
 use mathlib.Core.List.{List, [], ◌∷◌, ◌++◌}
 use mathlib.Core.Logic.{◌⊎◌, inl, inr}
 use mathlib.Core.Option.{Option, none, some}
-use mathlib.Core.Bool.{Bool, true, false, cond}
+use mathlib.Core.Bool.{Bool, true, false}
 use Prim.Native.Nat.{ℕ, zero, suc, ◌+◌, ◌*◌, ◌/◌, ◌%◌, ◌≤◌, ◌<◌}
-use native.Mathlib.Numerals.{add-one}
 use native.Mathlib.Omega.{arith}
-use lib.Dec.{T, leb, eqb}
+use lib.Dec.{leb, eqb}
 use lib.ListN.{length, length-append}
 use borrow.Author.Tests.{eqb-true, leb-true}
 use Rattle.laws.specs.Options.{given, bind}
@@ -21,9 +20,9 @@ use Rattle.rules.specs.Programs.{Placeℕ, Stmt, Program, at, Instruction, as_in
 use Rattle.rules.specs.Names.{Entry}
 use Rattle.rules.specs.Judging.{names_of}
 use Rattle.rules.specs.Rewriting.{branch, Pattern, inverted, trampoline}
-use Rattle.patterns.specs.Shapes.{Shape, inverted_shape, trampoline_shape, shape_at}
+use Rattle.patterns.specs.Shapes.{inverted_shape, trampoline_shape, shape_at}
 use Rattle.staying.specs.declared.Reason.{Reason}
-use Rattle.staying.specs.Reasons.{fold_reason, shrink_reason, Attempt, fold, shrink, attempt_at, is_asked, longer, pattern, reason_at, attempted_at, Why, why_of, reason_in, whys_in, whys}
+use Rattle.staying.specs.Reasons.{shrink_reason, Attempt, fold, shrink, attempt_at, is_asked, longer, pattern, reason_at, attempted_at, Why, why_of, whys_in, whys}
 
 -- ---- the form that an attempt asks for
 pattern_form : Pattern → ℕ

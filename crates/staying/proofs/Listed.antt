@@ -1,25 +1,24 @@
 -- "For each Jmpf and Callf that is left, and each branch that begins a pattern and was not folded, one line (75) a form or pattern tried."
 use mathlib.Core.Path.{◌≡◌, refl, sym, ap, ◌∙◌}
 use mathlib.Core.List.{List, [], ◌∷◌, ◌++◌, append_assoc, append-nil}
-use mathlib.Core.Option.{Option, some}
-use mathlib.Core.Bool.{Bool, true, false, cond}
+use mathlib.Core.Option.{some}
+use mathlib.Core.Bool.{Bool, true, false}
 use Prim.Native.Nat.{ℕ, zero, suc, ◌+◌, ◌*◌, ◌/◌, ◌%◌, ◌<◌}
 use native.Mathlib.Omega.{arith}
-use lib.Dec.{eqb, ltb}
+use lib.Dec.{eqb}
 use lib.ListN.{length}
 use borrow.Author.Tests.{eq-eqb, eqb-true, eqb-false, lt-ltb}
 use Rattle.laws.specs.Options.{given, bind}
 use Rattle.laws.specs.Lists.{each}
 use Rattle.laws.specs.Counts.{tab}
-use Rattle.laws.proofs.Options.{given_true}
 use Rattle.laws.proofs.Lists.{each_append, each_one}
 use Rattle.rules.specs.declared.Settings.{Settings}
-use Rattle.rules.specs.Forms.{jmp, jmpf, br, call, callf}
+use Rattle.rules.specs.Forms.{jmp, br, call}
 use Rattle.rules.specs.Programs.{Placeℕ, Program, at, Instruction, as_instr}
 use Rattle.rules.specs.Judging.{names_of}
 use Rattle.patterns.specs.Shapes.{Shape, shape_at}
 use Rattle.staying.specs.declared.Reason.{Reason}
-use Rattle.staying.specs.Reasons.{fold_reason, shrink_reason, Attempt, fold, shrink, longer, pattern, attempt_at, is_asked, reason_at, attempted_at, Why, why_of, whys_in, whys}
+use Rattle.staying.specs.Reasons.{fold_reason, shrink_reason, Attempt, fold, shrink, longer, pattern, attempt_at, is_asked, attempted_at, Why, whys_in, whys}
 use Rattle.staying.specs.Promise.{Stands, Listed}
 
 -- what one of many adds stands among them

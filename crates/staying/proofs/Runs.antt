@@ -1,15 +1,14 @@
 -- Runs computed from the definitions: why forms stay, on both sides of each edge. The table is one statement. Forms: Jmp 2A, Jmpf 2B, Br 2C, Bz 2E,
 -- Bnz 2F, Dbnz 33, Call 3B, Callf 3C, Not1 42, Nop 43.
 use mathlib.Core.List.{List, [], ◌∷◌}
-use mathlib.Core.Bool.{Bool, true, false, ◌&&◌}
+use mathlib.Core.Bool.{Bool, true, false}
 use Prim.Native.Nat.{ℕ}
 use Prim.Native.String.{String}
 use lib.Dec.{T}
 use Rattle.laws.specs.Lists.{same}
 use Rattle.laws.specs.Counts.{tab}
 use Rattle.rules.specs.declared.Settings.{Settings}
-use Rattle.rules.specs.Settings.{by_default}
-use Rattle.rules.specs.Answers.{Judged, ok, no, ◌>>=◌}
+use Rattle.rules.specs.Answers.{Judged, ok, no}
 use Rattle.rules.specs.Programs.{Program}
 use Rattle.rules.specs.Listing.{read_listing}
 use Rattle.rules.specs.Rewriting.{optimized}
@@ -17,7 +16,6 @@ use Rattle.rules.proofs.Computed.{lines, all, freely}
 use Rattle.patterns.specs.Shapes.{inverted_shape, trampoline_shape}
 use Rattle.staying.specs.Reasons.{reason_of, fold_reason, shrink_reason, attempt_at, attempted_at, whys_in, whys}
 use Rattle.staying.specs.Lines.{why_line, why_lines}
-use Rattle.staying.specs.Promise.{all_stay}
 
 unfoldable told : Settings → Judged Program → List ℕ
 unfolding freely tab inverted_shape trampoline_shape reason_of fold_reason shrink_reason attempt_at attempted_at whys_in whys why_line why_lines

@@ -8,21 +8,21 @@ use lib.Dec.{ltb, eqb}
 use lib.ListN.{set}
 use borrow.Author.Tests.{eqb-true, eq-eqb}
 use Rattle.laws.specs.Options.{given, bind, first_of, or_else}
-use Rattle.laws.proofs.Options.{given_true, or_else_none, or_else_second}
-use Rattle.laws.proofs.Tests.{some_none, false_true, true_false, both_ways, first_false}
+use Rattle.laws.proofs.Options.{or_else_none, or_else_second}
+use Rattle.laws.proofs.Tests.{some_none, false_true, first_false}
 use Rattle.rules.specs.declared.Settings.{Settings}
 use Rattle.rules.specs.Answers.{Judged, ok, no, is_ok}
 use Rattle.rules.specs.Forms.{jmp, jmpf, br, call, callf}
-use Rattle.rules.specs.Programs.{Placeℕ, Stmt, instr, Program, at, Instruction, as_instr, is_form}
+use Rattle.rules.specs.Programs.{Placeℕ, instr, Program, at, Instruction, as_instr, is_form}
 use Rattle.rules.specs.Layout.{size_in}
 use Rattle.rules.specs.Names.{Entry}
 use Rattle.rules.specs.Judging.{judge, assembles}
-use Rattle.rules.specs.Rewriting.{is_change_jump, changes_at, nearest, every_inner_label, no_inner_label_between, no_interior_label_at, acceptable, candidate, Pattern, pattern_at, shorter, shrink_at}
+use Rattle.rules.specs.Rewriting.{is_change_jump, changes_at, nearest, every_inner_label, no_inner_label_between, no_interior_label_at, acceptable, candidate, pattern_at, shorter, shrink_at}
 use Rattle.promises.proofs.Looks.{as_instr_some}
 use Rattle.staying.specs.declared.Reason.{Reason}
 use Rattle.staying.specs.declared.Reason.TheVariants.{Counts, Change, Inside, Between, Beyond, Refused}
 use Rattle.patterns.specs.Shapes.{Shape, shape_at}
-use Rattle.staying.specs.Reasons.{by_verdict, reason_of, fold_reason, shrink_reason, Attempt, fold, shrink, is_asked, longer, pattern, reason_at, attempted_at}
+use Rattle.staying.specs.Reasons.{by_verdict, reason_of, fold_reason, shrink_reason, fold, shrink, is_asked, longer, pattern, reason_at, attempted_at}
 use Rattle.staying.specs.Promise.{is_reason}
 use Rattle.patterns.proofs.Begins.{ask, begins}
 

@@ -1,6 +1,6 @@
 -- The reasons as lines: 75, what is tried (a form's number; 80 and up a pattern by its place in rule 3's order), the place in two bytes, the kind of
 -- reason, and number, place, argument and amount as the 7E line of the candidate has them, zeros where it has none.
-use Rattle.std.specs.Prelude.{List, [], ◌∷◌, ◌++◌, ℕ, ◌+◌, ◌%◌, pos}
+use Rattle.std.specs.Prelude.{List, ◌∷◌, ◌++◌, ℕ, ◌+◌, ◌%◌}
 use Rattle.std.specs.Int.{w32}
 use Rattle.std.proofs.Common.{of_z}
 use Rattle.laws.specs.Lists.{each}
