@@ -6,7 +6,7 @@ use Prim.Native.Nat.{ℕ, zero, suc, ◌+◌}
 use lib.ListN.{length}
 use Rattle.laws.specs.Lists.{each}
 use Rattle.rules.specs.declared.Settings.{Settings}
-use Rattle.rules.specs.Programs.{Placeℕ, Addressℕ, Stmt, is_gone, Program, at, byte_count}
+use Rattle.rules.specs.Programs.{Addressℕ, Stmt, Program, at, byte_count}
 use Rattle.rules.specs.Layout.{after, position_from, position}
 use Rattle.rules.specs.Output.{compact}
 use Rattle.promises.specs.Demand2.{Input, output_program}

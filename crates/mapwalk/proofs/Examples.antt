@@ -15,7 +15,7 @@ use Rattle.rules.proofs.Computed.{lines, all, freely}
 use Rattle.decoding.specs.Cells.{place_in, all_cells, cells_of}
 use Rattle.decoding.specs.Opcodes.{form_among, form_of_byte}
 use Rattle.decoding.specs.Operands.{bits_of, held_bit, held_in, operands_from}
-use Rattle.paths.specs.Walk.{Ending, off_the_end, going, no_address, inside, class, plain_form, taken_on, event, names_before, label_names, is_clouded, run}
+use Rattle.paths.specs.Walk.{Ending, off_the_end, going, no_address, class, plain_form, taken_on, event, names_before, label_names, is_clouded, run}
 use Rattle.paths.proofs.Examples.{stacked, is, holds_of}
 use Rattle.mapwalk.specs.Stands.{covering, is_below, seek, image_step, image_walk}
 use Rattle.mapwalk.specs.Maps.{stands_up, stands_of, in_slots}

@@ -1,7 +1,7 @@
 -- The map that is handed out is that of the walks.
 use mathlib.Core.Path.{◌≡◌, refl, sym, ◌∙◌, ap, ap₂}
 use mathlib.Core.List.{List, [], ◌∷◌, ◌++◌, map, append_assoc, append-nil}
-use mathlib.Core.Logic.{◌⊎◌, ⊎_elim}
+use mathlib.Core.Logic.{⊎_elim}
 use mathlib.Core.Bool.{Bool, true, false, cond, not, ◌||◌}
 use Prim.Native.Nat.{ℕ, zero, suc, ◌+◌}
 use native.Mathlib.Numerals.{add-one}
@@ -13,12 +13,12 @@ use Rattle.laws.proofs.Lists.{each_append}
 use Rattle.laws.proofs.Counts.{each_tab}
 use Rattle.laws.proofs.Tests.{false_true}
 use Rattle.rules.specs.declared.Settings.{Settings}
-use Rattle.rules.specs.Programs.{Placeℕ, Operand, Stmt, gone, is_gone, kind_of, instr, label, variable, comment, org, bytes, words, pad, Program, at, byte_count, retarget, last_of}
+use Rattle.rules.specs.Programs.{Operand, Stmt, gone, is_gone, kind_of, instr, label, variable, comment, org, bytes, words, pad, Program, at, byte_count, retarget, last_of}
 use Rattle.rules.specs.Layout.{after, position, size_in}
 use Rattle.rules.specs.Names.{context_at}
 use Rattle.rules.specs.Judging.{names_of}
 use Rattle.rules.specs.Rewriting.{is_change_jump, anchor, optimized, instr_bytes}
-use Rattle.rules.specs.Output.{plain_target, write_back, spoken, shown}
+use Rattle.rules.specs.Output.{plain_target, write_back, spoken}
 use Rattle.walk.proofs.Links.{position_suc}
 use Rattle.promises.specs.Demand2.{Input}
 use Rattle.promises.proofs.Anchors.{length_anchor}
@@ -30,7 +30,7 @@ use Rattle.paths.specs.Walk.{is_code, is_clouded}
 use Rattle.paths.specs.SameText.{Restates, as_was, re_instr}
 use Rattle.paths.proofs.Texts.{chain_kept}
 use Rattle.mapping.specs.Rows.{has_row, is_data, Row, row_at, rows_in, rows_to, rows}
-use Rattle.mapwalk.specs.Stands.{Sort, as_code, as_aside, as_stop, as_data, Stand}
+use Rattle.mapwalk.specs.Stands.{as_code, as_aside, as_stop, Stand}
 use Rattle.mapwalk.specs.Maps.{followed, sort_at, stand_at, stands_in, stands_up, stands_of, in_slots}
 use Rattle.mapwalk.proofs.SameImages.{code_kept}
 use Rattle.mapwalk.specs.Rows.{is_data_sort, Cell, cell_of, long_cell, short_cell, RowsAre}

@@ -1,6 +1,6 @@
 -- The two images walk alike under the map.
 use mathlib.Core.Path.{◌≡◌, refl, sym, ◌∙◌, ap, subst}
-use mathlib.Core.Logic.{◌⊎◌, inl, inr, ⊎_elim}
+use mathlib.Core.Logic.{inl, inr}
 use mathlib.Core.List.{List, [], ◌∷◌, ◌++◌}
 use mathlib.Core.Bool.{Bool, true, false, cond}
 use Prim.Native.Nat.{ℕ, zero, suc, ◌<◌}
@@ -12,11 +12,11 @@ use Rattle.laws.proofs.Tests.{false_true}
 use Rattle.rules.specs.declared.Settings.{Settings}
 use Rattle.rules.specs.Answers.{Judged, ok, judged_or}
 use Rattle.rules.specs.Programs.{Placeℕ, Operand, register, value, inner, Stmt, gone, is_gone, instr, label, variable, comment, org, bytes, words, pad, Program, at, byte_count}
-use Rattle.rules.specs.Layout.{position, size_in}
-use Rattle.rules.specs.Names.{context_at, placed}
+use Rattle.rules.specs.Layout.{position}
+use Rattle.rules.specs.Names.{context_at}
 use Rattle.rules.specs.Judging.{judge, worth_of, names_of}
 use Rattle.rules.specs.Rewriting.{moving_of, insignificant, acceptable, optimized}
-use Rattle.rules.specs.Output.{write_back, shown, compact, stems}
+use Rattle.rules.specs.Output.{write_back, compact, stems}
 use Rattle.rules.specs.Run.{rewritten}
 use Rattle.promises.specs.Demand2.{Input, output_program}
 use Rattle.promises.proofs.Acceptable.{acceptable_parts, end_acceptable}
@@ -32,20 +32,19 @@ use Rattle.decoding.proofs.Tables.{shaped}
 use Rattle.walk.proofs.Links.{position_zero}
 use Rattle.endings.specs.Endings.{Open, report}
 use Rattle.endings.proofs.WalksOn.{input_walks_on}
-use Rattle.paths.specs.Walk.{Oracle, Ending, going, off_the_end, in_data, inside, leaves, computed, clouded, unreturned, no_address, Walk, is_code, holds_none, walk, start_at, run, meets}
-use Rattle.paths.specs.SamePath.{itself, Agrees, Alike, Starts, at_zero, at_kept, SameWorth}
+use Rattle.paths.specs.Walk.{Oracle, Ending, going, off_the_end, in_data, inside, leaves, computed, clouded, unreturned, no_address, Walk, is_code, holds_none, walk, start_at, meets}
+use Rattle.paths.specs.SamePath.{itself, Agrees, Alike, Starts, at_zero, at_kept}
 use Rattle.walk.specs.SameWalk.{stem_of}
 use Rattle.paths.proofs.Runs.{run_same}
 use Rattle.paths.proofs.Compacts.{meets_rank}
 use Rattle.paths.proofs.Shapes.{shape_names, shape_context}
 use Rattle.paths.proofs.Outputs.{shape_written}
 use Rattle.paths.proofs.Resolves.{worth_kept}
-use Rattle.paths.proofs.SamePaths.{end, chained, ends, same_path}
-use Rattle.decoded.specs.Decoded.{Decodes}
+use Rattle.paths.proofs.SamePaths.{end, ends, same_path}
 use Rattle.decoded.proofs.Images.{decodes}
 use Rattle.mapwalk.specs.Stands.{Stand, image_walk, Among, SameImages}
-use Rattle.mapwalk.specs.Maps.{stand_at, stands_in, stands_up, stands_of, in_slots}
-use Rattle.mapwalk.proofs.Tells.{tell_event, tell_ending, tell_walk, tell_oracle, image_tells}
+use Rattle.mapwalk.specs.Maps.{stand_at, stands_up, stands_of, in_slots}
+use Rattle.mapwalk.proofs.Tells.{tell_ending, tell_walk, tell_oracle, image_tells}
 
 -- an instruction and data have bytes
 solid_stmt : (q : ℕ) (s : Stmt) → SoundStmt s → is_code s ≡ true → 0 < byte_count q s

@@ -1,26 +1,26 @@
 -- By the map, an address comes to the statement that it comes to in the listing, over the zeros before it.
-use mathlib.Core.Path.{◌≡◌, refl, sym, ◌∙◌, ap, subst}
+use mathlib.Core.Path.{◌≡◌, refl, sym, ◌∙◌, ap}
 use mathlib.Core.Logic.{◌⊎◌, inl, inr, ⊎_elim}
 use mathlib.Core.List.{List, [], ◌∷◌, ◌++◌}
 use mathlib.Core.Option.{Option, none, some}
-use mathlib.Core.Bool.{Bool, true, false, cond, ◌&&◌, ◌||◌}
+use mathlib.Core.Bool.{Bool, true, false, cond, ◌&&◌}
 use Prim.Native.Nat.{ℕ, zero, suc, ◌+◌, ◌-◌, ◌*◌, ◌≤◌, ◌<◌}
 use native.Mathlib.Omega.{arith}
 use lib.Dec.{eqb, leb, ltb}
 use lib.ListN.{length, get_or}
-use borrow.Author.Tests.{leb-true, ltb-true, ltb-false, le-leb, lt-leb, lt-ltb, le-ltb}
-use Rattle.laws.proofs.Tests.{false_true, true_false, eq_or_not, lt_or_le, or_first, or_second}
+use borrow.Author.Tests.{leb-true, le-leb, lt-leb, lt-ltb, le-ltb}
+use Rattle.laws.proofs.Tests.{false_true, true_false, eq_or_not, lt_or_le, or_second}
 use Rattle.laws.proofs.Stores.{get_in}
 use Rattle.rules.specs.Answers.{ok}
 use Rattle.rules.specs.Forms.{size_at}
-use Rattle.rules.specs.Programs.{Placeℕ, Addressℕ, Stmt, gone, instr, label, variable, comment, org, bytes, words, pad, Program, at, byte_count}
+use Rattle.rules.specs.Programs.{Placeℕ, Stmt, gone, instr, label, variable, comment, org, bytes, words, pad, Program, at, byte_count}
 use Rattle.rules.specs.Layout.{after, position_from, position, size_in, Origin}
 use Rattle.rules.specs.Names.{enter, placed_from, placed}
 use Rattle.rules.specs.Judging.{settles, positions_fit}
 use Rattle.rules.proofs.Laws.{require_ok}
 use Rattle.promises.proofs.Positions.{fit_cons}
 use Rattle.decoding.specs.Opcodes.{form_among, form_of_byte}
-use Rattle.paths.specs.Walk.{is_code, code_from, code_at}
+use Rattle.paths.specs.Walk.{is_code, code_at}
 use Rattle.paths.proofs.Layouts.{climbs, code_is, code_off}
 use Rattle.endings.proofs.Comes.{ComesFrom, nowhere, comes, comes_from}
 use Rattle.decoded.specs.Decoded.{Decodes}

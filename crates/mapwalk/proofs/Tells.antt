@@ -1,15 +1,15 @@
 -- A walk of an image by the map is the walk of the listing, told by the addresses of the long image.
-use mathlib.Core.Path.{◌≡◌, refl, sym, ◌∙◌, ap, ap₂}
+use mathlib.Core.Path.{◌≡◌, refl, sym, ◌∙◌, ap}
 use mathlib.Core.List.{List, [], ◌∷◌, map}
 use mathlib.Core.Option.{Option, none, some}
-use mathlib.Core.Bool.{Bool, true, false, cond, not, ◌||◌}
+use mathlib.Core.Bool.{Bool, true, false, cond, ◌||◌}
 use Prim.Native.Nat.{ℕ, zero, suc, ◌+◌, ◌<◌}
 use native.Mathlib.Omega.{arith}
 use lib.Dec.{eqb}
 use lib.ListN.{length}
 use lib.IntN.{pos, negsuc}
-use borrow.Author.Tests.{le-leb, not-true, not-false}
-use Rattle.laws.proofs.Tests.{false_true, true_false, clash}
+use borrow.Author.Tests.{le-leb, not-false}
+use Rattle.laws.proofs.Tests.{false_true, clash}
 use Rattle.rules.specs.declared.Outcome.{Outcome}
 use Rattle.rules.specs.declared.Outcome.TheVariants.{Is, Unknown, Nothing}
 use Rattle.rules.specs.Answers.{ok}
@@ -26,7 +26,7 @@ use Rattle.paths.specs.Walk.{Oracle, Class, jumps, calls, returns, tests, plain,
 use Rattle.paths.specs.SamePath.{itself, SameWorth}
 use Rattle.decoded.specs.Decoded.{as_worth, numbered, Decodes}
 use Rattle.decoded.specs.Bytes.{spot_of}
-use Rattle.mapwalk.specs.Stands.{Sort, as_code, as_aside, as_stop, as_data, Stand, hidden, blanked, target_as, decodes, enters_as, enters_found, steps_from, image_step, image_walk, seek, memory}
+use Rattle.mapwalk.specs.Stands.{Sort, as_code, as_aside, as_stop, hidden, blanked, target_as, decodes, enters_as, enters_found, steps_from, image_step, image_walk, memory}
 use Rattle.mapwalk.specs.Maps.{followed, sort_at, moves_at, stand_at, stands_of}
 use Rattle.mapwalk.proofs.Seeks.{found_as, seek_comes}
 

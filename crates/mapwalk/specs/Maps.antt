@@ -1,7 +1,7 @@
 -- The map of a program: a row for each instruction and each piece of data, as the image of the input and as that of the output has it.
 use Rattle.std.specs.Prelude.{List, [], ◌∷◌, ◌++◌, map, Bool, true, cond, not, ◌||◌, ℕ, zero, suc, ◌+◌, length}
 use Rattle.rules.specs.declared.Settings.{Settings}
-use Rattle.rules.specs.Programs.{Placeℕ, Operand, register, value, inner, Program, at, Instruction, on_instr, args_of, last_of}
+use Rattle.rules.specs.Programs.{Placeℕ, Operand, register, value, inner, Program, at, on_instr, args_of, last_of}
 use Rattle.rules.specs.Layout.{position, size_in}
 use Rattle.rules.specs.Names.{context_at}
 use Rattle.rules.specs.Judging.{names_of}

@@ -1,5 +1,5 @@
 -- The map that is handed out is that of the walks: row by row the same addresses, and what is data.
-use Rattle.std.specs.Prelude.{◌≡◌, List, [], ◌∷◌, ◌++◌, map, Bool, true, false, cond, ℕ, ◌+◌}
+use Rattle.std.specs.Prelude.{◌≡◌, List, [], ◌∷◌, ◌++◌, map, Bool, true, false, cond, ◌+◌}
 use Rattle.laws.specs.Lists.{each}
 use Rattle.rules.specs.Programs.{Addressℕ, Program, byte_count}
 use Rattle.rules.specs.Layout.{after}

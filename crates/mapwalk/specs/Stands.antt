@@ -1,7 +1,7 @@
 -- The walk of an image by a map: no program is asked. At an address the decoder of C-21 reads whatever stands there; the map says what bytes cannot: where
 -- instructions and data begin and end, under which address of the long image an event is told, which jumps leave for another memory, which targets are
 -- computed with a label, and which operands are. Zeros outside the map decode to Nop: they are passed one by one, without a step and without an event.
-use Rattle.std.specs.Prelude.{List, [], ◌∷◌, ◌⊎◌, ◌≡◌, Bool, true, false, cond, not, ◌&&◌, ◌||◌, ℕ, zero, suc, ◌+◌, ◌-◌, eqb, leb, ltb, length, get_or, drop, pos}
+use Rattle.std.specs.Prelude.{List, [], ◌∷◌, ◌⊎◌, ◌≡◌, Bool, false, cond, not, ◌&&◌, ◌||◌, ℕ, zero, suc, ◌+◌, ◌-◌, eqb, leb, ltb, length, get_or, drop, pos}
 use Rattle.std.proofs.Math.Option.{Option, none, some}
 use Rattle.rules.specs.Expressions.{num}
 use Rattle.rules.specs.Forms.{size_at, operands_at}
