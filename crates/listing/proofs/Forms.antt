@@ -4,17 +4,17 @@ use mathlib.Core.Bool.{Bool, true, false, ◌&&◌, cond}
 use mathlib.Core.List.{List, [], ◌∷◌}
 use Prim.Native.Nat.{ℕ, zero, suc, ◌+◌, ◌-◌, ◌≤◌, ◌<◌}
 use native.Mathlib.Omega.{arith}
-use lib.Dec.{leb, eqb}
+use lib.Dec.{eqb}
 use lib.ListN.{length, get_or, drop, length-drop}
 use lib.Seq.{get_or-drop}
 use borrow.Author.Tests.{eqb-true, ne_eqb, le-leb, lt-leb}
 use Rattle.laws.specs.Lists.{same}
-use Rattle.laws.proofs.Tests.{and_true, and_assoc, second_false, both_ways}
+use Rattle.laws.proofs.Tests.{and_true, and_assoc, second_false}
 use Rattle.rules.specs.declared.Refusal.TheVariants.{Broken}
 use Rattle.rules.specs.Answers.{at_place, no, ◌>>=◌, require}
 use Rattle.rules.specs.Programs.{Placeℕ}
 use Rattle.rules.specs.Listing.{Line, onto_line, lines_of, take_byte, read_frame, ListingForm, old_form, new_form, is_mark, form_in, statement_lines, line_bytes, read_frame_in, beside_of}
-use Rattle.listing.specs.Lines.{line_length, after_line, first_line}
+use Rattle.listing.specs.Lines.{after_line, first_line}
 use Rattle.listing.specs.Form.{form_of, is_marked, after_mark, without, kept_at}
 use Rattle.listing.proofs.FirstLine.{lines_are}
 

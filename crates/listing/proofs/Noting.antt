@@ -1,5 +1,5 @@
 -- What reading keeps of a frame that reads: its form and its arguments' places, each within the frame. Assumes nothing.
-use mathlib.Core.Path.{◌≡◌, refl, sym, ap, ◌∙◌, subst}
+use mathlib.Core.Path.{◌≡◌, refl, sym, ap, ◌∙◌}
 use mathlib.Core.Logic.{⊎_elim}
 use mathlib.Core.Bool.{Bool, true, false, cond}
 use mathlib.Core.List.{List, [], ◌∷◌}
@@ -7,11 +7,11 @@ use Prim.Native.Nat.{ℕ, zero, suc, ◌+◌, ◌*◌, ◌≤◌, ◌<◌}
 use native.Mathlib.Omega.{arith}
 use lib.Dec.{eqb, ltb}
 use lib.ListN.{length, get_or, take, drop, set, drop_of_length-le, length-set}
-use lib.Seq.{get_or-set_same, get_or-set_other, get_or-take}
+use lib.Seq.{get_or-set_same, get_or-set_other}
 use denote.Enum.Declared.{tag_of}
 use types.Run.{OneOf}
 use borrow.Author.Tests.{eqb-true, eqb-false, eq-eqb, ne_eqb, ltb-true}
-use Rattle.laws.proofs.Tests.{clash, lt_or_le}
+use Rattle.laws.proofs.Tests.{lt_or_le}
 use Rattle.rules.specs.declared.Arg.{Arg}
 use Rattle.rules.specs.declared.Instr.{Instr}
 use Rattle.rules.specs.declared.Kind.{Kind}
@@ -19,20 +19,20 @@ use Rattle.rules.specs.declared.Kind.TheVariants.{Reg, I8, D9, Bit, Rel8, A12, A
 use Rattle.rules.specs.declared.Refusal.TheVariants.{Broken}
 use Rattle.rules.specs.declared.Statement.{Statement}
 use Rattle.rules.specs.declared.Statement.TheVariants.{Instr as OfInstr, Label, Variable, Comment, Org, Bytes, Words, Pad}
-use Rattle.rules.specs.Answers.{at_place, Judged, ok, no, ◌>>=◌, require}
+use Rattle.rules.specs.Answers.{at_place, Judged, ok, ◌>>=◌, require}
 use Rattle.rules.specs.Expressions.{parse, read_expr}
 use Rattle.rules.specs.Forms.{operands_at}
-use Rattle.rules.specs.Instructions.{instr_of, arguments_of, form_of}
+use Rattle.rules.specs.Instructions.{instr_of, arguments_of}
 use Rattle.rules.specs.Programs.{Operand, Stmt}
 use Rattle.rules.specs.Listing.{Taken, take_byte, take_expr, take_register, take_value, take_operand, take_operands, read_instr, read_frame}
-use Rattle.rules.specs.Statements.{arg_at, width_at, argument_at, pair_at, instruction_of, statement_of}
+use Rattle.rules.specs.Statements.{arg_at, width_at, argument_at, instruction_of, statement_of}
 use Rattle.rules.proofs.Laws.{no_ok, then_ok, require_ok}
 use Rattle.rules.specs.contracts.Statement.{the_type}
 use Rattle.instruction.specs.declared.forms.Args.{Args}
 use Rattle.instruction.specs.declared.forms.Args.TheVariants.{None, One, Two, Three}
 use Rattle.instruction.specs.Forms.{args_as}
 use Rattle.instruction.proofs.Numbers.{few_operands, number_back, places_back}
-use Rattle.listing.specs.Tables.{form_in, Noted}
+use Rattle.listing.specs.Tables.{form_in}
 use Rattle.listing.specs.Reading.{form_for, place_for, kept_of}
 use Rattle.listing.proofs.FramesKept.{Longer}
 use Rattle.listing.proofs.Statements.{operand_ok}
