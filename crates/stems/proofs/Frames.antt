@@ -1,22 +1,21 @@
 -- The frames of an accepted listing are those of its statements, each with its source line.
 use mathlib.Core.Path.{◌≡◌, refl, sym, ap, ap₂, ◌∙◌}
 use mathlib.Core.Logic.{⊎_elim}
-use mathlib.Core.List.{List, [], ◌∷◌, ◌++◌, map}
-use mathlib.Core.Bool.{Bool, true, ◌&&◌}
-use Prim.Native.Nat.{ℕ, zero, suc, ◌+◌, ◌-◌, ◌*◌, ◌/◌, ◌%◌, ◌≤◌, ◌<◌}
+use mathlib.Core.List.{List, [], ◌∷◌, map}
+use mathlib.Core.Bool.{true, ◌&&◌}
+use Prim.Native.Nat.{ℕ, zero, suc, ◌+◌, ◌*◌, ◌/◌, ◌%◌, ◌≤◌, ◌<◌}
 use native.Mathlib.Omega.{arith}
 use lib.Dec.{leb, eqb}
 use lib.ListN.{length, get_or, drop}
 use lib.Seq.{get_or-drop}
 use borrow.Author.Tests.{leb-true, le-leb, lt-leb}
 use Rattle.laws.specs.Lists.{every}
-use Rattle.laws.proofs.Tests.{clash, and_true}
+use Rattle.laws.proofs.Tests.{and_true}
 use Rattle.rules.specs.declared.Refusal.TheVariants.{Broken, Limit}
 use Rattle.rules.specs.Answers.{at_place, ok, require}
-use Rattle.rules.specs.Expressions.{four}
-use Rattle.rules.specs.Programs.{Placeℕ, Stmt, gone, Program, at}
+use Rattle.rules.specs.Programs.{Placeℕ, Stmt, Program, at}
 use Rattle.rules.specs.Listing.{Line, ListingForm, old_form, new_form, lines_of, form_in, statement_lines, is_digit, digit, unhex, read_frame}
-use Rattle.rules.specs.Listing.{read_new, read_frame_in, source_line, within_limits, well_formed, read_lines, read_listing, beside_of}
+use Rattle.rules.specs.Listing.{read_frame_in, source_line, within_limits, well_formed, read_lines, read_listing, beside_of}
 use Rattle.rules.specs.Output.{frame_of, with_line, frame_in}
 use Rattle.rules.proofs.Laws.{then_ok, require_ok, no_ok}
 use Rattle.expression.specs.Sound.{AreBytes}

@@ -1,28 +1,27 @@
 -- C-13 under the optimizer's own list: no statement is added, every dropped one is removed, every changed one is a transfer.
 use mathlib.Core.Path.{◌≡◌, refl, sym, ap, ap₂, ◌∙◌, subst}
-use mathlib.Core.List.{List, [], ◌∷◌, ◌++◌, map}
+use mathlib.Core.List.{List, [], ◌∷◌, map}
 use mathlib.Core.Option.{some}
-use mathlib.Core.Bool.{Bool, true, false, ◌&&◌, not, cond}
-use Prim.Native.Nat.{ℕ, zero, suc, ◌+◌, ◌*◌, ◌/◌, ◌%◌, ◌≤◌, ◌<◌}
+use mathlib.Core.Bool.{Bool, true, false, cond}
+use Prim.Native.Nat.{ℕ, ◌+◌, ◌*◌, ◌/◌, ◌%◌, ◌<◌}
 use native.Mathlib.Omega.{arith}
-use lib.Dec.{leb, eqb}
+use lib.Dec.{leb}
 use lib.ListN.{length, get_or, length-map, get_or-map}
 use borrow.Author.Tests.{eq-eqb}
 use Rattle.laws.specs.Lists.{each, total, same as alike}
-use Rattle.laws.proofs.Tests.{clash, true_false, false_true}
+use Rattle.laws.proofs.Tests.{true_false}
 use Rattle.laws.proofs.Lists.{same_refl}
 use Rattle.laws.proofs.Stores.{get_any}
 use Rattle.rules.specs.declared.Settings.{Settings}
-use Rattle.rules.specs.declared.Refusal.TheVariants.{Room, Broken, Pairing}
-use Rattle.rules.specs.Answers.{ok, require, at_place}
-use Rattle.rules.specs.Expressions.{pair}
+use Rattle.rules.specs.declared.Refusal.TheVariants.{Room}
+use Rattle.rules.specs.Answers.{ok, require}
 use Rattle.rules.specs.Programs.{Placeℕ, Stmt, gone, instr, label, variable, comment, org, bytes, words, pad, Program, at, is_gone}
-use Rattle.rules.specs.Listing.{ListingForm, old_form, new_form, lines_of, form_in, read_listing, Beside, beside_of}
+use Rattle.rules.specs.Listing.{ListingForm, old_form, new_form, lines_of, form_in, read_listing, beside_of}
 use Rattle.rules.specs.Rewriting.{anchor, instr_bytes, optimized}
-use Rattle.rules.specs.Output.{write_back, spoken, shown, compact, stems_from, stems, frame_of, with_line, frame_in, lines_from}
+use Rattle.rules.specs.Output.{write_back, spoken, shown, compact, stems, frame_of, with_line, frame_in, lines_from}
 use Rattle.rules.specs.Run.{Output, output_of, rewritten}
 use Rattle.promises.specs.Demand2.{Input, output_program, own, own_from, KeepsTotal}
-use Rattle.promises.proofs.Listings.{read_made, read_limits}
+use Rattle.promises.proofs.Listings.{read_made}
 use Rattle.promises.proofs.ReadsBack.{reads_back, length_own, at_own}
 use Rattle.promises.proofs.Anchors.{length_anchor}
 use Rattle.promises.proofs.Chains.{chain_keeps}
@@ -32,10 +31,10 @@ use Rattle.promises.proofs.WritesBack.{length_write_back}
 use Rattle.promises.proofs.Ranks.{rank, at_rank, stems_rank}
 use Rattle.output.specs.Stems.{list_of}
 use Rattle.output.proofs.Left.{stems_many}
-use Rattle.pairing.specs.Pairings.{Frames, frames_of, entries_of, entries_in, pairs_from, pairs_of, good_entries}
+use Rattle.pairing.specs.Pairings.{Frames, frames_of, entries_of, pairs_from, good_entries}
 use Rattle.pairing.proofs.Orders.{stems_order}
-use Rattle.differences.specs.Changes.{Change, kept, removed, added, changed, paired, changes_of, text_of}
-use Rattle.differences.specs.Differences.{Differing, of_first, of_second, of_both, text, after, same_form, read_second, compared, differences}
+use Rattle.differences.specs.Changes.{Change, kept, removed, changed, paired, changes_of, text_of}
+use Rattle.differences.specs.Differences.{of_both, text, after, same_form, read_second, compared, differences}
 use Rattle.stems.specs.Own.{transfers, slots_at_end, own_changes, OfRun, OwnList, CommentsStay}
 use Rattle.stems.proofs.Turned.{Turned, dropped, same, turned, slots_turned}
 use Rattle.stems.proofs.Frames.{frames_with, frame_with, frames_many, listing_frames}

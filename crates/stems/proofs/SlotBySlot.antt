@@ -1,14 +1,14 @@
 -- Under the places that the slots left over stem from, the differences are one for each slot: removed where it is gone, a pair where it is not.
-use mathlib.Core.Path.{◌≡◌, refl, sym, ap, ap₂, ◌∙◌}
-use mathlib.Core.List.{List, [], ◌∷◌, ◌++◌, append-nil, append_assoc}
+use mathlib.Core.Path.{◌≡◌, refl, ap, ◌∙◌}
+use mathlib.Core.List.{List, [], ◌∷◌, ◌++◌, append_assoc}
 use mathlib.Core.Bool.{Bool, true, false, cond}
 use Prim.Native.Nat.{ℕ, zero, suc, ◌+◌, ◌-◌, ◌≤◌, ◌<◌}
 use native.Mathlib.Omega.{arith}
 use lib.ListN.{length, get_or}
-use Rattle.rules.specs.Programs.{Placeℕ, Stmt, gone, Program, at, is_gone}
+use Rattle.rules.specs.Programs.{Placeℕ, Program, at, is_gone}
 use Rattle.rules.specs.Output.{compact, stems_from, stems}
 use Rattle.promises.proofs.Ranks.{rank}
-use Rattle.pairing.specs.Pairings.{Frames, Pair, pairs_from}
+use Rattle.pairing.specs.Pairings.{Frames, pairs_from}
 use Rattle.differences.specs.Changes.{Change, removed, paired, removed_from, added_from, between, changes_of}
 
 unfoldable pub slot_changes : (a b : Frames) (i j : Placeℕ) → Program → List Change

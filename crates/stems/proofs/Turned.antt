@@ -8,14 +8,14 @@ use Rattle.laws.specs.Lists.{total, every}
 use Rattle.laws.proofs.Tests.{clash, and_true, false_true}
 use Rattle.rules.specs.declared.Settings.{Settings}
 use Rattle.rules.specs.Forms.{is_transfer}
-use Rattle.rules.specs.Programs.{Placeℕ, Operand, register, value, inner, Stmt, gone, instr, Program, at, on_instr, on_last, retarget}
+use Rattle.rules.specs.Programs.{Placeℕ, Operand, register, value, inner, Stmt, gone, instr, Program, at, on_last, retarget}
 use Rattle.rules.specs.Judging.{names_of}
 use Rattle.rules.specs.Rewriting.{is_change_jump, is_anchored, anchor, aimed, drop_all, instr_bytes, optimized}
-use Rattle.rules.specs.Output.{plain_target, write_back, spoken, shown}
-use Rattle.rules.proofs.Laws.{is_instr, by_instr, by_change, other}
+use Rattle.rules.specs.Output.{plain_target, write_back}
+use Rattle.rules.proofs.Laws.{by_instr, by_change, other}
 use Rattle.promises.proofs.Steps.{Step, invert, bounce, shrink}
 use Rattle.promises.proofs.Chains.{chain_keeps}
-use Rattle.promises.proofs.Anchors.{at_anchor, anchored, anchor_in}
+use Rattle.promises.proofs.Anchors.{at_anchor, anchor_in}
 use Rattle.promises.proofs.Frames.{is_plain}
 use Rattle.promises.proofs.Listings.{WellMade, made_instr}
 use Rattle.promises.proofs.WritesBack.{at_write_back}
@@ -71,7 +71,7 @@ step_turned p q r (shrink s) h =
 -- ---- anchoring changes the targets of transfers alone
 
 transfers_retarget : (f : Operand → Operand) (s : Stmt) → transfers (retarget f s) ≡ transfers s
-transfers_retarget f s = by_change (λ s t. transfers t ≡ transfers s) _ (λ g xs c. refl) (λ s n. refl) s
+transfers_retarget f s = by_change (λ s t. transfers t ≡ transfers s) (λ x. instr x.form (on_last f x.args) x.carried) (λ g xs c. refl) (λ s n. refl) s
 
 anchored_transfers : (p : Program) (i : Placeℕ) (s : Stmt) → is_anchored (names_of p) p i s ≡ true → transfers s ≡ true
 unfolding is_anchored
@@ -109,7 +109,8 @@ made_same p w q i = on (at p i) refl
     on : (s : Stmt) → at p i ≡ s → retarget (plain_target q) s ≡ s
     on =
         by_instr (λ s. at p i ≡ s → retarget (plain_target q) s ≡ s)
-        (λ f xs c e. ap (λ (l : List Operand). instr f l c) (plain_same q xs (made_instr p w i f xs c e).1)) (λ s n e. other s _ s n)
+        (λ f xs c e. ap (λ (l : List Operand). instr f l c) (plain_same q xs (made_instr p w i f xs c e).1))
+        (λ s n e. other s (λ x. instr x.form (on_last (plain_target q) x.args) x.carried) s n)
 
 written_turned : (p : Program) → WellMade p → (q : Program) → AllTurned p q → AllTurned p (write_back q)
 written_turned p w q h i = rw (at_write_back q i) (on (at q i) (h i))
