@@ -26,7 +26,6 @@ use Rattle.listing.specs.Lines.{first_line}
 use Rattle.listing.specs.Form.{form_of, is_marked}
 use Rattle.listing.specs.Tables.{ListedAs}
 use Rattle.listing.proofs.Forms.{mark_form}
-use Rattle.promises.specs.Demand1.{has_number}
 use Rattle.promises.proofs.Listings.{read_refuses}
 use Rattle.lines.specs.Alone.{by_itself}
 use Rattle.lines.specs.Turns.{Numbered, one_or_two, OneLine}
@@ -79,7 +78,8 @@ one_two : (n : ℕ) → eqb 1 n || (eqb 2 n || false) ≡ true → (cond (eqb n 
 one_two n h =
     ⊎_elim
     (λ e. let z : n ≡ 1 = sym (eqb-true 1 n e) in rw z (refl, omega arith))
-    (λ k. ⊎_elim (λ e. let z : n ≡ 2 = sym (eqb-true 2 n e) in rw z (refl, omega arith)) (λ e. clash (cc)) (or_true (eqb 2 n) false k))
+    (λ (k : eqb 2 n || false ≡ true). ⊎_elim (λ e. let z : n ≡ 2 = sym (eqb-true 2 n e) in rw z (refl, omega arith)) (λ e. clash (cc))
+    (or_true (eqb 2 n) false k))
     (or_true (eqb 1 n) (eqb 2 n || false) h)
 
 -- every refusal but one, by its number among them

@@ -2,7 +2,7 @@
 use mathlib.Core.Path.{◌≡◌, refl, sym, ap, ◌∙◌}
 use mathlib.Core.Bool.{Bool, true, false, ◌&&◌, cond}
 use mathlib.Core.List.{List, [], ◌∷◌, ◌++◌, append_assoc}
-use Prim.Native.Nat.{ℕ, suc, ◌+◌, ◌*◌, ◌-◌, ◌/◌, ◌%◌, ◌≤◌, ◌<◌}
+use Prim.Native.Nat.{ℕ, ◌+◌, ◌*◌, ◌-◌, ◌/◌, ◌%◌, ◌≤◌, ◌<◌}
 use native.Mathlib.Omega.{arith}
 use lib.Dec.{leb, ltb, eqb}
 use lib.ListN.{length, get_or, take, drop, set, replicate, length-take, length-append, take-append-drop}
@@ -11,7 +11,7 @@ use borrow.Author.Tests.{leb-true, eq-eqb, ne_eqb}
 use Rattle.laws.specs.Lists.{every}
 use Rattle.laws.proofs.Tests.{and_true}
 use Rattle.rules.specs.declared.Refusal.TheVariants.{Broken, Limit}
-use Rattle.rules.specs.Answers.{at_place, Judged, ok, no, require, ◌>>=◌}
+use Rattle.rules.specs.Answers.{at_place, Judged, ok, no, require}
 use Rattle.rules.specs.Expressions.{pair}
 use Rattle.rules.specs.Programs.{Program, Stmt, comment}
 use Rattle.rules.specs.Listing.{Line, is_digit, unhex, ListingForm, old_form, new_form, line_bytes, widest, most_characters, within_limits, well_formed, read_frame_in, read_lines}
