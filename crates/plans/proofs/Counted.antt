@@ -3,13 +3,13 @@ use mathlib.Core.Path.{◌≡◌, refl, sym, ap, ◌∙◌, subst}
 use mathlib.Core.List.{List, [], ◌∷◌, ◌++◌, append-nil}
 use mathlib.Core.Option.{none}
 use mathlib.Core.Bool.{Bool, true, false, cond}
-use Prim.Native.Nat.{ℕ, zero, suc, ◌+◌, ◌-◌, ◌*◌, ◌≤◌, ◌<◌}
+use Prim.Native.Nat.{ℕ, zero, suc, ◌+◌, ◌*◌, ◌≤◌, ◌<◌}
 use native.Mathlib.Omega.{arith}
 use lib.Dec.{eqb, leb, lit≤}
-use lib.ListN.{length, length-append}
-use borrow.Author.Tests.{eqb-true, leb-true, leb-false, le-leb}
+use lib.ListN.{length-append}
+use borrow.Author.Tests.{eqb-true, leb-true, leb-false}
 use Rattle.laws.specs.Lists.{every}
-use Rattle.laws.proofs.Tests.{clash, false_true}
+use Rattle.laws.proofs.Tests.{clash}
 use Rattle.rules.specs.Programs.{Stmt}
 use Rattle.grammar.specs.Reading.{is_decimal, worth, look, Decimal}
 use Rattle.grammar.specs.Going.{Read, got, stuck, digits}
@@ -17,8 +17,7 @@ use Rattle.plans.specs.Plans as plans
 use Rattle.plans.specs.Plans.{Plan, fork, decimal, finish, Alike, both, same, Halts, Finishes, Reads, Alive}
 use Rattle.plans.specs.Finals.{counted, multiples}
 use Rattle.plans.specs.Lines.{align_plan}
-use Rattle.grammar.proofs.Takes.{Took}
-use Rattle.grammar.proofs.Digits.{AllDigits, more_digits, digits_all}
+use Rattle.grammar.proofs.Digits.{digits_all}
 use Rattle.grammar.proofs.RoundTrip.{worth_append, digits_append}
 use Rattle.plans.proofs.Planned.{alike_look, NumTook, num_took}
 use Rattle.plans.proofs.ReadOnce.{digit_head}

@@ -4,11 +4,11 @@ use mathlib.Core.Logic.{◌⊎◌, inl, inr}
 use mathlib.Core.List.{List, [], ◌∷◌, ◌++◌, map, append_assoc, append-nil}
 use mathlib.Core.Option.{none}
 use mathlib.Core.Bool.{Bool, true, false, not}
-use Prim.Native.Nat.{ℕ, zero, suc, ◌+◌, ◌<◌}
+use Prim.Native.Nat.{ℕ, zero, suc, ◌<◌}
 use native.Mathlib.Omega.{arith}
 use lib.Dec.{eqb}
 use borrow.Author.Tests.{eqb-true, eqb-false}
-use Rattle.laws.specs.Lists.{every, each, same}
+use Rattle.laws.specs.Lists.{every, same}
 use Rattle.laws.proofs.Tests.{clash, false_true, and_true}
 use Rattle.laws.proofs.Lists.{same_true, same_refl}
 use Rattle.rules.specs.declared.Kind.{Kind}
@@ -128,6 +128,7 @@ goes_on n ih ws xs f (k ∷ ks) ys t e i a =
 behind_full : (n : ℕ) → Full n → (ws : List Way) (xs : List Operand) (f : ℕ) (ks : List Kind) (ys : List Operand) (t : List ℕ) → behind_fit (ways_fit n) ws ≡ true
     → In (way f ks) ws → Arguments 44 ks ys t → Reads (behind (args_plan n) ws xs) (instr f (xs ++ ys) 0) t
 behind_full n ih [] xs f ks ys t e i a = false_true e
+behind_full n ih (way g [] ∷ []) xs f ks ys t e (there j) a = elim j [ ]
 behind_full n ih (way g [] ∷ []) xs f ks ys t e here a = ends_text g xs ys t 44 a
 behind_full n ih (way g [] ∷ w ∷ ws) xs f ks ys t e i a = false_true e
 behind_full n ih (way g (k ∷ ls) ∷ ws) xs f ks ys t e i a = goes_on n ih (way g (k ∷ ls) ∷ ws) xs f ks ys t e i a
@@ -190,6 +191,7 @@ record Member (m : List ℕ) (fs : List ℕ) (w : Way) : Type 0 where
 
 family_in : (m : List ℕ) (fs : List ℕ) (w : Way) → In w (family m fs) → Member m fs w
 unfolding family
+family_in m [] w i = elim i [ ]
 family_in m (f ∷ fs) w i = on (into (same (mnemonic f) m) w (way f (operands_at f)) (family m fs) i) (λ j. family_in m fs w j)
   where
     on : ((w ≡ way f (operands_at f)) × (same (mnemonic f) m ≡ true)) ⊎ In w (family m fs) → (In w (family m fs) → Member m fs w) → Member m (f ∷ fs) w
@@ -198,6 +200,7 @@ family_in m (f ∷ fs) w i = on (into (same (mnemonic f) m) w (way f (operands_a
 
 in_family : (f : ℕ) (fs : List ℕ) → In f fs → In (way f (operands_at f)) (family (mnemonic f) fs)
 unfolding family
+in_family f [] j = elim j [ ]
 in_family f (g ∷ fs) here = subst (λ b. In (way f (operands_at f)) (onto b (way f (operands_at f)) (family (mnemonic f) fs))) (sym (same_refl (mnemonic f))) here
 in_family f (g ∷ fs) (there i) =
     onto_same (way f (operands_at f)) (same (mnemonic g) (mnemonic f)) (way g (operands_at g)) (family (mnemonic f) fs) (in_family f fs i)
@@ -205,6 +208,7 @@ in_family f (g ∷ fs) (there i) =
 -- each form has its mnemonic among the heads
 pub heads_have : (f : ℕ) (fs : List ℕ) → In f fs → (g : ℕ) × (In g (heads fs) × (mnemonic g ≡ mnemonic f))
 unfolding heads
+heads_have f [] j = elim j [ ]
 heads_have f (h ∷ fs) here = on (some? (family (mnemonic f) fs)) refl (λ g i. heads_have g fs i)
   where
     on : (b : Bool) → some? (family (mnemonic f) fs) ≡ b → ((g : ℕ) → In g fs → (k : ℕ) × (In k (heads fs) × (mnemonic k ≡ mnemonic g)))
@@ -227,14 +231,17 @@ in_below (suc n) f h = on (eqb f n) refl (λ k. in_below n f k)
     on false q ih = there (ih (omega (arith, eqb-false f n q)))
 
 pub below_in : (n f : ℕ) → In f (below n) → f < n
+below_in zero f j = elim j [ ]
 below_in (suc n) f here = omega arith
 below_in (suc n) f (there i) = omega (arith, below_in n f i)
 
 pub map_in : {A B : Type 0} (g : A → B) (a : A) (xs : List A) → In a xs → In (g a) (map g xs)
+map_in {A = A} {B = B} g a [] j = elim j [ ]
 map_in g a (b ∷ xs) here = here
 map_in g a (b ∷ xs) (there i) = there (map_in g a xs i)
 
 pub in_map : {A B : Type 0} (g : A → B) (b : B) (xs : List A) → In b (map g xs) → (a : A) × (In a xs × (b ≡ g a))
+in_map {A = A} {B = B} g b [] j = elim j [ ]
 in_map g b (a ∷ xs) here = (a, (here, refl))
 in_map g b (a ∷ xs) (there i) = let r = in_map g b xs i in (r.0, (there r.1.0, r.1.1))
 
@@ -244,6 +251,7 @@ families_fit = refl
 
 pub every_in : {A : Type 0} (g : A → Bool) (a : A) (xs : List A) → every g xs ≡ true → In a xs → g a ≡ true
 unfolding every
+every_in {A = A} g a [] e j = elim j [ ]
 every_in g a (b ∷ xs) e here = (and_true (g a) (every g xs) e).0
 every_in g a (b ∷ xs) e (there i) = every_in g a xs (and_true (g b) (every g xs) e).1 i
 
@@ -301,6 +309,7 @@ line_opened m ws f (k ∷ ks) ys t e i a =
 line_word : (m : List ℕ) (ws : List Way) (f : ℕ) (ks : List Kind) (ys : List Operand) (t : List ℕ) → behind_fit (ways_fit 3) ws ≡ true → In (way f ks) ws → Arguments 32 ks ys t
     → Says (word_of m ws) (instr f ys 0) (m ++ t)
 line_word m [] f ks ys t e i a = false_true e
+line_word m (way g [] ∷ []) f ks ys t e (there j) a = elim j [ ]
 line_word m (way g [] ∷ []) f ks ys t e here a =
     let b = none_of a in (ap (λ y. instr g y 0) b.0, ap (λ y. m ++ y) b.1 ∙ append-nil m)
 line_word m (way g [] ∷ w ∷ ws) f ks ys t e i a = false_true e

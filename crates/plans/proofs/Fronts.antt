@@ -2,10 +2,10 @@
 -- any. Assumes nothing.
 use mathlib.Core.Path.{◌≡◌, refl, sym, ap, ◌∙◌, subst}
 use mathlib.Core.Logic.{◌⊎◌, inl, inr}
-use mathlib.Core.List.{List, [], ◌∷◌, ◌++◌, append-nil}
+use mathlib.Core.List.{List, [], ◌∷◌, ◌++◌}
 use mathlib.Core.Option.{Option, none, some}
-use mathlib.Core.Bool.{Bool, true, false, ◌&&◌, cond}
-use Prim.Native.Nat.{ℕ, zero, suc, ◌≤◌, ◌<◌}
+use mathlib.Core.Bool.{Bool, true, false, cond}
+use Prim.Native.Nat.{ℕ, zero, suc, ◌≤◌}
 use native.Mathlib.Omega.{arith}
 use lib.Dec.{eqb}
 use lib.ListN.{length, drop}
@@ -17,7 +17,7 @@ use Rattle.plans.specs.Plans as plans
 use Rattle.plans.specs.Plans.{Plan, done, fork, Walks}
 use Rattle.plans.specs.Words.{Word, opening, closing, In, here, there, advance, end_of, some?, trie, clean, apart, each_first, fit}
 use Rattle.plans.specs.Lines.{word_list, line_plan}
-use Rattle.plans.specs.Fronts.{common, spelling, opens, Matches, Misses, Far}
+use Rattle.plans.specs.Fronts.{common, spelling, opens, Misses, Far}
 use Rattle.plans.proofs.Worded.{put, some_in, in_some, advance_in, in_open, in_close, end_in, end_is, no_open, first_open, first_close, first_put, forked}
 use Rattle.plans.proofs.Lined.{words_fit}
 
@@ -56,6 +56,7 @@ met_walk (suc k) d v o ws w t e i g = on ws w e i g (λ us u r f j h. met_walk k
     on (opening [] P ∷ []) w e i g ih = only w i g
       where
         only : (w : Word) → In w (opening [] P ∷ []) → Met t v (done d) w o t → Walks P t o
+        only w (there j) _ = elim j [ ]
         only w here (z, g) = subst (λ y. Walks P y o) (sym z) g
     on (opening [] P ∷ u ∷ ws) w e i g ih = false_true e
     on (opening (c ∷ x) P ∷ ws) w e i g ih =

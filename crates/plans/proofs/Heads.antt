@@ -1,17 +1,18 @@
 -- The words of the mnemonics are those of the seventy forms. Assumes nothing.
-use mathlib.Core.Path.{◌≡◌, refl, sym, ap, ◌∙◌, subst}
+use mathlib.Core.Path.{◌≡◌, subst}
 use mathlib.Core.Logic.{◌⊎◌, inl, inr}
-use mathlib.Core.List.{List, [], ◌∷◌, ◌++◌, append-nil}
-use mathlib.Core.Bool.{Bool, true, false, not, cond}
-use Prim.Native.Nat.{ℕ, zero, suc, ◌≤◌, ◌<◌}
+use mathlib.Core.List.{List, [], ◌∷◌}
+use mathlib.Core.Bool.{true, not}
+use Prim.Native.Nat.{ℕ, ◌<◌}
 use Rattle.text.specs.Text.{mnemonic}
-use Rattle.plans.specs.Words.{Word, opening, closing, In, here, there, some?}
+use Rattle.plans.specs.Words.{Word, In, here, there, some?}
 use Rattle.plans.specs.Families.{below, family, heads, word_of, family_of, mnemonics}
 use Rattle.plans.proofs.Worded.{into}
 use Rattle.plans.proofs.Formed.{heads_have, in_below, below_in, map_in, in_map}
 
 heads_in : (f : ℕ) (fs : List ℕ) → In f (heads fs) → In f fs
 unfolding heads
+heads_in f [] i = elim i [ ]
 heads_in f (h ∷ fs) i = on (into (not (some? (family (mnemonic h) fs))) f h (heads fs) i) (λ j. heads_in f fs j)
   where
     on : ((f ≡ h) × (not (some? (family (mnemonic h) fs)) ≡ true)) ⊎ In f (heads fs) → (In f (heads fs) → In f fs) → In f (h ∷ fs)

@@ -2,36 +2,33 @@
 use mathlib.Core.Path.{◌≡◌, refl, sym, ap, ◌∙◌, subst}
 use mathlib.Core.Logic.{◌⊎◌, inl, inr}
 use mathlib.Core.List.{List, [], ◌∷◌, ◌++◌, append_assoc, append-nil}
-use mathlib.Core.Option.{Option, none, some}
-use mathlib.Core.Bool.{Bool, true, false, ◌&&◌, ◌||◌, cond}
-use Prim.Native.Nat.{ℕ, zero, suc, ◌+◌, ◌≤◌, ◌<◌}
+use mathlib.Core.Option.{some}
+use mathlib.Core.Bool.{Bool, true, false, ◌||◌, cond}
+use Prim.Native.Nat.{ℕ, zero, suc, ◌+◌, ◌≤◌}
 use native.Mathlib.Omega.{arith}
 use lib.Dec.{eqb, lit≤}
 use lib.ListN.{length}
 use borrow.Author.Tests.{eqb-true}
-use Rattle.laws.specs.Lists.{every, each, same}
-use Rattle.laws.proofs.Tests.{clash, false_true, or_true}
+use Rattle.laws.specs.Lists.{every, same}
+use Rattle.laws.proofs.Tests.{clash}
 use Rattle.rules.specs.Expressions.{Expr}
 use Rattle.rules.specs.Forms.{form_at}
-use Rattle.rules.specs.Output.{hex_byte}
 use Rattle.rules.specs.Patterns.{codes}
-use Rattle.text.specs.Text.{mnemonic, comment_text}
-use Rattle.rules.specs.Programs.{Stmt, gone, label, variable, comment, org, bytes, words, pad}
+use Rattle.text.specs.Text.{mnemonic}
+use Rattle.rules.specs.Programs.{Stmt, gone, label, variable, org, bytes, words, pad}
 use Rattle.grammar.specs.Reading as reading
 use Rattle.grammar.specs.Reading.{is_decimal, Exp, Line}
-use Rattle.grammar.specs.Going.{infix_of}
 use Rattle.plans.specs.Plans as plans
 use Rattle.plans.specs.Plans.{Plan, done, fork, expression, decimal, five, finish, Reads, Behind, Alive}
-use Rattle.plans.specs.Words.{Word, opening, closing, Says, In, here, there, advance, end_of, fit, trie}
+use Rattle.plans.specs.Words.{Word, opening, In, here, there, advance, fit}
 use Rattle.plans.specs.Lines.{after_global, global_plan, local_plan, org_plan, items_plan, dot_words, word_list, line_plan}
 use Rattle.plans.specs.Families.{narrow, family, heads, mnemonics}
-use Rattle.plans.specs.Finals.{comments}
-use Rattle.plans.proofs.Formed.{mnemonic_line, line_mnemonic, mnemonic_alive}
+use Rattle.plans.proofs.Formed.{mnemonic_alive}
 use Rattle.plans.proofs.Counted.{align_alive}
-use Rattle.plans.proofs.Commented.{comments_alive, comment_line, line_comment}
+use Rattle.plans.proofs.Commented.{comments_alive}
 use Rattle.plans.proofs.Planned.{done_ends}
-use Rattle.plans.proofs.Parts.{done_is, Tree, tree_of, Value, value_of, Named, name_of, Byte, byte_of, comma}
-use Rattle.plans.proofs.Worded.{Step, fork_step, trie_right, trie_alive, Found}
+use Rattle.plans.proofs.Parts.{done_is, Tree, tree_of, value_of, name_of, byte_of, comma}
+use Rattle.plans.proofs.Worded.{Step, fork_step, trie_alive}
 
 -- ---- alive
 
@@ -65,6 +62,7 @@ unfolding fit advance word_list mnemonics every narrow family heads same mnemoni
 words_fit = refl
 
 pub no_in : {X : Type 0} (w : Word) (vs : List Word) → In w vs → vs ≡ [] → X
+no_in {X = X} w [] i e = elim i [ ]
 no_in w (v ∷ vs) i e = clash (cc)
 
 -- in one list or the other
@@ -78,6 +76,7 @@ in_either w (u ∷ us) vs (there i) = on (in_either w us vs i)
     on (inr j) = inr j
 
 pub in_first : {A : Type 0} (w : A) (us vs : List A) → In w us → In w (us ++ vs)
+in_first {A = A} w [] vs j = elim j [ ]
 in_first w (u ∷ us) vs here = here
 in_first w (u ∷ us) vs (there i) = there (in_first w us vs i)
 

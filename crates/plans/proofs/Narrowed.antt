@@ -8,7 +8,6 @@ use Prim.Native.Nat.{ℕ, suc, ◌+◌, ◌-◌, ◌≤◌}
 use native.Mathlib.Omega.{arith}
 use lib.Dec.{eqb, leb}
 use borrow.Author.Tests.{eqb-true, leb-true, le-leb}
-use Rattle.laws.specs.Lists.{each}
 use Rattle.laws.proofs.Tests.{false_true, both_ways, and_true, and_both, or_true, or_first}
 use Rattle.rules.specs.declared.Kind.{Kind}
 use Rattle.rules.specs.declared.Kind.TheVariants.{Reg, I8, D9, Bit, Rel8, A12, A16, Rel16}
@@ -211,6 +210,7 @@ wider r = record { k = r.k; is = r.is; among = there r.among }
 
 pub narrow_in : (m : Mark) (f : ℕ) (ks : List Kind) (ws : List Way) → In (way f ks) (narrow m ws) → Wider m f ks ws
 unfolding narrow
+narrow_in m f ks [] i = elim i [ ]
 narrow_in m f ks (way g [] ∷ ws) i = wider (narrow_in m f ks ws i)
 narrow_in m f ks (way g (k ∷ ls) ∷ ws) i = on (into (meets (mark_of k) m) (way f ks) (way g ls) (narrow m ws) i) (λ j. wider (narrow_in m f ks ws j))
   where
@@ -224,12 +224,14 @@ narrow_in m f ks (way g (k ∷ ls) ∷ ws) i = on (into (meets (mark_of k) m) (w
 
 pub in_narrow : (f : ℕ) (k : Kind) (ks : List Kind) (ws : List Way) → In (way f (k ∷ ks)) ws → In (way f ks) (narrow (mark_of k) ws)
 unfolding narrow
+in_narrow f k ks [] j = elim j [ ]
 in_narrow f k ks (way g (l ∷ ls) ∷ ws) here = subst (λ b. In (way f ks) (onto b (way f ks) (narrow (mark_of k) ws))) (sym (meets_same (mark_of k))) here
 in_narrow f k ks (way g [] ∷ ws) (there i) = in_narrow f k ks ws i
 in_narrow f k ks (way g (l ∷ ls) ∷ ws) (there i) = onto_same (way f ks) (meets (mark_of l) (mark_of k)) (way g ls) (narrow (mark_of k) ws) (in_narrow f k ks ws i)
 
 -- where all go on, none ends
 pub on_in : (f : ℕ) (ws : List Way) → go_on ws ≡ true → In (way f []) ws → ⊥
+on_in f [] e i = elim i [ ]
 on_in f (way g [] ∷ ws) e i = false_true e
 on_in f (way g (k ∷ ks) ∷ ws) e (there i) = on_in f ws e i
 

@@ -1,27 +1,22 @@
 -- What a text of a plan is made of. Assumes nothing.
-use mathlib.Core.Path.{◌≡◌, refl, sym, ap, ◌∙◌, subst}
-use mathlib.Core.Logic.{◌⊎◌, inl, inr}
-use mathlib.Core.List.{List, [], ◌∷◌, ◌++◌, append_assoc, append-nil}
-use mathlib.Core.Option.{Option, none, some}
-use mathlib.Core.Bool.{Bool, true, false, ◌&&◌, ◌||◌, cond}
-use Prim.Native.Nat.{ℕ, zero, suc, ◌+◌, ◌≤◌, ◌<◌}
-use native.Mathlib.Omega.{arith}
-use lib.Dec.{eqb, lit≤}
+use mathlib.Core.Path.{◌≡◌, refl, sym, subst}
+use mathlib.Core.Logic.{inl, inr}
+use mathlib.Core.List.{List, ◌∷◌, ◌++◌}
+use mathlib.Core.Option.{none}
+use mathlib.Core.Bool.{Bool, true, false}
+use Prim.Native.Nat.{ℕ}
+use lib.Dec.{eqb}
 use lib.ListN.{length}
 use borrow.Author.Tests.{eqb-true}
-use Rattle.laws.specs.Lists.{every}
-use Rattle.laws.proofs.Tests.{clash, false_true, or_true}
+use Rattle.laws.proofs.Tests.{clash}
 use Rattle.rules.specs.Expressions.{Expr}
-use Rattle.rules.specs.Patterns.{codes}
-use Rattle.rules.specs.Programs.{Stmt, gone, label, variable, comment, org, bytes, words}
+use Rattle.rules.specs.Programs.{Stmt}
 use Rattle.grammar.specs.Reading as reading
 use Rattle.grammar.specs.Reading.{is_decimal, Exp, Line}
 use Rattle.grammar.specs.Going.{infix_of}
 use Rattle.plans.specs.Plans as plans
 use Rattle.plans.specs.Plans.{Plan, done, fork, expression, decimal, five, Reads, Behind, Alive}
-use Rattle.plans.specs.Words.{Word, opening, closing, Says, In, here, there, advance, end_of, fit, trie}
-use Rattle.plans.proofs.Planned.{done_ends}
-use Rattle.plans.proofs.Worded.{Step, fork_step, trie_right, trie_alive, Found}
+use Rattle.plans.proofs.Worded.{Step, fork_step}
 
 pub done_is : {r s : Stmt} {t : List ℕ} → Reads (done r) s t → s ≡ r
 done_is plans.last = refl

@@ -8,7 +8,6 @@ use lib.Dec.{leb}
 use lib.ListN.{length, take, drop, length-append, take-append-drop}
 use lib.Seq.{take_at, take-take}
 use borrow.Author.Tests.{leb-true, leb-false}
-use Rattle.laws.specs.Lists.{every}
 use Rattle.laws.proofs.Tests.{clash, both_ways}
 use Rattle.rules.specs.Expressions.{Expr}
 use Rattle.rules.specs.Programs.{Stmt}

@@ -1,20 +1,19 @@
 -- The definitions computed on examples. A theorem says `T test` and is proved by `tt`.
-use mathlib.Core.Path.{◌≡◌, refl}
-use mathlib.Core.List.{List, [], ◌∷◌, ◌++◌}
+use mathlib.Core.List.{List, [], ◌∷◌}
 use mathlib.Core.Option.{Option, none, some}
-use mathlib.Core.Bool.{Bool, true, false, ◌&&◌, cond}
-use Prim.Native.Nat.{ℕ, ◌+◌, ◌-◌}
+use mathlib.Core.Bool.{Bool, true, false, ◌&&◌}
+use Prim.Native.Nat.{ℕ, ◌-◌}
 use Prim.Native.String.{String}
 use lib.Dec.{T, eqb}
-use lib.IntN.{ℤ, pos, negsuc}
-use lib.ListN.{length, drop}
-use Rattle.laws.specs.Lists.{every, each, same}
-use Rattle.rules.specs.declared.Op1.TheVariants.{Negate, Upper, Lower}
-use Rattle.rules.specs.declared.Op2.TheVariants.{Plus, Minus, Times, Divide, Xor, And, Or}
+use lib.IntN.{pos, negsuc}
+use lib.ListN.{length}
+use Rattle.laws.specs.Lists.{each, same}
+use Rattle.rules.specs.declared.Op1.TheVariants.{Negate, Upper}
+use Rattle.rules.specs.declared.Op2.TheVariants.{Plus, Minus, Times, Xor, And, Or}
 use Rattle.rules.specs.Expressions.{Expr, num, name, two, one, bytes_of}
 use Rattle.rules.specs.Forms.{form_at}
 use Rattle.rules.specs.Patterns.{codes}
-use Rattle.rules.specs.Programs.{Operand, register, value, Stmt, instr, label, variable, comment, org, bytes, words}
+use Rattle.rules.specs.Programs.{register, value, Stmt, instr, label, variable, comment, org, bytes, words}
 use Rattle.text.specs.Text.{digits_of, five, expr_text, mnemonic, args_text, items_text, line_text}
 use Rattle.grammar.specs.Going.{Read, got, stuck, digits, fixed, local, class_of, led, start, skip, infix_of, whole}
 use Rattle.grammar.proofs.Computing.{goes}

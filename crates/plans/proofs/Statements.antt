@@ -1,19 +1,17 @@
 -- "What C-16 writes reads back as the same statement", and "two different statements have different lines", for every statement that a
 -- frame can hold. A statement read alone has place 0. Assumes nothing.
-use mathlib.Core.Path.{◌≡◌, refl, sym, ap, ◌∙◌, subst}
-use mathlib.Core.List.{List, [], ◌∷◌, ◌++◌, map}
+use mathlib.Core.Path.{◌≡◌, refl, sym, subst}
+use mathlib.Core.List.{List, [], ◌∷◌, map}
 use mathlib.Core.Bool.{Bool, true, false}
-use Prim.Native.Nat.{ℕ, zero, suc, ◌+◌, ◌≤◌, ◌<◌}
+use Prim.Native.Nat.{ℕ, ◌≤◌}
 use native.Mathlib.Omega.{arith}
-use lib.Dec.{leb, ltb, lit≤}
-use lib.IntN.{pos}
-use lib.ListN.{length, get_or}
+use lib.Dec.{leb}
 use borrow.Author.Tests.{le-leb, ltb-true}
 use Rattle.laws.specs.Lists.{every}
 use Rattle.laws.proofs.Tests.{clash, false_true, true_false, and_true, and_both}
 use Rattle.rules.specs.declared.Kind.{Kind}
 use Rattle.rules.specs.declared.Kind.TheVariants.{Reg, I8, D9, Bit, Rel8, A12, A16, Rel16}
-use Rattle.rules.specs.Expressions.{Expr, num}
+use Rattle.rules.specs.Expressions.{Expr}
 use Rattle.rules.specs.Forms.{operands_at}
 use Rattle.rules.specs.Programs.{Operand, register, value, inner, Stmt, gone, instr, label, variable, comment, org, bytes, words, pad, is_gone}
 use Rattle.promises.specs.Demand2.{own}
@@ -21,8 +19,8 @@ use Rattle.promises.proofs.Parses.{Fine}
 use Rattle.promises.proofs.RoundTrip.{is_byte, AllBytes}
 use Rattle.promises.proofs.Frames.{is_plain}
 use Rattle.promises.proofs.Compacts.{plain_stmt}
-use Rattle.promises.proofs.Sounds.{is_register, shapes, SoundExpr, SoundExprs, Sound, Sounds, SoundStmt}
-use Rattle.text.specs.Text.{expr_text, arg_text, args_text, items_text, line_text}
+use Rattle.promises.proofs.Sounds.{is_register, SoundExprs, Sound, Sounds, SoundStmt}
+use Rattle.text.specs.Text.{arg_text, args_text, items_text, line_text}
 use Rattle.grammar.specs.Reading as reading
 use Rattle.grammar.specs.Reading.{Argument, Arguments, Items, Line}
 use Rattle.grammar.proofs.RoundTrip.{decimal_is, name_is, reads_back}

@@ -1,36 +1,34 @@
 -- The plan of lines and the grammar of lines are the same: so each line has one reading, and where the reader is stuck is the column.
 -- Assumes nothing.
-use mathlib.Core.Path.{◌≡◌, refl, sym, ap, ◌∙◌, subst}
+use mathlib.Core.Path.{◌≡◌, refl, sym, subst}
 use mathlib.Core.Logic.{◌⊎◌, inl, inr}
-use mathlib.Core.List.{List, [], ◌∷◌, ◌++◌, append-nil}
-use mathlib.Core.Bool.{Bool, true, false}
-use Prim.Native.Nat.{ℕ, zero, suc, ◌+◌, ◌-◌, ◌≤◌, ◌<◌}
+use mathlib.Core.List.{List, [], ◌∷◌, ◌++◌}
+use mathlib.Core.Bool.{true}
+use Prim.Native.Nat.{ℕ, suc, ◌+◌, ◌-◌, ◌≤◌, ◌<◌}
 use native.Mathlib.Omega.{arith}
-use lib.Dec.{leb, lit≤}
+use lib.Dec.{leb}
 use lib.ListN.{length, take}
 use Rattle.laws.specs.Lists.{every, each}
-use Rattle.laws.proofs.Tests.{clash, false_true}
 use Rattle.rules.specs.Expressions.{Expr}
-use Rattle.rules.specs.Forms.{operands_at}
 use Rattle.rules.specs.Patterns.{codes}
 use Rattle.rules.specs.Output.{hex_byte}
 use Rattle.rules.specs.Programs.{Stmt, gone, instr, label, variable, comment, org, bytes, words, pad}
 use Rattle.text.specs.Text.{mnemonic, comment_text}
 use Rattle.grammar.specs.Reading as reading
 use Rattle.grammar.specs.Reading.{Exp, Line, Good, Begins, WrongAt}
-use Rattle.grammar.specs.Going.{Read, got, stuck}
-use Rattle.plans.specs.Plans.{Plan, finish, Reads, Walks}
+use Rattle.grammar.specs.Going.{got, stuck}
+use Rattle.plans.specs.Plans.{finish, Reads, Walks}
 use Rattle.plans.specs.Words.{Word, opening, closing, Says, In, here, there}
 use Rattle.plans.specs.Families.{mnemonics}
 use Rattle.plans.specs.Finals.{comments}
 use Rattle.plans.specs.Lines.{global_plan, local_plan, org_plan, items_plan, align_plan, dot_words, word_list, line_plan}
 use Rattle.plans.proofs.Planned.{Begun, fine_walk}
-use Rattle.plans.proofs.ReadOnce.{Wrong, complete_walk, single, one_line, stuck_is, one_column}
+use Rattle.plans.proofs.ReadOnce.{Wrong, complete_walk, one_line, stuck_is, one_column}
 use Rattle.plans.proofs.Worded.{Found, trie_right}
 use Rattle.plans.proofs.Formed.{mnemonic_line, line_mnemonic}
 use Rattle.plans.proofs.Counted.{Aligned, align_of, of_align}
 use Rattle.plans.proofs.Commented.{comment_line, line_comment}
-use Rattle.plans.proofs.Lined.{words_fit, no_in, in_either, in_first, in_second, line_alive, global_line, local_line, org_line, Listed, items_line, line_global, line_defined, line_local, line_org, line_items, FirstItem, first_item, no_items}
+use Rattle.plans.proofs.Lined.{words_fit, no_in, in_either, in_first, in_second, line_alive, global_line, local_line, org_line, Listed, items_line, line_global, line_defined, line_local, line_org, line_items, first_item}
 
 -- ---- from the plan to the grammar
 

@@ -1,10 +1,10 @@
 -- The plan of a list of words is right: its lines are those that begin with a word, and it is alive where what the words open is. Assumes
 -- nothing.
-use mathlib.Core.Path.{◌≡◌, refl, sym, ap, ◌∙◌, subst}
+use mathlib.Core.Path.{◌≡◌, refl, sym, ap, subst}
 use mathlib.Core.Logic.{◌⊎◌, inl, inr}
 use mathlib.Core.List.{List, [], ◌∷◌, ◌++◌}
 use mathlib.Core.Option.{Option, none, some}
-use mathlib.Core.Bool.{Bool, true, false, ◌&&◌, cond}
+use mathlib.Core.Bool.{Bool, true, false}
 use Prim.Native.Nat.{ℕ, zero, suc}
 use lib.Dec.{eqb}
 use borrow.Author.Tests.{eqb-true, eq-eqb}
@@ -34,10 +34,12 @@ module _ {A : Type 0} where
   some_in (w ∷ vs) e = (w, here)
 
   pub in_some : (w : A) (vs : List A) → In w vs → some? vs ≡ true
+  in_some w [] i = elim i [ ]
   in_some w (v ∷ vs) i = refl
 
 pub advance_in : (c : ℕ) (w : Word) (vs : List Word) → In w (advance c vs) → In (put c w) vs
 unfolding advance
+advance_in c w [] i = elim i [ ]
 advance_in c w (opening [] P ∷ vs) i = there (advance_in c w vs i)
 advance_in c w (opening (d ∷ x) P ∷ vs) i = on (into (eqb d c) w (opening x P) (advance c vs) i) (λ j. there (advance_in c w vs j))
   where
@@ -56,6 +58,7 @@ advance_in c w (closing (d ∷ x) s ∷ vs) i = on (into (eqb d c) w (closing x 
 -- a word that goes on with c is among those that do
 pub in_open : (c : ℕ) (x : List ℕ) (P : Plan) (vs : List Word) → In (opening (c ∷ x) P) vs → In (opening x P) (advance c vs)
 unfolding advance
+in_open c x P [] j = elim j [ ]
 in_open c x P (opening (d ∷ y) Q ∷ vs) here = subst (λ b. In (opening x P) (onto b (opening x P) (advance c vs))) (sym (eq-eqb c c refl)) here
 in_open c x P (opening [] Q ∷ vs) (there i) = in_open c x P vs i
 in_open c x P (opening (d ∷ y) Q ∷ vs) (there i) = onto_same (opening x P) (eqb d c) (opening y Q) (advance c vs) (in_open c x P vs i)
@@ -64,6 +67,7 @@ in_open c x P (closing (d ∷ y) s ∷ vs) (there i) = onto_same (opening x P) (
 
 pub in_close : (c : ℕ) (x : List ℕ) (r : Stmt) (vs : List Word) → In (closing (c ∷ x) r) vs → In (closing x r) (advance c vs)
 unfolding advance
+in_close c x r [] j = elim j [ ]
 in_close c x r (closing (d ∷ y) s ∷ vs) here = subst (λ b. In (closing x r) (onto b (closing x r) (advance c vs))) (sym (eq-eqb c c refl)) here
 in_close c x r (opening [] Q ∷ vs) (there i) = in_close c x r vs i
 in_close c x r (opening (d ∷ y) Q ∷ vs) (there i) = onto_same (closing x r) (eqb d c) (opening y Q) (advance c vs) (in_close c x r vs i)
@@ -82,6 +86,7 @@ end_in s (closing [] r ∷ vs) e = subst (λ y. In (closing [] s) (closing [] y 
 end_in s (closing (d ∷ x) r ∷ vs) e = there (end_in s vs e)
 
 no_end : (s : Stmt) (vs : List Word) → clean false vs ≡ true → In (closing [] s) vs → ⊥
+no_end s [] c i = elim i [ ]
 no_end s (opening [] P ∷ vs) c (there i) = false_true c
 no_end s (opening (d ∷ x) P ∷ vs) c (there i) = no_end s vs c i
 no_end s (closing [] r ∷ vs) c i = false_true c
@@ -89,6 +94,7 @@ no_end s (closing (d ∷ x) r ∷ vs) c (there i) = no_end s vs c i
 
 pub end_is : (s : Stmt) (vs : List Word) → clean true vs ≡ true → In (closing [] s) vs → end_of vs ≡ some s
 unfolding end_of
+end_is s [] c j = elim j [ ]
 end_is s (opening [] P ∷ vs) c (there i) = false_true c
 end_is s (opening (d ∷ x) P ∷ vs) c (there i) = end_is s vs c i
 end_is s (closing [] r ∷ vs) c here = refl
@@ -96,6 +102,7 @@ end_is s (closing [] r ∷ vs) c (there i) = absurd (no_end s vs c i)
 end_is s (closing (d ∷ x) r ∷ vs) c (there i) = end_is s vs c i
 
 pub no_open : (P : Plan) (b : Bool) (vs : List Word) → clean b vs ≡ true → In (opening [] P) vs → ⊥
+no_open P b [] c i = elim i [ ]
 no_open P b (opening [] Q ∷ vs) c i = false_true c
 no_open P b (opening (d ∷ x) Q ∷ vs) c (there i) = no_open P b vs c i
 no_open P b (closing [] r ∷ vs) c (there i) = no_open P false vs (and_true b (clean false vs) c).1 i
@@ -104,6 +111,7 @@ no_open P b (closing (d ∷ x) r ∷ vs) c (there i) = no_open P b vs c i
 -- each way to go on is told apart
 pub first_open : (g : List Word → Bool) (us : List Word) (c : ℕ) (x : List ℕ) (P : Plan) (vs : List Word) → each_first g us vs ≡ true → In (opening (c ∷ x) P) vs
     → g (advance c us) ≡ true
+first_open g us c x P [] e j = elim j [ ]
 first_open g us c x P (opening [] Q ∷ vs) e (there i) = first_open g us c x P vs e i
 first_open g us c x P (opening (d ∷ y) Q ∷ vs) e here = (and_true (g (advance c us)) (each_first g us vs) e).0
 first_open g us c x P (opening (d ∷ y) Q ∷ vs) e (there i) = first_open g us c x P vs (and_true (g (advance d us)) (each_first g us vs) e).1 i
@@ -112,6 +120,7 @@ first_open g us c x P (closing (d ∷ y) r ∷ vs) e (there i) = first_open g us
 
 pub first_close : (g : List Word → Bool) (us : List Word) (c : ℕ) (x : List ℕ) (s : Stmt) (vs : List Word) → each_first g us vs ≡ true → In (closing (c ∷ x) s) vs
     → g (advance c us) ≡ true
+first_close g us c x s [] e j = elim j [ ]
 first_close g us c x s (opening [] Q ∷ vs) e (there i) = first_close g us c x s vs e i
 first_close g us c x s (opening (d ∷ y) Q ∷ vs) e (there i) = first_close g us c x s vs (and_true (g (advance d us)) (each_first g us vs) e).1 i
 first_close g us c x s (closing [] r ∷ vs) e (there i) = first_close g us c x s vs e i
@@ -199,6 +208,7 @@ trie_right (suc k) d = on (trie_right k d)
         full (opening [] P ∷ []) w s t e i g = only w i g
           where
             only : (w : Word) → In w (opening [] P ∷ []) → Says w s t → Reads P s t
+            only w (there j) _ = elim j [ ]
             only w here (v, (z, g)) = subst (λ y. Reads P s y) (sym z) g
         full (opening [] P ∷ v ∷ ws) w s t e i g = false_true e
         full (opening (c ∷ x) P ∷ ws) w s t e i g =

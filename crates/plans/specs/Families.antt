@@ -1,13 +1,13 @@
 -- Instructions as plans: the forms of one mnemonic, narrowed argument by argument by what stands before it, `#`, `@` or nothing. The
 -- mnemonics and what each form takes come out of the table of forms.
-use Rattle.std.specs.Prelude.{◌≡◌, List, [], ◌∷◌, ◌++◌, map, Bool, true, false, ◌&&◌, ◌||◌, not, cond, ℕ, zero, suc, ◌+◌, ◌-◌, ◌≤◌, eqb, leb}
-use Rattle.std.proofs.Math.Option.{Option, none, some}
-use Rattle.laws.specs.Lists.{every, same}
+use Rattle.std.specs.Prelude.{List, [], ◌∷◌, ◌++◌, map, Bool, true, false, ◌&&◌, ◌||◌, not, cond, ℕ, zero, suc, ◌+◌, ◌-◌, ◌≤◌, eqb, leb}
+use Rattle.std.proofs.Math.Option.{none}
+use Rattle.laws.specs.Lists.{same}
 use Rattle.rules.specs.declared.Kind.{Kind}
 use Rattle.rules.specs.declared.Kind.TheVariants.{Reg, I8, D9, Bit, Rel8, A12, A16, Rel16}
 use Rattle.rules.specs.Expressions.{Expr}
 use Rattle.rules.specs.Forms.{operands_at}
-use Rattle.rules.specs.Programs.{Operand, register, value, Stmt, gone, instr}
+use Rattle.rules.specs.Programs.{Operand, register, value, gone, instr}
 use Rattle.text.specs.Text.{mnemonic}
 use Rattle.grammar.specs.Reading.{Exp}
 use Rattle.plans.specs.Plans.{Plan, done, fork, expression, either}

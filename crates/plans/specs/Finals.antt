@@ -1,5 +1,5 @@
 -- Readers of all that is left of a line: a comment's bytes, and a number that has a least value.
-use Rattle.std.specs.Prelude.{List, [], ◌∷◌, Bool, true, false, cond, ℕ, zero, suc, ◌+◌, ◌*◌}
+use Rattle.std.specs.Prelude.{List, [], ◌∷◌, cond, ℕ, zero, suc, ◌+◌, ◌*◌}
 use Rattle.rules.specs.Listing.{is_digit, digit}
 use Rattle.rules.specs.Programs.{Stmt, comment}
 use Rattle.grammar.specs.Reading.{is_decimal, look}

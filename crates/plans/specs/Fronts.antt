@@ -1,6 +1,5 @@
 -- Which word a text begins with, and how far it goes with any of them: the words of the code's contracts.
 use Rattle.std.specs.Prelude.{◌≡◌, ◌⊎◌, List, [], ◌∷◌, ◌++◌, Bool, true, false, cond, ℕ, suc, ◌≤◌, ◌<◌, eqb, length, drop}
-use Rattle.plans.specs.Plans.{Plan}
 use Rattle.plans.specs.Words.{Word, opening, closing, In}
 
 -- how many bytes two texts have in common at the front

@@ -1,6 +1,6 @@
 -- The plan of lines: what follows each word that opens one.
-use Rattle.std.specs.Prelude.{List, [], ◌∷◌, ◌++◌, Bool, false, ◌||◌, cond, ℕ, zero, suc, ◌+◌, eqb}
-use Rattle.std.proofs.Math.Option.{Option, none, some}
+use Rattle.std.specs.Prelude.{List, [], ◌∷◌, ◌++◌, ◌||◌, cond, ℕ, zero, suc, ◌+◌, eqb}
+use Rattle.std.proofs.Math.Option.{none, some}
 use Rattle.rules.specs.Expressions.{Expr}
 use Rattle.rules.specs.Patterns.{codes}
 use Rattle.rules.specs.Programs.{Stmt, gone, label, variable, comment, org, bytes, words, pad}

@@ -1,5 +1,5 @@
 -- The words that lines begin with, as one plan: byte by byte, as long as some word goes on so.
-use Rattle.std.specs.Prelude.{◌≡◌, List, [], ◌∷◌, ◌++◌, Bool, true, false, ◌&&◌, cond, ℕ, zero, suc, eqb}
+use Rattle.std.specs.Prelude.{◌≡◌, List, [], ◌∷◌, ◌++◌, Bool, true, false, ◌&&◌, ℕ, zero, suc, eqb}
 use Rattle.std.proofs.Math.Option.{Option, none, some}
 use Rattle.rules.specs.Programs.{Stmt}
 use Rattle.plans.specs.Plans.{Plan, done, fork, Reads}
