@@ -1,11 +1,11 @@
 -- Operands that are numbers and names, as the code reads them. Assumes nothing.
 use mathlib.Core.Path.{◌≡◌, refl, sym, ap, ◌∙◌, subst}
-use mathlib.Core.List.{List, [], ◌∷◌, ◌++◌}
+use mathlib.Core.List.{List, [], ◌∷◌}
 use mathlib.Core.Bool.{Bool, true, false, cond}
 use mathlib.Core.Option.{Option, none, some}
-use Prim.Native.Nat.{ℕ, zero, suc, ◌+◌, ◌-◌, ◌*◌, ◌≤◌, ◌<◌}
+use Prim.Native.Nat.{ℕ, zero, suc, ◌+◌, ◌-◌, ◌≤◌, ◌<◌}
 use native.Mathlib.Omega.{arith}
-use lib.Dec.{leb, eqb}
+use lib.Dec.{eqb}
 use lib.IntN.{pos, neg_ℤ}
 use lib.ListN.{length, take, drop, length-drop}
 use lib.Seq.{drop-drop, take_all}
@@ -13,11 +13,10 @@ use mir.Syntax.{w32}
 use mir.Val.{of_z}
 use borrow.Author.Tests.{ne_eqb, eq-eqb, eqb-true}
 use Rattle.laws.proofs.Tests.{clash, both_ways}
-use Rattle.rules.specs.declared.Op1.TheVariants.{Negate, Upper, Lower}
+use Rattle.rules.specs.declared.Op1.TheVariants.{Negate}
 use Rattle.rules.specs.declared.Op2.{Op2}
 use Rattle.rules.specs.declared.Op2.TheVariants.{Plus, Minus, Times, Divide, Xor, And, Or}
-use Rattle.rules.specs.Expressions.{Expr, num, name, bytes_of, code2, pair, four}
-use Rattle.leaves.specs.declared.Found.{Found}
+use Rattle.rules.specs.Expressions.{Expr, num, name, bytes_of, code2}
 use Rattle.leaves.specs.declared.Found.TheVariants.{Ends, Stuck}
 use Rattle.leaves.specs.declared.Value.{Value}
 use Rattle.leaves.specs.declared.Value.TheVariants.{Is, Not}
@@ -28,7 +27,7 @@ use Rattle.leaves.specs.Answering.{Valued, Put, Answered, code_of, sign_code}
 use Rattle.grammar.proofs.Classes as classes
 use Rattle.grammar.proofs.Classes.{class_is, class_digit}
 use Rattle.grammar.proofs.Starts.{start_global, start_local, start_dot}
-use Rattle.grammar.proofs.Spaces.{skip_clear, op_at_lem, op_other, infix_sign}
+use Rattle.grammar.proofs.Spaces.{skip_clear}
 
 -- ---- parts of a text
 

@@ -1,5 +1,5 @@
 -- What the readers of the code answer, in terms of how reading goes, and the bytes that they leave: a tree's bytes in prefix order.
-use Rattle.std.specs.Prelude.{◌≡◌, Bool, true, false, cond, List, [], ◌∷◌, ◌++◌, ℕ, ◌+◌, ◌≤◌, ◌<◌, ltb, length, take, drop}
+use Rattle.std.specs.Prelude.{◌≡◌, List, ◌∷◌, ◌++◌, ℕ, ◌+◌, ◌≤◌, ◌<◌, length, take, drop}
 use Rattle.std.proofs.Math.Option.{Option, none, some}
 use Rattle.rules.specs.declared.Op2.{Op2}
 use Rattle.rules.specs.Expressions.{Expr, bytes_of, code1, code2}
