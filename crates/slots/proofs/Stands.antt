@@ -1,9 +1,9 @@
 -- What the code's statement in a slot means, kind by kind.
 use mathlib.Core.Path.{◌≡◌, refl, sym, ap, ap₂, ◌∙◌}
-use mathlib.Core.Bool.{Bool, true, false, cond}
+use mathlib.Core.Bool.{Bool, true, cond}
 use mathlib.Core.Logic.{⊎_elim}
 use mathlib.Core.List.{List, [], ◌∷◌, map}
-use Prim.Native.Nat.{ℕ, zero, suc, ◌+◌, ◌-◌, ◌*◌, ◌<◌, ◌≤◌}
+use Prim.Native.Nat.{ℕ, zero, suc, ◌-◌, ◌<◌, ◌≤◌}
 use native.Mathlib.Omega.{arith}
 use lib.Dec.{eqb}
 use lib.ListN.{length, get_or, take, length-map}
@@ -27,14 +27,14 @@ use Rattle.rules.specs.Instructions.{instr_of, form_of, arguments_of}
 use Rattle.rules.specs.Programs.{Stmt, gone, instr, label, variable, comment, org, bytes, words, pad, Operand, Instruction, on_instr, kind_of}
 use Rattle.rules.specs.Statements.{arg_at, argument_at, operand_at, operands_of, pair_at, instruction_of, statement_of, stmt_of}
 use Rattle.instruction.proofs.Numbers.{number_back, places_back, few_operands}
-use Rattle.listing.specs.Tables.{frame_at, Noted, Held}
+use Rattle.listing.specs.Tables.{frame_at, Held}
 use Rattle.listing.proofs.Statements.{statement_stands}
 use Rattle.slots.specs.Slots.{Slots, slot_at, written, is_reg, aimed_at, reformed, Agree}
 use Rattle.slots.specs.Meaning.{meant_by, kind_for, kind_in, Agrees, Stands}
 use Rattle.slots.specs.declared.Slot.{Slot}
 use Rattle.slots.specs.declared.Slot.TheVariants.{Gone, Form, Holds}
 use Rattle.slots.proofs.Frames.{Frame, FrameOf, of_instr, of_label, of_variable, of_comment, of_org, of_bytes, of_words, of_pad, frame_read, was_read, frame_of_lem}
-use Rattle.slots.proofs.Slots.{slot_gone, slot_kept, slot_instr, kind_kept, kind_read, not_gone, written_frame}
+use Rattle.slots.proofs.Slots.{slot_kept, slot_instr, kind_kept, kind_read, not_gone, written_frame}
 use Rattle.slots.proofs.Tables.{reads_as, frame_is}
 use Rattle.slots.proofs.Operands.{argument_first}
 
@@ -109,7 +109,7 @@ module _ (t : Slots) (h : Held t.frames t.starts t.count) (i : ℕ) (l : i < t.c
   pub other_means : get_or t.forms i 0 < 70 → (get_or s 0 0 ≡ 1 → ⊥) → slot_at t i ≡ meant_by t i (statement_of s)
   other_means g n =
       let o : kind_of (written t i) ≡ 1 → ⊥ = λ k. n (sym (kind_read i s (written t i) (frame_is t.frames t.starts t.count h i l)) ∙ k) in
-      slot_kept t i g ∙ still (reformed t i) (written t i) o ∙ sym (rw stands (still _ (written t i) o))
+      slot_kept t i g ∙ still (reformed t i) (written t i) o ∙ sym (rw stands (still (λ x. instr x.form (aimed_at t x.form (get_or t.carry i 0) x.args) (get_or t.carry i 0)) (written t i) o))
 
   module _ (f : ℕ) (e : get_or t.forms i 0 ≡ f) (kept : get_or t.forms i 0 < 70) (k : get_or s 0 0 ≡ 1) (ag : Agrees t i) (b c : ℕ)
       (p : (j : ℕ) → 1 < length (operands_at (get_or s 1 0)) → b ≡ argument_at s (operands_at (get_or s 1 0)) 2 1)

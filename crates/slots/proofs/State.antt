@@ -3,12 +3,11 @@ use mathlib.Core.Path.{◌≡◌, refl, sym, ap, ◌∙◌}
 use mathlib.Core.List.{List, [], ◌∷◌, map}
 use Prim.Native.Nat.{ℕ, zero, suc, ◌+◌, ◌*◌, ◌/◌, ◌%◌, ◌≤◌, ◌<◌}
 use native.Mathlib.Omega.{arith}
-use native.Mathlib.Nat.{mod-lt}
 use lib.ListN.{length, get_or, set, length-map, get_or-map}
 use lib.Seq.{get_or-set_same, get_or-set_other}
 use Rattle.laws.proofs.Counts.{get_or_tab, tab_ext, tab_is}
 use Rattle.laws.proofs.Stores.{get_in}
-use Rattle.slots.specs.Slots.{Slots, slots}
+use Rattle.slots.specs.Slots.{slots}
 use Rattle.slots.specs.State.{low_bytes, starts_in, forms_in, carry_in, owners_in, offsets_in, table_of, Kept, FormPut, CarryPut, Labelled, LabelPut}
 
 -- ---- a form is a byte

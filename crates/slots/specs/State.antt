@@ -1,5 +1,5 @@
 -- One table in rows of 1,025 numbers by place, and the slots that it holds.
-use Rattle.std.specs.Prelude.{◌≡◌, List, [], map, ℕ, ◌/◌, ◌%◌, get_or, set, length}
+use Rattle.std.specs.Prelude.{◌≡◌, List, [], map, ℕ, ◌/◌, ◌%◌, get_or, set}
 use Rattle.laws.specs.Counts.{tab}
 use Rattle.rules.specs.Programs.{Placeℕ}
 use Rattle.slots.specs.Slots.{Slots, slots}
