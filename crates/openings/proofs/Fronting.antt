@@ -3,21 +3,21 @@ use mathlib.Core.Path.{◌≡◌, refl, sym, ap, ◌∙◌, subst}
 use mathlib.Core.Logic.{◌⊎◌, inl, inr}
 use mathlib.Core.List.{List, [], ◌∷◌, ◌++◌, append_assoc, append-nil}
 use mathlib.Core.Bool.{Bool, true, false, ◌&&◌, cond}
-use Prim.Native.Nat.{ℕ, zero, suc, ◌+◌, ◌≤◌, ◌<◌}
+use Prim.Native.Nat.{ℕ, suc, ◌+◌, ◌≤◌, ◌<◌}
 use native.Mathlib.Numerals.{add-one}
 use native.Mathlib.Omega.{arith}
 use lib.Dec.{eqb, leb}
 use lib.ListN.{length, take, drop, get_or, length-append, take-append-drop, drop_of_length-le}
-use lib.Seq.{take-suc, drop-cons, take_all, drop-append-add, drop-append_seam, length-take-le}
+use lib.Seq.{take-suc, drop-cons, drop-append-add, drop-append_seam, length-take-le}
 use borrow.Author.Tests.{eqb-true, eqb-false, eq-eqb, ne_eqb, leb-true, leb-false}
 use Rattle.laws.proofs.Tests.{true_false, false_true}
 use Rattle.text.specs.Words.{said}
 use Rattle.grammar.specs.Reading.{look}
-use Rattle.plans.specs.Fronts.{common, spelling, opens, Matches, Misses, Far}
+use Rattle.plans.specs.Fronts.{common, spelling, opens, Matches, Misses}
 use Rattle.openings.specs.declared.Front.{Front}
 use Rattle.openings.specs.declared.Front.TheVariants.{Whole, Part}
 use Rattle.openings.specs.Numbered.{word_at, tail_of, Spells}
-use Rattle.openings.specs.Fronting.{at_end, ended, Meets, Fronted, FarTo}
+use Rattle.openings.specs.Fronting.{ended, Meets, Fronted, FarTo}
 
 common_append : (u x r : List ℕ) → common (u ++ x) (u ++ r) ≡ length u + common x r
 unfolding common

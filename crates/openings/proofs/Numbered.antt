@@ -3,18 +3,18 @@ use mathlib.Core.Path.{◌≡◌, refl, sym, ap, ◌∙◌, subst}
 use mathlib.Core.Logic.{◌⊎◌, inl, inr}
 use mathlib.Core.List.{List, [], ◌∷◌, ◌++◌, append-nil}
 use mathlib.Core.Bool.{Bool, true, false, ◌&&◌, cond}
-use Prim.Native.Nat.{ℕ, zero, suc, ◌+◌, ◌-◌, ◌≤◌, ◌<◌}
+use Prim.Native.Nat.{ℕ, suc, ◌-◌, ◌≤◌, ◌<◌}
 use native.Mathlib.Omega.{arith}
 use lib.Dec.{eqb, ltb}
 use lib.ListN.{length, drop}
-use borrow.Author.Tests.{lt-ltb, le-ltb, ltb-true, ltb-false, eqb-true, eqb-false, ne_eqb, eq-eqb}
+use borrow.Author.Tests.{lt-ltb, le-ltb, ltb-true, ltb-false, eqb-true, ne_eqb, eq-eqb}
 use Rattle.laws.specs.Counts.{all_to}
 use Rattle.laws.specs.Lists.{same}
 use Rattle.laws.proofs.Tests.{eq_or_not, true_false, false_true, and_true, and_both}
-use Rattle.instruction.proofs.Entries.{alike, alike_at, holds_at}
+use Rattle.instruction.proofs.Entries.{alike_at, holds_at}
 use Rattle.rules.specs.Forms.{form_at, operands_at}
 use Rattle.rules.specs.Patterns.{codes}
-use Rattle.rules.specs.Programs.{Stmt, comment, instr, bytes, words, pad}
+use Rattle.rules.specs.Programs.{comment, instr, bytes, words, pad}
 use Rattle.text.specs.Text.{mnemonic}
 use Rattle.text.specs.Words.{dot_word}
 use Rattle.grammar.specs.Reading.{look}
@@ -26,7 +26,7 @@ use Rattle.plans.specs.Lines.{global_plan, local_plan, org_plan, items_plan, ali
 use Rattle.plans.specs.Fronts.{common, spelling, opens, Misses, Far}
 use Rattle.plans.proofs.Heads.{word_form, form_word}
 use Rattle.plans.proofs.Lined.{no_in, in_either, in_first, in_second}
-use Rattle.openings.specs.Numbered.{dot_at, word_at, tail_of}
+use Rattle.openings.specs.Numbered.{word_at, tail_of}
 use Rattle.openings.specs.declared.Begun.{Begun}
 use Rattle.openings.specs.declared.Begun.TheVariants.{Global, Local, Row, Nothing}
 use Rattle.openings.specs.Fronting.{FarTo, Started, Begins}

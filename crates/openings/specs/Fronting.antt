@@ -1,8 +1,7 @@
 -- What the code answers of a line and a word, and of a line and all words.
-use Rattle.std.specs.Prelude.{◌≡◌, ◌⊎◌, List, [], ◌∷◌, ◌++◌, Bool, true, false, cond, ℕ, ◌+◌, ◌≤◌, ◌<◌, eqb, length, take, drop}
+use Rattle.std.specs.Prelude.{◌≡◌, ◌⊎◌, List, [], ◌∷◌, ◌++◌, Bool, true, false, cond, ℕ, ◌+◌, ◌≤◌, ◌<◌, eqb, drop}
 use Rattle.text.specs.Words.{said}
 use Rattle.grammar.specs.Reading.{look}
-use Rattle.plans.specs.Words.{Word}
 use Rattle.plans.specs.Lines.{word_list}
 use Rattle.plans.specs.Fronts.{common, spelling, opens, Matches, Misses, Far}
 use Rattle.openings.specs.declared.Front.{Front}
