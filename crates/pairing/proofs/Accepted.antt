@@ -1,7 +1,7 @@
 -- What is known of the lines of a listing that was read: as many as statements, each of digit pairs, ended and short.
-use mathlib.Core.Path.{◌≡◌, refl, sym, ap, ◌∙◌}
+use mathlib.Core.Path.{◌≡◌, refl, ap, ◌∙◌}
 use mathlib.Core.List.{List, [], ◌∷◌, map}
-use mathlib.Core.Bool.{Bool, true, false, ◌&&◌}
+use mathlib.Core.Bool.{Bool, true, false}
 use Prim.Native.Nat.{ℕ, zero, suc, ◌+◌, ◌≤◌, ◌<◌, ◌%◌}
 use native.Mathlib.Omega.{arith}
 use lib.Dec.{leb, ltb, eqb}
@@ -12,9 +12,9 @@ use Rattle.laws.proofs.Tests.{and_true, clash}
 use Rattle.rules.specs.declared.Refusal.{Refusal}
 use Rattle.rules.specs.declared.Refusal.TheVariants.{Broken, Limit}
 use Rattle.rules.specs.Answers.{at_place, Judged, ok, no, ◌>>=◌, require, is_ok}
-use Rattle.rules.specs.Programs.{Stmt, Program}
+use Rattle.rules.specs.Programs.{Program}
 use Rattle.rules.specs.Listing.{Line, lines_of, statement_lines, form_in, is_digit, unhex, ListingForm, old_form}
-use Rattle.rules.specs.Listing.{new_form, widest, most_characters, within_limits, well_formed, read_frame_in, read_lines, read_listing}
+use Rattle.rules.specs.Listing.{new_form, widest, within_limits, well_formed, read_frame_in, read_lines, read_listing}
 use Rattle.listing.specs.declared.Listed.{Listed}
 use Rattle.listing.specs.declared.Listed.TheVariants.{Read as Listed-as-Read, Refused as Listed-as-Refused}
 use Rattle.listing.specs.Tables.{ListedAs}

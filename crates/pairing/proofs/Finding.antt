@@ -1,8 +1,8 @@
 -- Where the lines of a text begin: what is known once i lines were passed.
-use mathlib.Core.Path.{◌≡◌, refl, sym, ap, ◌∙◌}
+use mathlib.Core.Path.{◌≡◌, sym, ap, ◌∙◌}
 use mathlib.Core.Logic.{⊎_elim}
 use mathlib.Core.List.{List, [], ◌∷◌, map}
-use mathlib.Core.Bool.{Bool, true, false, ◌&&◌}
+use mathlib.Core.Bool.{true}
 use Prim.Native.Nat.{ℕ, suc, ◌+◌, ◌-◌, ◌≤◌, ◌<◌}
 use native.Mathlib.Omega.{arith}
 use lib.Dec.{ltb}
@@ -12,12 +12,10 @@ use borrow.Author.Tests.{ltb-true}
 use Rattle.laws.specs.Lists.{every}
 use Rattle.laws.proofs.Counts.{below_suc}
 use Rattle.laws.proofs.Tests.{and_true}
-use Rattle.rules.specs.Answers.{ok}
 use Rattle.rules.specs.Programs.{Program}
-use Rattle.rules.specs.Listing.{Line, lines_of, statement_lines, read_listing}
+use Rattle.rules.specs.Listing.{Line, lines_of, statement_lines}
 use Rattle.listing.specs.Lines.{line_length, after_line, first_line}
-use Rattle.listing.specs.Form.{after_mark}
-use Rattle.listing.proofs.FirstLine.{lines_are, rest_ended, line_within}
+use Rattle.listing.proofs.FirstLine.{lines_are, rest_ended}
 use Rattle.listing.proofs.Forms.{mark_lines}
 use Rattle.pairing.specs.Lines.{chars_of, line_in, LineAt, FirstAt, Lined}
 use Rattle.pairing.proofs.Accepted.{AcceptedLines}

@@ -2,14 +2,14 @@
 use mathlib.Core.Path.{◌≡◌, refl, sym, ap, ap₂, ◌∙◌}
 use mathlib.Core.List.{List, [], ◌∷◌, map, reverse, reverse_aux}
 use mathlib.Core.Logic.{⊎_elim}
-use mathlib.Core.Bool.{Bool, true, false, cond}
-use Prim.Native.Nat.{ℕ, zero, suc, ◌+◌, ◌-◌, ◌≤◌, ◌<◌}
+use mathlib.Core.Bool.{true, false}
+use Prim.Native.Nat.{ℕ, suc, ◌+◌, ◌-◌, ◌≤◌, ◌<◌}
 use native.Mathlib.Omega.{arith}
 use lib.ListN.{length, get_or, drop, length-drop, length-reverse, get_or-map}
 use lib.Seq.{drop-cons, get_or-drop}
 use Rattle.laws.specs.Lists.{same}
 use Rattle.laws.proofs.Tests.{lt_or_le}
-use Rattle.rules.specs.Listing.{Line, lines_of, statement_lines, unhex}
+use Rattle.rules.specs.Listing.{lines_of, statement_lines, unhex}
 use Rattle.pairing.specs.Pairings.{Frames, frames_of, common}
 use Rattle.pairing.specs.Lines.{chars_of, line_in, Lined}
 use Rattle.pairing.proofs.Accepted.{length_map}

@@ -1,5 +1,5 @@
 -- Document 02, C-13: what is shown of a pairing.
-use Rattle.std.specs.Prelude.{◌≡◌, List, [], ◌∷◌, ℕ, suc, ◌+◌, ◌-◌, ◌≤◌, ◌<◌, length, get_or, take}
+use Rattle.std.specs.Prelude.{◌≡◌, List, [], ◌∷◌, ℕ, suc, ◌+◌, ◌-◌, ◌≤◌, ◌<◌, length, get_or}
 use Rattle.rules.specs.Programs.{Placeℕ}
 use Rattle.pairing.specs.Pairings.{Frames, Pair, beginning, ending}
 
