@@ -96,12 +96,12 @@ lines_live w i sum (l ∷ ls) p e =
 plain : (i : Placeℕ) (s : Stmt) → made_at i s ≡ true → plain_stmt s ≡ true
 unfolding every
 plain i = by_instr (λ s. made_at i s ≡ true → plain_stmt s ≡ true) (λ f xs c h. (and_true (eqb c i) (every is_plain xs) h).1)
-    (λ s n h. ap (every is_plain) (other [] _ s n))
+    (λ s n h. ap (every is_plain) (other [] (λ x. x.args) s n))
 
 owned : (i : Placeℕ) (s : Stmt) → made_at i s ≡ true → own i s ≡ s
 owned i = by_instr (λ s. made_at i s ≡ true → own i s ≡ s)
     (λ f xs c h. ap (λ (j : Placeℕ). instr f xs j) (sym (eqb-true c i (and_true (eqb c i) (every is_plain xs) h).0)))
-    (λ s n h. other s _ s n)
+    (λ s n h. other s (λ x. instr x.form x.args i) s n)
 
 own_all : (i : Placeℕ) (p : Program) → ((j : Placeℕ) → made_at (i + j) (at p j) ≡ true) → own_from i p ≡ p
 unfolding own_from

@@ -42,7 +42,7 @@ alone p = map (λ s. own 0 s) p
 
 frame_own : (s : Stmt) → frame_of (own 0 s) ≡ frame_of s
 unfolding frame_of
-frame_own s = by_change (λ s t. frame_of t ≡ frame_of s) _ (λ f xs c. refl) (λ s n. refl) s
+frame_own s = by_change (λ s t. frame_of t ≡ frame_of s) (λ x. instr x.form x.args 0) (λ f xs c. refl) (λ s n. refl) s
 
 lines_own : (ns : List ℕ) (p : Program) → lines_in old_form ns (alone p) ≡ lines_in old_form ns p
 unfolding lines_in
