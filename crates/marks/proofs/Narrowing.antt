@@ -1,6 +1,6 @@
 -- The forms by mark: what is computed of all of them, by one test each. Assumes nothing.
 use mathlib.Core.Path.{◌≡◌, refl, sym, ap, ◌∙◌, subst}
-use mathlib.Core.List.{List, [], ◌∷◌, ◌++◌, map}
+use mathlib.Core.List.{List, [], ◌∷◌}
 use mathlib.Core.Option.{none}
 use mathlib.Core.Bool.{Bool, true, false, ◌&&◌, not, cond}
 use Prim.Native.Nat.{ℕ, zero, suc, ◌+◌, ◌-◌, ◌*◌, ◌/◌, ◌%◌, ◌≤◌, ◌<◌, min}
@@ -10,8 +10,7 @@ use lib.ListN.{length, get_or}
 use borrow.Author.Tests.{eqb-true, ltb-true, lt-ltb, le-ltb, eq-eqb, ne_eqb, leb-true}
 use Rattle.laws.specs.Counts.{all_to}
 use Rattle.laws.specs.Lists.{same}
-use Rattle.laws.proofs.Lists.{same_true}
-use Rattle.laws.proofs.Tests.{and_true, true_false, false_true, clash}
+use Rattle.laws.proofs.Tests.{and_true, true_false, false_true}
 use Rattle.instruction.proofs.Entries.{holds_at, agree_at}
 use Rattle.rules.specs.declared.Kind.{Kind}
 use Rattle.rules.specs.declared.Kind.TheVariants.{Reg, I8, D9, Bit, Rel8, A12, A16, Rel16}
@@ -20,7 +19,7 @@ use Rattle.rules.specs.Programs.{Operand, instr}
 use Rattle.text.specs.Text.{mnemonic}
 use Rattle.plans.specs.Plans.{Plan, done, fork}
 use Rattle.plans.specs.Words.{some?}
-use Rattle.plans.specs.Families.{Mark, hash, at, plain, mark_of, Way, way, narrow, behind, go_on, family, family_of}
+use Rattle.plans.specs.Families.{mark_of, Way, way, narrow, behind, go_on, family, family_of}
 use Rattle.marks.specs.Narrowing.{mark_by, agree, lowest, chosen}
 
 -- ---- ways compared

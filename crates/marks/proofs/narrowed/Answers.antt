@@ -1,5 +1,3 @@
-use mathlib.Core.Path.{◌≡◌, refl, sym, ap, ◌∙◌, subst}
-use native.Mathlib.Omega.{arith}
 use mathlib.Core.List.{List, [], ◌∷◌}
 use Prim.Native.Nat.{ℕ}
 use Rattle.laws.specs.Counts.{all_to}
@@ -8,11 +6,7 @@ use Rattle.rules.specs.Forms.{form_at}
 use Rattle.text.specs.Text.{mnemonic}
 use Rattle.plans.specs.Families.{narrow, family}
 use Rattle.marks.proofs.Narrowing.{down, near, near_agree, near_chosen, row_law}
-use borrow.Author.Rules.{rules}
-use Rattle.marks.proofs.narrowed.Statement.{statement}
-use Rattle.marks.proofs.narrowed.Tie as tie
-use Rattle.marks.proofs.narrowed.Reads as reads
-use Rattle.marks.proofs.narrowed.Lts as lts
+use Rattle.marks.proofs.narrowed.Goals as goal
 
 rows : List (List ℕ)
 rows =
@@ -88,32 +82,6 @@ rows =
     (70 ∷ 70 ∷ 70 ∷ 70 ∷ 70 ∷ 70 ∷ 70 ∷ 70 ∷ 70 ∷ []) ∷
     []
 
-mul_row : tie.Need-overflow-mul-row
-mul_row c = search rules
-
-array_copy_out_row : tie.Need-array-copy-out-row
-array_copy_out_row c = search rules
-
-mul_result : tie.Need-overflow-mul-result
-mul_result c = search rules
-
-add_result : tie.Need-overflow-add-result
-add_result c = search rules
-
-array_read_result : tie.Need-array-read-result
-array_read_result c = search rules
-
-returns : tie.Need-returns
+pub returns : goal.returns
 unfolding rows all_to near_chosen near_agree near down narrow family same mnemonic form_at
-returns c = let a = c.before.args in row_law rows tt a.form a.j a.mark c.before.requires.0 c.before.requires.1 c.before.requires.2
-
-pub narrowed_spec : {M : Type 1} → statement M
-narrowed_spec =
-    tie.close
-    (tie.spec
-    mul_row
-    array_copy_out_row
-    mul_result
-    add_result
-    array_read_result
-    returns)
+returns c = let a = c.args in row_law rows tt a.form a.j a.mark c.requires.0 c.requires.1 c.requires.2
