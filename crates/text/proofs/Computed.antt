@@ -1,5 +1,5 @@
 -- Texts computed from the definitions: what document 02 says of each part of a line. Whole listings are run in the crate readable.
-use mathlib.Core.List.{List, [], ◌∷◌}
+use mathlib.Core.List.{List}
 use mathlib.Core.Bool.{Bool}
 use Prim.Native.Nat.{ℕ}
 use Prim.Native.String.{String}

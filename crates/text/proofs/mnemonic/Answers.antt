@@ -9,8 +9,7 @@ use Rattle.text.specs.Text.{mnemonic}
 use Rattle.rules.specs.Patterns.{codes}
 use Rattle.text.specs.Words.{said}
 use Rattle.text.proofs.Tables.{word_is}
-use Rattle.text.proofs.mnemonic.Statement.{statement}
-use Rattle.text.proofs.mnemonic.Tie as tie
+use Rattle.text.proofs.mnemonic.Goals as goal
 
 -- the table, as the code has it
 rows : List (List ℕ)
@@ -24,9 +23,6 @@ rows = map (λ s. codes s) (
     "callf   " ∷ "callr   " ∷ "ret     " ∷ "reti    " ∷ "clr1    " ∷ "set1    " ∷ "not1    " ∷ "nop     " ∷ "ldf     " ∷ "stf     " ∷
     [])
 
-returns : tie.Need-returns
+pub returns : goal.returns
 unfolding rows all_to said mnemonic form_at same
-returns c = word_is (λ f. mnemonic f) [] rows 70 tt c.before.args.form (search rules)
-
-pub mnemonic_spec : {M : Type 1} → statement M
-mnemonic_spec = tie.close (tie.spec (λ c. search rules) (λ c. search rules) returns)
+returns c = word_is (λ f. mnemonic f) [] rows 70 tt c.args.form (search rules)
