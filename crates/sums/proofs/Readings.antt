@@ -1,16 +1,15 @@
 -- The readers of expressions, as the code goes. Assumes nothing.
 use mathlib.Core.Path.{◌≡◌, refl, sym, ap, ◌∙◌, subst}
 use mathlib.Core.List.{List, [], ◌∷◌, ◌++◌}
-use mathlib.Core.Bool.{Bool, true, false, cond, ◌&&◌, not}
+use mathlib.Core.Bool.{Bool, true, false}
 use mathlib.Core.Option.{Option, none, some}
-use Prim.Native.Nat.{ℕ, zero, suc, ◌+◌, ◌-◌, ◌*◌, ◌≤◌, ◌<◌}
+use Prim.Native.Nat.{ℕ, suc, ◌+◌, ◌-◌, ◌≤◌, ◌<◌}
 use native.Mathlib.Numerals.{add-one}
 use native.Mathlib.Omega.{arith}
 use lib.Dec.{leb, eqb}
 use lib.ListN.{length, get_or, take, drop, length-drop}
 use lib.Seq.{drop-drop}
 use borrow.Author.Tests.{eq-eqb, ne_eqb, leb-true, leb-false}
-use Rattle.laws.proofs.Tests.{clash, both_ways}
 use Rattle.rules.specs.declared.Op1.{Op1}
 use Rattle.rules.specs.declared.Op2.{Op2}
 use Rattle.text.specs.Text.{sign1}
@@ -18,11 +17,11 @@ use Rattle.rules.specs.Expressions.{Expr, two, one, bytes_of, code1, code2}
 use Rattle.leaves.specs.declared.Found.{Found}
 use Rattle.leaves.specs.declared.Found.TheVariants.{Ends, Stuck}
 use Rattle.grammar.specs.Reading.{look}
-use Rattle.grammar.specs.Going.{Read, got, stuck, on_got, Start, leaf, paren, sign, nothing, start, skip, infix_of, op_at, is_some, gap, close, Mode, alone, whole, rest, Goes, opens, signs, ends, fails, firsts, sinks, stops, agains, breaks}
+use Rattle.grammar.specs.Going.{got, stuck, Start, leaf, paren, sign, nothing, start, skip, infix_of, op_at, is_some, gap, close, Mode, alone, whole, rest, Goes, opens, signs, ends, fails, firsts, sinks, stops, agains, breaks}
 use Rattle.leaves.specs.Answering.{Put, Inserted, Answered, Continued, Passed, takes, after_of, code_of, sign_code}
 use Rattle.grammar.proofs.Starts.{paren_starts, start_sign}
 use Rattle.grammar.proofs.Spaces.{skip_clear, skip_look, skip_spaces, sign_clear}
-use Rattle.grammar.proofs.Lexes.{look_at, look_end}
+use Rattle.grammar.proofs.Lexes.{look_at}
 use Rattle.leaves.proofs.Puts.{put_two, put_none}
 use Rattle.leaves.proofs.Leafs.{rest_is, drop_plus, code_some}
 
