@@ -3,10 +3,8 @@ use mathlib.Core.Path.{◌≡◌, refl, sym, ap, ap₂, subst, ◌∙◌}
 use mathlib.Core.Logic.{⊎_elim}
 use mathlib.Core.List.{List}
 use Prim.Native.Nat.{ℕ, zero, suc, ◌+◌, ◌-◌, ◌*◌, ◌≤◌, ◌<◌}
-use native.Mathlib.Numerals.{add-one}
 use native.Mathlib.Omega.{arith}
-use lib.Dec.{eqb}
-use lib.ListN.{length, get_or, set, drop, take}
+use lib.ListN.{length, get_or, set, drop}
 use lib.Seq.{get_or-set_same, get_or-set_other, get_or-take, get_or-drop}
 use Rattle.laws.proofs.Counts.{below_suc}
 use Rattle.rules.specs.declared.Tag.TheVariants.{Name}
@@ -14,7 +12,7 @@ use Rattle.rules.specs.Expressions.{tag_of, name_of}
 use Rattle.expression.specs.Linked.{Links}
 use Rattle.listing.specs.Tables.{frame_at, Held}
 use Rattle.slots.proofs.Tables.{length_frame}
-use Rattle.env.specs.Linking.{OneAtMost, Means, LinkedTo}
+use Rattle.env.specs.Linking.{Means, LinkedTo}
 
 -- the name that begins at byte b
 pub name_at_byte : (frames : List ℕ) (b : ℕ) → name_of (drop b frames) ≡ get_or frames (b + 1) 0 * 256 + get_or frames (b + 2) 0

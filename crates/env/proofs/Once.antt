@@ -2,12 +2,12 @@
 use mathlib.Core.Path.{◌≡◌, refl, sym, ap, ◌∙◌}
 use mathlib.Core.Bool.{Bool, true, false, ◌||◌, cond, not}
 use mathlib.Core.Logic.{◌⊎◌, inl, inr, ⊎_elim}
-use mathlib.Core.List.{List, [], ◌∷◌}
-use Prim.Native.Nat.{ℕ, zero, suc, ◌+◌, ◌-◌, ◌≤◌, ◌<◌}
+use mathlib.Core.List.{List, []}
+use Prim.Native.Nat.{ℕ, zero, suc, ◌+◌, ◌≤◌, ◌<◌}
 use native.Mathlib.Omega.{arith}
 use lib.Dec.{eqb, ltb}
-use lib.ListN.{get_or, length}
-use borrow.Author.Tests.{eqb-true, ltb-true, eq-eqb, lt-ltb}
+use lib.ListN.{get_or}
+use borrow.Author.Tests.{eqb-true, ltb-true, eq-eqb}
 use Rattle.laws.proofs.Tests.{and_true, and_both, eq_or_not, lt_or_le, both_ways}
 use Rattle.rules.specs.declared.Refusal.TheVariants.{Again}
 use Rattle.rules.specs.Answers.{at_place, ok}
@@ -19,7 +19,6 @@ use Rattle.expression.specs.Environment.{is_here, keys_of}
 use Rattle.expression.proofs.Keys.{seen, here, seen_here, seen_below}
 use Rattle.env.specs.Tables.{name_said, Named}
 use Rattle.env.specs.Linking.{OneAtMost}
-use Rattle.env.proofs.Passes.{left}
 use Rattle.env.proofs.Naming.{said_some, OnceTo, once_start, once_turn, once_goes}
 
 -- where no place below the limit has a key, each of them has another
