@@ -1,9 +1,9 @@
 -- Texts put one behind the other.
 use mathlib.Core.Path.{◌≡◌, refl, sym, ap, ◌∙◌, subst}
-use mathlib.Core.Logic.{◌⊎◌, inl, inr, ⊎_elim}
+use mathlib.Core.Logic.{⊎_elim}
 use mathlib.Core.List.{List, [], ◌∷◌, ◌++◌, append_assoc, append-nil}
 use mathlib.Core.Bool.{Bool, true, false, cond}
-use Prim.Native.Nat.{ℕ, zero, suc, ◌+◌, ◌-◌, ◌*◌, ◌/◌, ◌%◌, ◌≤◌, ◌<◌}
+use Prim.Native.Nat.{ℕ, zero, suc, ◌+◌, ◌-◌, ◌/◌, ◌%◌, ◌≤◌, ◌<◌}
 use native.Mathlib.Numerals.{add-one}
 use native.Mathlib.Omega.{arith}
 use lib.ListN.{length, get_or, drop, take, set, length-set, length-append}
@@ -15,7 +15,7 @@ use mir.Val.{to_z}
 use borrow.Author.Tests.{lt-ltb, le-ltb, eq-eqb, ne_eqb}
 use Rattle.laws.proofs.Tests.{lt_or_le, cond_true, cond_false}
 use Rattle.laws.proofs.Stores.{rest_is}
-use Rattle.text.specs.Text.{tens, digits_of, five, name_text, number}
+use Rattle.text.specs.Text.{digits_of, five, name_text, number}
 use Rattle.text.specs.Words.{said}
 use Rattle.terms.specs.Writing.{Wrote, Digited}
 
