@@ -1,22 +1,22 @@
 -- An accepted listing is the lines of its frames, behind the line that marks its form: so its frames say every byte of it.
 use mathlib.Core.Path.{◌≡◌, refl, sym, ap, ap₂, ◌∙◌}
-use mathlib.Core.List.{List, [], ◌∷◌, ◌++◌, append_assoc, map}
-use mathlib.Core.Bool.{Bool, true, false, ◌&&◌, cond}
-use Prim.Native.Nat.{ℕ, suc, ◌≤◌}
+use mathlib.Core.List.{List, [], ◌∷◌, ◌++◌, map}
+use mathlib.Core.Bool.{Bool, true, false, cond}
+use Prim.Native.Nat.{ℕ, ◌≤◌}
 use native.Mathlib.Omega.{arith}
 use lib.Dec.{eqb}
-use lib.ListN.{length, get_or, drop}
+use lib.ListN.{length, drop}
 use borrow.Author.Tests.{eqb-true}
-use Rattle.laws.specs.Lists.{every, each, same}
+use Rattle.laws.specs.Lists.{every, each}
 use Rattle.laws.proofs.Tests.{and_true, true_false}
 use Rattle.rules.specs.Answers.{ok}
 use Rattle.rules.specs.Programs.{Program}
 use Rattle.rules.specs.Listing.{Line, ListingForm, onto_line, lines_of, form_in, statement_lines, unhex, read_listing}
-use Rattle.rules.specs.Output.{hex_byte, line_of, mark_of}
+use Rattle.rules.specs.Output.{line_of, mark_of}
 use Rattle.listing.specs.Form.{form_of, is_marked, after_mark}
 use Rattle.listing.proofs.Forms.{mark_form, mark_lines, marked_long}
 use Rattle.pairing.specs.Pairings.{frames_of}
-use Rattle.pairing.proofs.Accepted.{Fine, AllFine, ended_all, listing_read}
+use Rattle.pairing.proofs.Accepted.{AllFine, ended_all, listing_read}
 use Rattle.pairing.proofs.DigitsBack.{digits_back}
 
 -- ---- a text whose lines are all ended is its lines

@@ -1,12 +1,10 @@
 -- "two equal listings, with no pairing given, are all kept".
-use mathlib.Core.Path.{◌≡◌, refl, sym, ◌∙◌, ap}
-use mathlib.Core.List.{List, [], ◌∷◌, ◌++◌}
-use mathlib.Core.Bool.{Bool, true, false, cond}
-use Prim.Native.Nat.{ℕ, zero, suc, ◌+◌, ◌-◌, ◌<◌}
+use mathlib.Core.Path.{◌≡◌, refl}
+use mathlib.Core.List.{[], ◌∷◌, ◌++◌}
+use Prim.Native.Nat.{ℕ, zero, suc, ◌+◌, ◌-◌}
 use native.Mathlib.Omega.{arith}
-use lib.ListN.{length, get_or, take}
+use lib.ListN.{length, get_or}
 use lib.Seq.{drop-length}
-use Rattle.laws.specs.Lists.{same}
 use Rattle.laws.proofs.Lists.{same_refl}
 use Rattle.pairing.specs.Pairings.{Frames, common, run_of, default_pairs}
 use Rattle.differences.specs.Changes.{removed_from, added_from, between, changes_of}

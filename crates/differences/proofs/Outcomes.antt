@@ -1,33 +1,29 @@
 -- What the entry answers, way by way.
 use mathlib.Core.Path.{◌≡◌, refl, sym, ap, ◌∙◌}
-use mathlib.Core.List.{List, []}
-use mathlib.Core.Bool.{Bool, true, false}
+use mathlib.Core.List.{List}
+use mathlib.Core.Bool.{true, false}
 use mathlib.Core.Option.{Option}
 use Prim.Native.Nat.{ℕ, ◌≤◌, ◌<◌}
 use native.Mathlib.Omega.{arith}
-use lib.Dec.{leb, eqb}
 use lib.ListN.{length}
 use borrow.Author.Tests.{le-leb, lt-leb, eq-eqb, ne_eqb}
-use Rattle.laws.specs.Lists.{same}
-use Rattle.laws.proofs.Tests.{clash}
 use Rattle.rules.specs.declared.Refusal.{Refusal}
-use Rattle.rules.specs.declared.Refusal.TheVariants.{Broken, Room, Pairing}
+use Rattle.rules.specs.declared.Refusal.TheVariants.{Broken, Room}
 use Rattle.rules.specs.Answers.{at_place, Judged, ok, no, require, is_ok}
 use Rattle.rules.specs.Programs.{Program}
-use Rattle.rules.specs.Listing.{ListingForm, lines_of, form_in, read_listing}
+use Rattle.rules.specs.Listing.{lines_of, form_in, read_listing}
 use Rattle.digits.specs.Digits.{laid}
 use Rattle.digits.proofs.Rooms.{laid_front}
 use Rattle.pairing.specs.declared.lines.Counted.{Counted}
 use Rattle.pairing.specs.declared.lines.Counted.TheVariants.{Are, Refused}
-use Rattle.pairing.specs.Pairings.{Frames, Pair, frames_of, good_entries, entries_in, pairs_of}
+use Rattle.pairing.specs.Pairings.{Frames, frames_of, good_entries, entries_in}
 use Rattle.pairing.specs.Lines.{chars_of, CountedAs}
 use Rattle.pairing.specs.Tables.{pairs_in}
 use Rattle.pairing.proofs.Accepted.{accepted_lines}
 use Rattle.differences.specs.declared.entry.Paired.TheVariants.{Are as Paired-as-Are, Refused as Paired-as-Refused}
-use Rattle.differences.specs.declared.entry.Differs.{Differs}
 use Rattle.differences.specs.declared.entry.Differs.TheVariants.{Written, OfFirst, OfSecond, OfBoth}
 use Rattle.differences.specs.Changes.{changes_of, text_of}
-use Rattle.differences.specs.Differences.{Differing, text, of_first, of_second, of_both}
+use Rattle.differences.specs.Differences.{Differing, text, of_both}
 use Rattle.differences.specs.Differences.{after, same_form, read_second, compared, differences}
 use Rattle.differences.specs.Entry.{PairedAs, roomed, Leaves}
 

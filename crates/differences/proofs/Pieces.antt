@@ -1,14 +1,13 @@
 -- One line of the differences: the digits of its head, a frame's digits as they stand, and the line feed, stored one behind the other.
 use mathlib.Core.Path.{◌≡◌, refl, sym, ap, ap₂, ◌∙◌}
 use mathlib.Core.List.{List, [], ◌∷◌, ◌++◌, append_assoc}
-use mathlib.Core.Bool.{Bool, true, false, cond}
+use mathlib.Core.Bool.{Bool, true, false}
 use Prim.Native.Nat.{ℕ, ◌+◌, ◌*◌, ◌/◌, ◌%◌, ◌≤◌, ◌<◌}
 use native.Mathlib.Omega.{arith}
 use lib.ListN.{length, set, length-append}
-use Rattle.laws.specs.Lists.{each, same}
+use Rattle.laws.specs.Lists.{same}
 use Rattle.laws.proofs.Lists.{each_append}
 use Rattle.rules.specs.Expressions.{pair}
-use Rattle.rules.specs.Programs.{Placeℕ}
 use Rattle.rules.specs.Listing.{unhex}
 use Rattle.rules.specs.Output.{hex_byte, line_of}
 use Rattle.listing.proofs.DigitPairs.{length_unhex}

@@ -1,21 +1,20 @@
 -- Each refusal has its cause, and a room of 129,024 characters is never too short.
-use mathlib.Core.Path.{◌≡◌, refl, sym, ap, ◌∙◌}
-use mathlib.Core.List.{List, [], ◌∷◌, ◌++◌, map}
+use mathlib.Core.Path.{◌≡◌, refl, ap}
+use mathlib.Core.List.{List, [], ◌∷◌, map}
 use mathlib.Core.Logic.{inl, inr, ⊎_elim}
 use mathlib.Core.Option.{Option}
 use mathlib.Core.Bool.{Bool, true, false, ◌&&◌, cond}
-use Prim.Native.Nat.{ℕ, zero, suc, ◌+◌, ◌-◌, ◌*◌, ◌≤◌, ◌<◌}
+use Prim.Native.Nat.{ℕ, zero, suc, ◌+◌, ◌*◌, ◌≤◌, ◌<◌}
 use native.Mathlib.Omega.{arith}
 use lib.Dec.{leb, ltb, eqb}
-use lib.ListN.{length, get_or, drop, length-append, drop_of_length-le}
+use lib.ListN.{length, drop, length-append, drop_of_length-le}
 use lib.Seq.{drop-cons}
 use borrow.Author.Tests.{leb-true, leb-false, ltb-true, eqb-true, eqb-false}
 use Rattle.laws.specs.Lists.{total, each}
 use Rattle.laws.proofs.Lists.{total_append}
 use Rattle.laws.proofs.Tests.{clash, and_true}
-use Rattle.rules.specs.declared.Refusal.{Refusal}
 use Rattle.rules.specs.declared.Refusal.TheVariants.{Broken, Limit, Room, Pairing}
-use Rattle.rules.specs.Answers.{at_place, Judged, ok, no, ◌>>=◌, require}
+use Rattle.rules.specs.Answers.{at_place, Judged, ok, no, require}
 use Rattle.rules.specs.Programs.{Program}
 use Rattle.rules.specs.Listing.{Line, ListingForm, old_form, new_form, lines_of, form_in, statement_lines, unhex, widest, most_characters, within_limits, well_formed}
 use Rattle.rules.specs.Listing.{read_frame_in, read_lines, read_listing}

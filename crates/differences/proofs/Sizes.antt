@@ -1,13 +1,12 @@
 -- How long a run of lines is, by where its lines begin in the text.
-use mathlib.Core.Path.{◌≡◌, refl, sym, ap, ◌∙◌}
+use mathlib.Core.Path.{◌≡◌, ap, ◌∙◌}
 use mathlib.Core.List.{List, [], ◌∷◌, ◌++◌}
 use Prim.Native.Nat.{ℕ, zero, suc, ◌+◌, ◌-◌, ◌*◌, ◌≤◌, ◌<◌}
 use native.Mathlib.Omega.{arith}
 use lib.ListN.{length, get_or, length-append}
 use Rattle.rules.specs.Expressions.{pair}
-use Rattle.rules.specs.Listing.{unhex}
 use Rattle.rules.specs.Output.{line_of}
-use Rattle.pairing.specs.Pairings.{Frame, Frames, frames_of}
+use Rattle.pairing.specs.Pairings.{Frame, frames_of}
 use Rattle.pairing.specs.Lines.{line_in, Lined}
 use Rattle.pairing.proofs.Frames.{frame_at}
 use Rattle.differences.specs.Walks.{run_text}

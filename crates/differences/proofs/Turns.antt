@@ -1,7 +1,7 @@
 -- The walk, turn by turn: what is left of the text behind the pairs that were passed, how long it is, and pieces that are stored before it.
 use mathlib.Core.Path.{◌≡◌, refl, sym, ap, ◌∙◌}
-use mathlib.Core.List.{List, [], ◌∷◌, ◌++◌}
-use Prim.Native.Nat.{ℕ, suc, ◌+◌, ◌-◌, ◌≤◌, ◌<◌}
+use mathlib.Core.List.{List, [], ◌++◌}
+use Prim.Native.Nat.{ℕ, ◌+◌, ◌-◌, ◌≤◌, ◌<◌}
 use native.Mathlib.Numerals.{add-one}
 use native.Mathlib.Omega.{arith}
 use lib.ListN.{length, get_or, drop, length-append}
@@ -9,15 +9,15 @@ use Rattle.rules.specs.Output.{line_of}
 use Rattle.rules.specs.Listing.{unhex}
 use Rattle.digits.specs.Digits.{laid}
 use Rattle.digits.proofs.Rooms.{length_laid, laid_more}
-use Rattle.pairing.specs.Pairings.{Frame, Frames, Pair, frames_of}
+use Rattle.pairing.specs.Pairings.{Frame, Pair, frames_of}
 use Rattle.pairing.specs.Promise.{InOrder}
 use Rattle.pairing.specs.Lines.{line_in}
-use Rattle.pairing.specs.Tables.{pair_at, pairs_in}
+use Rattle.pairing.specs.Tables.{pairs_in}
 use Rattle.pairing.proofs.Frames.{frame_at}
 use Rattle.differences.specs.declared.walks.Counts.{Counts}
 use Rattle.differences.specs.Changes.{paired, between, changes_of, bytes_of, text_of}
 use Rattle.differences.specs.Walks.{run_text, text_for}
-use Rattle.differences.proofs.Steps.{pair_text, next_pair, no_pair, order_next}
+use Rattle.differences.proofs.Steps.{next_pair, no_pair, order_next}
 
 -- behind k pairs, where statements i and j come next
 abbrev pub left : (first second pairs : List ℕ) (count i j k : ℕ) → List ℕ

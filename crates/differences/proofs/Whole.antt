@@ -1,9 +1,9 @@
 -- An accepted run says changes that lead from the first listing to the second, with a pairing and without, in order, each told right.
-use mathlib.Core.Path.{◌≡◌, refl, sym, ap, ap₂, ◌∙◌}
+use mathlib.Core.Path.{◌≡◌, refl, sym, ap, ◌∙◌}
 use mathlib.Core.Option.{Option, some}
 use mathlib.Core.List.{List, [], ◌∷◌, ◌++◌, append-nil}
 use mathlib.Core.Bool.{Bool, true, false, cond}
-use Prim.Native.Nat.{ℕ, zero, suc, ◌+◌, ◌-◌, ◌≤◌, ◌<◌}
+use Prim.Native.Nat.{ℕ, zero, suc, ◌-◌, ◌<◌}
 use native.Mathlib.Omega.{arith}
 use lib.Dec.{leb, eqb}
 use lib.ListN.{length, get_or}
@@ -19,7 +19,6 @@ use Rattle.rules.specs.Programs.{Program}
 use Rattle.rules.specs.Listing.{ListingForm, old_form, new_form, lines_of, form_in, read_listing}
 use Rattle.rules.specs.Output.{line_of, mark_of}
 use Rattle.pairing.specs.Pairings.{Frame, Frames, Pair, frames_of, good_entries, entries_in, pairs_of}
-use Rattle.pairing.specs.Promise.{InOrder}
 use Rattle.pairing.proofs.Orders.{pairs_order}
 use Rattle.differences.specs.Changes.{Change, kept, removed, added, changed, paired}
 use Rattle.differences.specs.Changes.{removed_from, added_from, between, changes_of, apply, text_of, changes_in}

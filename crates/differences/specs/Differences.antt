@@ -1,6 +1,6 @@
 -- Document 02, C-13, the whole: "Refusals: 1 and 2, first listing first; then 13 for a pairing out of order, repeated or beyond a
 -- listing; then 12."
-use Rattle.std.specs.Prelude.{List, [], Bool, true, false, ℕ, leb, eqb, length}
+use Rattle.std.specs.Prelude.{List, Bool, true, false, ℕ, leb, eqb, length}
 use Rattle.std.proofs.Math.Option.{Option}
 use Rattle.rules.specs.declared.Refusal.{Refusal}
 use Rattle.rules.specs.declared.Refusal.TheVariants.{Broken, Room, Pairing}

@@ -1,9 +1,8 @@
 -- Document 02, C-13: what is shown of the differences.
-use Rattle.std.specs.Prelude.{◌≡◌, List, [], ◌∷◌, ◌++◌, ◌⊎◌, true, false, ℕ, zero, suc, ◌+◌, ◌≤◌, ◌<◌, length, get_or}
+use Rattle.std.specs.Prelude.{◌≡◌, List, [], ◌∷◌, ◌++◌, ◌⊎◌, true, false, ℕ, zero, suc, ◌≤◌, ◌<◌, length, get_or}
 use Rattle.std.proofs.Math.Option.{Option, some}
 use Rattle.laws.specs.Lists.{each}
 use Rattle.laws.specs.Options.{bind}
-use Rattle.rules.specs.declared.Refusal.{Refusal}
 use Rattle.rules.specs.declared.Refusal.TheVariants.{Broken, Room, Pairing}
 use Rattle.rules.specs.Answers.{at_place, ok, no}
 use Rattle.rules.specs.Programs.{Placeℕ, Program}
