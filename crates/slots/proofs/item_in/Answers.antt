@@ -14,11 +14,13 @@ use Rattle.slots.proofs.item_in.Goals as goal
 
 -- item k begins within the frame
 begins : (c : goal.In-loop-k) (k : ℕ) → k ≤ c.args.j → item_at c.args.frame.now 2 k < length c.args.frame.now
-begins c k h = reads_inside c.args.frame.now _ _ ((items_in c.requires.0.0 c.args.frame.now c.requires.0.1).1.each k (omega (arith, c.requires.1)))
+begins c k h = reads_inside c.args.frame.now _ _ ((items_in c.requires.0.0 c.args.frame.now c.requires.0.1).1.each k
+    (omega (arith, c.requires.1)))
 
 -- item k begins within the frame
 begins_2 : (c : goal.After-expression_width-a) (k : ℕ) → k ≤ c.args.j → item_at c.args.frame.now 2 k < length c.args.frame.now
-begins_2 c k h = reads_inside c.args.frame.now _ _ ((items_in c.requires.0.0 c.args.frame.now c.requires.0.1).1.each k (omega (arith, c.requires.1)))
+begins_2 c k h = reads_inside c.args.frame.now _ _ ((items_in c.requires.0.0 c.args.frame.now c.requires.0.1).1.each k
+    (omega (arith, c.requires.1)))
 
 here : (c : goal.In-loop-k) → c.loop-k.a < length c.args.frame.now
 here c = omega (arith, c.loop-k.invariant.1, begins c c.loop-k.k c.loop-k.invariant.0)
@@ -26,7 +28,8 @@ here c = omega (arith, c.loop-k.invariant.1, begins c c.loop-k.k c.loop-k.invari
 next_is : (c : goal.After-expression_width-a) → c.loop-k.a + c.expression_width-a.result
     ≡ item_at c.args.frame.now 2 (c.loop-k.k + 1)
 next_is c =
-    let w : c.expression_width-a.result ≡ took_of (read_expr (drop c.loop-k.a c.args.frame.now)) = c.expression_width-a.ensures ∙ ap (λ d. took_of (read_expr d)) (rest_is c.loop-k.a c.args.frame.now) in
+    let w : c.expression_width-a.result ≡ took_of (read_expr (drop c.loop-k.a c.args.frame.now)) = c.expression_width-a.ensures
+        ∙ ap (λ d. took_of (read_expr d)) (rest_is c.loop-k.a c.args.frame.now) in
     rw (w, c.loop-k.invariant.1, add-one c.loop-k.k) (sym (item_more c.args.frame.now 2 c.loop-k.k))
 
 pub loop-k-init : goal.loop-k-init

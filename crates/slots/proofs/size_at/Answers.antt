@@ -46,12 +46,6 @@ module _ (c : goal.In-Words) (carry owners offsets : List ℕ) where
     as_written : (k : ℕ) → kind_for x ≡ suc (suc k) → slot_at here place ≡ written here place
     as_written k n = slot_data here place k (kind ∙ n)
 
-  bytes_count : (n : ℕ) (a : _) → c.slot_at.result ≡ Holds (Bytes n a) → n ≡ byte_count q (slot_at here place)
-  bytes_count n a e =
-      let d = holds (Bytes n a) e 5 refl in
-      (bytes_says here c.requires.0 place c.requires.1 c.slot_at.result stands n a e).0 ∙ sym (items_count 6 bytes place frame (written here place) d)
-      ∙ sym (ap (byte_count q) (as_written (Bytes n a) e 4 refl ∙ d.is))
-
   words_few : (n : ℕ) (a : _) → c.slot_at.result ≡ Holds (Words n a) → n ≤ 16
   words_few n a e =
       omega (arith, (holds (Words n a) e 6 refl).few, (words_says here c.requires.0 place c.requires.1 c.slot_at.result stands n a e).0)
@@ -60,21 +54,9 @@ module _ (c : goal.In-Words) (carry owners offsets : List ℕ) where
   words_count n a e =
       let d = holds (Words n a) e 6 refl in
       ap (λ m. 2 * m)
-      ((words_says here c.requires.0 place c.requires.1 c.slot_at.result stands n a e).0 ∙ sym (items_count 7 words place frame (written here place) d))
+      ((words_says here c.requires.0 place c.requires.1 c.slot_at.result stands n a e).0
+          ∙ sym (items_count 7 words place frame (written here place) d))
       ∙ sym (ap (byte_count q) (as_written (Words n a) e 5 refl ∙ d.is))
-
-  pad_fits : (a m : ℕ) → c.slot_at.result ≡ Holds (Pad a m) → (a < 256) × (1 ≤ m) × (m < 65536)
-  pad_fits a m e =
-      let s = pad_says here c.requires.0 place c.requires.1 c.slot_at.result stands a m e in
-      let d = holds (Pad a m) e 7 refl in
-      let low : get_or frame 1 0 < 256 = bytes_frame c.args.frames.now (starts_in c.args.state.now) (λ i. omega (arith, c.shared_slice_known-1.given i)) place 1 in
-      (omega (arith, low, s.0), omega (arith, d.some, s.1), omega (arith, d.few, s.1))
-
-  pad_count : (a m : ℕ) → c.slot_at.result ≡ Holds (Pad a m) → up_to q m + a ≡ byte_count q (slot_at here place)
-  pad_count a m e =
-      let d = holds (Pad a m) e 7 refl in
-      let s = pad_says here c.requires.0 place c.requires.1 c.slot_at.result stands a m e in
-      ap₂ (λ (n b : ℕ). up_to q n + b) s.1 s.0 ∙ sym (ap (byte_count q) (as_written (Pad a m) e 6 refl ∙ d.is))
 
 -- behind the slot; nothing here depends on carry, owners and offsets
 module _ (c : goal.In-Pad) (carry owners offsets : List ℕ) where
@@ -87,9 +69,6 @@ module _ (c : goal.In-Pad) (carry owners offsets : List ℕ) where
   abbrev frame_2 : List ℕ
   frame_2 = frame_at c.args.frames.now (starts_in c.args.state.now) place_2
 
-  abbrev q_2 : ℕ
-  q_2 = c.args.q.0
-
   stands_2 : Stands here_2 place_2 c.slot_at.result
   stands_2 = c.slot_at.ensures carry owners offsets
 
@@ -100,38 +79,13 @@ module _ (c : goal.In-Pad) (carry owners offsets : List ℕ) where
     holds_2 : (k : ℕ) → kind_for x ≡ suc k → FrameOf (suc k) place_2 frame_2 (written here_2 place_2)
     holds_2 k n = written_frame here_2 c.requires.0 place_2 c.requires.1 k (kind_2 ∙ n)
 
-    as_written_2 : (k : ℕ) → kind_for x ≡ suc (suc k) → slot_at here_2 place_2 ≡ written here_2 place_2
-    as_written_2 k n = slot_data here_2 place_2 k (kind_2 ∙ n)
-
-  bytes_count_2 : (n : ℕ) (a : _) → c.slot_at.result ≡ Holds (Bytes n a) → n ≡ byte_count q_2 (slot_at here_2 place_2)
-  bytes_count_2 n a e =
-      let d = holds_2 (Bytes n a) e 5 refl in
-      (bytes_says here_2 c.requires.0 place_2 c.requires.1 c.slot_at.result stands_2 n a e).0 ∙ sym (items_count 6 bytes place_2 frame_2 (written here_2 place_2) d)
-      ∙ sym (ap (byte_count q_2) (as_written_2 (Bytes n a) e 4 refl ∙ d.is))
-
-  words_few_2 : (n : ℕ) (a : _) → c.slot_at.result ≡ Holds (Words n a) → n ≤ 16
-  words_few_2 n a e =
-      omega (arith, (holds_2 (Words n a) e 6 refl).few, (words_says here_2 c.requires.0 place_2 c.requires.1 c.slot_at.result stands_2 n a e).0)
-
-  words_count_2 : (n : ℕ) (a : _) → c.slot_at.result ≡ Holds (Words n a) → 2 * n ≡ byte_count q_2 (slot_at here_2 place_2)
-  words_count_2 n a e =
-      let d = holds_2 (Words n a) e 6 refl in
-      ap (λ m. 2 * m)
-      ((words_says here_2 c.requires.0 place_2 c.requires.1 c.slot_at.result stands_2 n a e).0 ∙ sym (items_count 7 words place_2 frame_2 (written here_2 place_2) d))
-      ∙ sym (ap (byte_count q_2) (as_written_2 (Words n a) e 5 refl ∙ d.is))
-
   pad_fits_2 : (a m : ℕ) → c.slot_at.result ≡ Holds (Pad a m) → (a < 256) × (1 ≤ m) × (m < 65536)
   pad_fits_2 a m e =
       let s = pad_says here_2 c.requires.0 place_2 c.requires.1 c.slot_at.result stands_2 a m e in
       let d = holds_2 (Pad a m) e 7 refl in
-      let low : get_or frame_2 1 0 < 256 = bytes_frame c.args.frames.now (starts_in c.args.state.now) (λ i. omega (arith, c.shared_slice_known-1.given i)) place_2 1 in
+      let low : get_or frame_2 1 0 < 256 = bytes_frame c.args.frames.now (starts_in c.args.state.now)
+          (λ i. omega (arith, c.shared_slice_known-1.given i)) place_2 1 in
       (omega (arith, low, s.0), omega (arith, d.some, s.1), omega (arith, d.few, s.1))
-
-  pad_count_2 : (a m : ℕ) → c.slot_at.result ≡ Holds (Pad a m) → up_to q_2 m + a ≡ byte_count q_2 (slot_at here_2 place_2)
-  pad_count_2 a m e =
-      let d = holds_2 (Pad a m) e 7 refl in
-      let s = pad_says here_2 c.requires.0 place_2 c.requires.1 c.slot_at.result stands_2 a m e in
-      ap₂ (λ (n b : ℕ). up_to q_2 n + b) s.1 s.0 ∙ sym (ap (byte_count q_2) (as_written_2 (Pad a m) e 6 refl ∙ d.is))
 
 -- behind the slot; nothing here depends on carry, owners and offsets
 module _ (c : goal.After-size) (carry owners offsets : List ℕ) where
@@ -141,54 +95,11 @@ module _ (c : goal.After-size) (carry owners offsets : List ℕ) where
   abbrev place_3 : ℕ
   place_3 = c.args.at.0
 
-  abbrev frame_3 : List ℕ
-  frame_3 = frame_at c.args.frames.now (starts_in c.args.state.now) place_3
-
   abbrev q_3 : ℕ
   q_3 = c.args.q.0
 
   stands_3 : Stands here_3 place_3 c.slot_at.result
   stands_3 = c.slot_at.ensures carry owners offsets
-
-  module _ (x : Statement) (e : c.slot_at.result ≡ Holds x) where
-    kind_3 : kind_of (slot_at here_3 place_3) ≡ kind_for x
-    kind_3 = kind_stands here_3 place_3 c.slot_at.result stands_3 x e
-
-    holds_3 : (k : ℕ) → kind_for x ≡ suc k → FrameOf (suc k) place_3 frame_3 (written here_3 place_3)
-    holds_3 k n = written_frame here_3 c.requires.0 place_3 c.requires.1 k (kind_3 ∙ n)
-
-    as_written_3 : (k : ℕ) → kind_for x ≡ suc (suc k) → slot_at here_3 place_3 ≡ written here_3 place_3
-    as_written_3 k n = slot_data here_3 place_3 k (kind_3 ∙ n)
-
-  bytes_count_3 : (n : ℕ) (a : _) → c.slot_at.result ≡ Holds (Bytes n a) → n ≡ byte_count q_3 (slot_at here_3 place_3)
-  bytes_count_3 n a e =
-      let d = holds_3 (Bytes n a) e 5 refl in
-      (bytes_says here_3 c.requires.0 place_3 c.requires.1 c.slot_at.result stands_3 n a e).0 ∙ sym (items_count 6 bytes place_3 frame_3 (written here_3 place_3) d)
-      ∙ sym (ap (byte_count q_3) (as_written_3 (Bytes n a) e 4 refl ∙ d.is))
-
-  words_few_3 : (n : ℕ) (a : _) → c.slot_at.result ≡ Holds (Words n a) → n ≤ 16
-  words_few_3 n a e =
-      omega (arith, (holds_3 (Words n a) e 6 refl).few, (words_says here_3 c.requires.0 place_3 c.requires.1 c.slot_at.result stands_3 n a e).0)
-
-  words_count_3 : (n : ℕ) (a : _) → c.slot_at.result ≡ Holds (Words n a) → 2 * n ≡ byte_count q_3 (slot_at here_3 place_3)
-  words_count_3 n a e =
-      let d = holds_3 (Words n a) e 6 refl in
-      ap (λ m. 2 * m)
-      ((words_says here_3 c.requires.0 place_3 c.requires.1 c.slot_at.result stands_3 n a e).0 ∙ sym (items_count 7 words place_3 frame_3 (written here_3 place_3) d))
-      ∙ sym (ap (byte_count q_3) (as_written_3 (Words n a) e 5 refl ∙ d.is))
-
-  pad_fits_3 : (a m : ℕ) → c.slot_at.result ≡ Holds (Pad a m) → (a < 256) × (1 ≤ m) × (m < 65536)
-  pad_fits_3 a m e =
-      let s = pad_says here_3 c.requires.0 place_3 c.requires.1 c.slot_at.result stands_3 a m e in
-      let d = holds_3 (Pad a m) e 7 refl in
-      let low : get_or frame_3 1 0 < 256 = bytes_frame c.args.frames.now (starts_in c.args.state.now) (λ i. omega (arith, c.shared_slice_known-1.given i)) place_3 1 in
-      (omega (arith, low, s.0), omega (arith, d.some, s.1), omega (arith, d.few, s.1))
-
-  pad_count_3 : (a m : ℕ) → c.slot_at.result ≡ Holds (Pad a m) → up_to q_3 m + a ≡ byte_count q_3 (slot_at here_3 place_3)
-  pad_count_3 a m e =
-      let d = holds_3 (Pad a m) e 7 refl in
-      let s = pad_says here_3 c.requires.0 place_3 c.requires.1 c.slot_at.result stands_3 a m e in
-      ap₂ (λ (n b : ℕ). up_to q_3 n + b) s.1 s.0 ∙ sym (ap (byte_count q_3) (as_written_3 (Pad a m) e 6 refl ∙ d.is))
 
 -- behind the slot; nothing here depends on carry, owners and offsets
 module _ (c : goal.In-Bytes) (carry owners offsets : List ℕ) where
@@ -220,32 +131,9 @@ module _ (c : goal.In-Bytes) (carry owners offsets : List ℕ) where
   bytes_count_4 : (n : ℕ) (a : _) → c.slot_at.result ≡ Holds (Bytes n a) → n ≡ byte_count q_4 (slot_at here_4 place_4)
   bytes_count_4 n a e =
       let d = holds_4 (Bytes n a) e 5 refl in
-      (bytes_says here_4 c.requires.0 place_4 c.requires.1 c.slot_at.result stands_4 n a e).0 ∙ sym (items_count 6 bytes place_4 frame_4 (written here_4 place_4) d)
+      (bytes_says here_4 c.requires.0 place_4 c.requires.1 c.slot_at.result stands_4 n a e).0 ∙ sym (items_count 6 bytes place_4 frame_4
+          (written here_4 place_4) d)
       ∙ sym (ap (byte_count q_4) (as_written_4 (Bytes n a) e 4 refl ∙ d.is))
-
-  words_few_4 : (n : ℕ) (a : _) → c.slot_at.result ≡ Holds (Words n a) → n ≤ 16
-  words_few_4 n a e =
-      omega (arith, (holds_4 (Words n a) e 6 refl).few, (words_says here_4 c.requires.0 place_4 c.requires.1 c.slot_at.result stands_4 n a e).0)
-
-  words_count_4 : (n : ℕ) (a : _) → c.slot_at.result ≡ Holds (Words n a) → 2 * n ≡ byte_count q_4 (slot_at here_4 place_4)
-  words_count_4 n a e =
-      let d = holds_4 (Words n a) e 6 refl in
-      ap (λ m. 2 * m)
-      ((words_says here_4 c.requires.0 place_4 c.requires.1 c.slot_at.result stands_4 n a e).0 ∙ sym (items_count 7 words place_4 frame_4 (written here_4 place_4) d))
-      ∙ sym (ap (byte_count q_4) (as_written_4 (Words n a) e 5 refl ∙ d.is))
-
-  pad_fits_4 : (a m : ℕ) → c.slot_at.result ≡ Holds (Pad a m) → (a < 256) × (1 ≤ m) × (m < 65536)
-  pad_fits_4 a m e =
-      let s = pad_says here_4 c.requires.0 place_4 c.requires.1 c.slot_at.result stands_4 a m e in
-      let d = holds_4 (Pad a m) e 7 refl in
-      let low : get_or frame_4 1 0 < 256 = bytes_frame c.args.frames.now (starts_in c.args.state.now) (λ i. omega (arith, c.shared_slice_known-1.given i)) place_4 1 in
-      (omega (arith, low, s.0), omega (arith, d.some, s.1), omega (arith, d.few, s.1))
-
-  pad_count_4 : (a m : ℕ) → c.slot_at.result ≡ Holds (Pad a m) → up_to q_4 m + a ≡ byte_count q_4 (slot_at here_4 place_4)
-  pad_count_4 a m e =
-      let d = holds_4 (Pad a m) e 7 refl in
-      let s = pad_says here_4 c.requires.0 place_4 c.requires.1 c.slot_at.result stands_4 a m e in
-      ap₂ (λ (n b : ℕ). up_to q_4 n + b) s.1 s.0 ∙ sym (ap (byte_count q_4) (as_written_4 (Pad a m) e 6 refl ∙ d.is))
 
 -- behind the slot; nothing here depends on carry, owners and offsets
 module _ (c : goal.After-pad_size) (carry owners offsets : List ℕ) where
@@ -274,30 +162,6 @@ module _ (c : goal.After-pad_size) (carry owners offsets : List ℕ) where
     as_written_5 : (k : ℕ) → kind_for x ≡ suc (suc k) → slot_at here_5 place_5 ≡ written here_5 place_5
     as_written_5 k n = slot_data here_5 place_5 k (kind_5 ∙ n)
 
-  bytes_count_5 : (n : ℕ) (a : _) → c.slot_at.result ≡ Holds (Bytes n a) → n ≡ byte_count q_5 (slot_at here_5 place_5)
-  bytes_count_5 n a e =
-      let d = holds_5 (Bytes n a) e 5 refl in
-      (bytes_says here_5 c.requires.0 place_5 c.requires.1 c.slot_at.result stands_5 n a e).0 ∙ sym (items_count 6 bytes place_5 frame_5 (written here_5 place_5) d)
-      ∙ sym (ap (byte_count q_5) (as_written_5 (Bytes n a) e 4 refl ∙ d.is))
-
-  words_few_5 : (n : ℕ) (a : _) → c.slot_at.result ≡ Holds (Words n a) → n ≤ 16
-  words_few_5 n a e =
-      omega (arith, (holds_5 (Words n a) e 6 refl).few, (words_says here_5 c.requires.0 place_5 c.requires.1 c.slot_at.result stands_5 n a e).0)
-
-  words_count_5 : (n : ℕ) (a : _) → c.slot_at.result ≡ Holds (Words n a) → 2 * n ≡ byte_count q_5 (slot_at here_5 place_5)
-  words_count_5 n a e =
-      let d = holds_5 (Words n a) e 6 refl in
-      ap (λ m. 2 * m)
-      ((words_says here_5 c.requires.0 place_5 c.requires.1 c.slot_at.result stands_5 n a e).0 ∙ sym (items_count 7 words place_5 frame_5 (written here_5 place_5) d))
-      ∙ sym (ap (byte_count q_5) (as_written_5 (Words n a) e 5 refl ∙ d.is))
-
-  pad_fits_5 : (a m : ℕ) → c.slot_at.result ≡ Holds (Pad a m) → (a < 256) × (1 ≤ m) × (m < 65536)
-  pad_fits_5 a m e =
-      let s = pad_says here_5 c.requires.0 place_5 c.requires.1 c.slot_at.result stands_5 a m e in
-      let d = holds_5 (Pad a m) e 7 refl in
-      let low : get_or frame_5 1 0 < 256 = bytes_frame c.args.frames.now (starts_in c.args.state.now) (λ i. omega (arith, c.shared_slice_known-1.given i)) place_5 1 in
-      (omega (arith, low, s.0), omega (arith, d.some, s.1), omega (arith, d.few, s.1))
-
   pad_count_5 : (a m : ℕ) → c.slot_at.result ≡ Holds (Pad a m) → up_to q_5 m + a ≡ byte_count q_5 (slot_at here_5 place_5)
   pad_count_5 a m e =
       let d = holds_5 (Pad a m) e 7 refl in
@@ -319,7 +183,8 @@ returns-in-Form c carry owners offsets =
     let t = here_3 c carry owners offsets in
     let i = place_3 c carry owners offsets in
     let one = form_stands t i c.slot_at.result (stands_3 c carry owners offsets) c.in-Form.form c.in-Form.is in
-    c.size.ensures ∙ ap size_at ((stands_3 c carry owners offsets).form c.in-Form.form c.in-Form.is) ∙ sym (size_instr (q_3 c carry owners offsets) t i one)
+    c.size.ensures ∙ ap size_at ((stands_3 c carry owners offsets).form c.in-Form.form c.in-Form.is)
+        ∙ sym (size_instr (q_3 c carry owners offsets) t i one)
 
 pub returns-in-Bytes : goal.returns-in-Bytes
 returns-in-Bytes c carry owners offsets =

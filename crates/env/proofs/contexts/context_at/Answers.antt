@@ -49,4 +49,5 @@ returns-then-name-lt-LOCAL c carry owners offsets =
 
 pub returns-else-name-lt-LOCAL : goal.returns-else-name-lt-LOCAL
 returns-else-name-lt-LOCAL c carry owners offsets =
-    sym (enter_local c.args.before c.in-Label.name (slot_2 c carry owners offsets) (a_label_2 c carry owners offsets) c.if-name-lt-LOCAL.false)
+    sym (enter_local c.args.before c.in-Label.name (slot_2 c carry owners offsets) (a_label_2 c carry owners offsets)
+    c.if-name-lt-LOCAL.false)

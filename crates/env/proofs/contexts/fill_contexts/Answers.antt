@@ -9,10 +9,12 @@ use Rattle.slots.specs.State.{starts_in, forms_in}
 use Rattle.env.proofs.contexts.fill_contexts.Goals as goal
 
 abbrev over : (c : goal.After-shared_slice_known-1) → (carry owners offsets : List ℕ) → Slots
-over c carry owners offsets = slots c.args.frames.now (starts_in c.args.state.now) c.args.count (forms_in c.args.state.now) carry owners offsets
+over c carry owners offsets = slots c.args.frames.now (starts_in c.args.state.now) c.args.count (forms_in c.args.state.now) carry owners
+    offsets
 
 abbrev over_2 : (c : goal.After-way_told-1) → (carry owners offsets : List ℕ) → Slots
-over_2 c carry owners offsets = slots c.args.frames.now (starts_in c.args.state.now) c.args.count (forms_in c.args.state.now) carry owners offsets
+over_2 c carry owners offsets = slots c.args.frames.now (starts_in c.args.state.now) c.args.count (forms_in c.args.state.now) carry owners
+    offsets
 
 -- a place lies within the table
 inside : (c : goal.After-way_told-1) → c.loop-i.i < 1024
@@ -29,7 +31,8 @@ loop-i-preserved c =
       omega (arith, c.context_at-context.ensures [] [] [], enter_most c.loop-i.context (slot_at (over_2 c [] [] []) c.loop-i.i)),
       simp length-set c.loop-i.invariant.2,
       λ carry owners offsets.
-          contexts_next (over_2 c carry owners offsets) c.loop-i.context c.args.contexts.now c.loop-i.contexts c.loop-i.i k (c.loop-i.invariant.3 carry owners offsets) c.loop-i-test.true
+          contexts_next (over_2 c carry owners offsets) c.loop-i.context c.args.contexts.now c.loop-i.contexts c.loop-i.i k
+          (c.loop-i.invariant.3 carry owners offsets) c.loop-i-test.true
           (omega (arith, inside c, c.requires.1))
           (c.context_at-context.ensures carry owners offsets),
     )

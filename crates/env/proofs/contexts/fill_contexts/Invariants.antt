@@ -9,7 +9,8 @@ use Rattle.env.proofs.contexts.fill_contexts.Given as goal
 
 abbrev pub invariant-loop-i : goal.invariant-loop-i
 invariant-loop-i l =
-    (l.i ≤ l.count) × (l.context ≤ l.i) × (length l.contexts ≡ 1024) × Any l.frames (starts_in l.state) l.count (forms_in l.state) (λ t. ContextsTo t l.context l.initial.contexts l.contexts l.i)
+    (l.i ≤ l.count) × (l.context ≤ l.i) × (length l.contexts ≡ 1024) × Any l.frames (starts_in l.state) l.count (forms_in l.state)
+    (λ t. ContextsTo t l.context l.initial.contexts l.contexts l.i)
 
 abbrev pub decreases-loop-i : goal.decreases-loop-i
 decreases-loop-i l = l.count - l.i

@@ -37,7 +37,8 @@ module _ (c : goal.After-past-in_default) (carry owners offsets : List ℕ) wher
   stands = c.slot_at.ensures carry owners offsets
 
   -- past as many bytes as stand there, but an org
-  moves : (size : ℕ) → size ≡ byte_count q slot → (kind_of slot ≡ 5 → ⊥) → moved_as (reaches i (q + size)) (q + size) ≡ moved_as (settles i q slot) (after q slot)
+  moves : (size : ℕ) → size ≡ byte_count q slot → (kind_of slot ≡ 5 → ⊥) → moved_as (reaches i (q + size)) (q + size) ≡ moved_as
+      (settles i q slot) (after q slot)
   moves size e n = size_moves i q size slot e c.requires.2 n
 
 -- behind the slot
@@ -48,18 +49,11 @@ module _ (c : goal.Then-location-from) (carry owners offsets : List ℕ) where
   abbrev i_2 : ℕ
   i_2 = c.args.at.0
 
-  abbrev q_2 : ℕ
-  q_2 = c.args.from.0
-
   abbrev slot_2 : Stmt
   slot_2 = slot_at here_2 i_2
 
   stands_2 : Stands here_2 i_2 c.slot_at.result
   stands_2 = c.slot_at.ensures carry owners offsets
-
-  -- past as many bytes as stand there, but an org
-  moves_2 : (size : ℕ) → size ≡ byte_count q_2 slot_2 → (kind_of slot_2 ≡ 5 → ⊥) → moved_as (reaches i_2 (q_2 + size)) (q_2 + size) ≡ moved_as (settles i_2 q_2 slot_2) (after q_2 slot_2)
-  moves_2 size e n = size_moves i_2 q_2 size slot_2 e c.requires.2 n
 
 -- behind the slot
 module _ (c : goal.After-past) (carry owners offsets : List ℕ) where
@@ -79,7 +73,8 @@ module _ (c : goal.After-past) (carry owners offsets : List ℕ) where
   stands_3 = c.slot_at.ensures carry owners offsets
 
   -- past as many bytes as stand there, but an org
-  moves_3 : (size : ℕ) → size ≡ byte_count q_3 slot_3 → (kind_of slot_3 ≡ 5 → ⊥) → moved_as (reaches i_3 (q_3 + size)) (q_3 + size) ≡ moved_as (settles i_3 q_3 slot_3) (after q_3 slot_3)
+  moves_3 : (size : ℕ) → size ≡ byte_count q_3 slot_3 → (kind_of slot_3 ≡ 5 → ⊥) → moved_as (reaches i_3 (q_3 + size)) (q_3 + size)
+      ≡ moved_as (settles i_3 q_3 slot_3) (after q_3 slot_3)
   moves_3 size e n = size_moves i_3 q_3 size slot_3 e c.requires.2 n
 
 -- behind the slot
@@ -90,18 +85,11 @@ module _ (c : goal.Else-location-from) (carry owners offsets : List ℕ) where
   abbrev i_4 : ℕ
   i_4 = c.args.at.0
 
-  abbrev q_4 : ℕ
-  q_4 = c.args.from.0
-
   abbrev slot_4 : Stmt
   slot_4 = slot_at here_4 i_4
 
   stands_4 : Stands here_4 i_4 c.slot_at.result
   stands_4 = c.slot_at.ensures carry owners offsets
-
-  -- past as many bytes as stand there, but an org
-  moves_4 : (size : ℕ) → size ≡ byte_count q_4 slot_4 → (kind_of slot_4 ≡ 5 → ⊥) → moved_as (reaches i_4 (q_4 + size)) (q_4 + size) ≡ moved_as (settles i_4 q_4 slot_4) (after q_4 slot_4)
-  moves_4 size e n = size_moves i_4 q_4 size slot_4 e c.requires.2 n
 
 -- ---- an org
 org_is : (c : goal.Then-location-from) (carry owners offsets : List ℕ) → slot_2 c carry owners offsets ≡ org c.wide-location.result
@@ -125,7 +113,8 @@ returns-in_default c =
       moved = λ carry owners offsets.
           c.past-in_default.ensures.moved
           ∙ moves c carry owners offsets c.size_at.result (c.size_at.ensures carry owners offsets)
-          (not_kind (stands c carry owners offsets) c.in-Holds.statement c.in-Holds.is (0 ∷ 1 ∷ 2 ∷ 3 ∷ 5 ∷ 6 ∷ 7 ∷ []) (opened c.in_default.in_default-own.keys2) 4 tt);
+          (not_kind (stands c carry owners offsets) c.in-Holds.statement c.in-Holds.is (0 ∷ 1 ∷ 2 ∷ 3 ∷ 5 ∷ 6 ∷ 7 ∷ [])
+          (opened c.in_default.in_default-own.keys2) 4 tt);
     }
 
 pub returns-then-location-from : goal.returns-then-location-from
@@ -133,7 +122,8 @@ returns-then-location-from c =
     record {
       within = omega arith;
       moved = λ carry owners offsets.
-          sym (org_back c.args.at.0 c.args.from.0 c.wide-location.result (slot_2 c carry owners offsets) (org_is c carry owners offsets) c.if-location-from.true);
+          sym (org_back c.args.at.0 c.args.from.0 c.wide-location.result (slot_2 c carry owners offsets) (org_is c carry owners offsets)
+          c.if-location-from.true);
     }
 
 pub returns-in-Form : goal.returns-in-Form
@@ -145,7 +135,8 @@ returns-in-Form c =
           let t = here_3 c carry owners offsets in
           let j = i_3 c carry owners offsets in
           let one = form_stands t j c.slot_at.result h c.in-Form.form c.in-Form.is in
-          let size = c.size.ensures ∙ ap size_at (h.form c.in-Form.form c.in-Form.is) ∙ sym (size_instr (q_3 c carry owners offsets) t j one) in
+          let size = c.size.ensures ∙ ap size_at (h.form c.in-Form.form c.in-Form.is) ∙ sym (size_instr (q_3 c carry owners offsets) t j
+          one) in
           c.past.ensures.moved ∙ moves_3 c carry owners offsets c.size.result size (λ e. omega arith);
     }
 
@@ -154,5 +145,6 @@ returns-else-location-from c =
     record {
       within = omega (arith, c.wide-location.ensures);
       moved = λ carry owners offsets.
-          sym (org_on c.args.at.0 c.args.from.0 c.wide-location.result (slot_4 c carry owners offsets) (org_is_2 c carry owners offsets) c.if-location-from.false);
+          sym (org_on c.args.at.0 c.args.from.0 c.wide-location.result (slot_4 c carry owners offsets) (org_is_2 c carry owners offsets)
+          c.if-location-from.false);
     }

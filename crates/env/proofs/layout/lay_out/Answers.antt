@@ -11,16 +11,20 @@ use Rattle.slots.specs.State.{starts_in, forms_in}
 use Rattle.env.proofs.layout.lay_out.Goals as goal
 
 abbrev over : (c : goal.After-shared_slice_known-1) → (carry owners offsets : List ℕ) → Slots
-over c carry owners offsets = slots c.args.frames.now (starts_in c.args.state.now) c.args.count (forms_in c.args.state.now) carry owners offsets
+over c carry owners offsets = slots c.args.frames.now (starts_in c.args.state.now) c.args.count (forms_in c.args.state.now) carry owners
+    offsets
 
 abbrev over_2 : (c : goal.In-Refused) → (carry owners offsets : List ℕ) → Slots
-over_2 c carry owners offsets = slots c.args.frames.now (starts_in c.args.state.now) c.args.count (forms_in c.args.state.now) carry owners offsets
+over_2 c carry owners offsets = slots c.args.frames.now (starts_in c.args.state.now) c.args.count (forms_in c.args.state.now) carry owners
+    offsets
 
 abbrev over_3 : (c : goal.In-To) → (carry owners offsets : List ℕ) → Slots
-over_3 c carry owners offsets = slots c.args.frames.now (starts_in c.args.state.now) c.args.count (forms_in c.args.state.now) carry owners offsets
+over_3 c carry owners offsets = slots c.args.frames.now (starts_in c.args.state.now) c.args.count (forms_in c.args.state.now) carry owners
+    offsets
 
 abbrev over_4 : (c : goal.After-way_told-2-1) → (carry owners offsets : List ℕ) → Slots
-over_4 c carry owners offsets = slots c.args.frames.now (starts_in c.args.state.now) c.args.count (forms_in c.args.state.now) carry owners offsets
+over_4 c carry owners offsets = slots c.args.frames.now (starts_in c.args.state.now) c.args.count (forms_in c.args.state.now) carry owners
+    offsets
 
 -- a place and the end lie within the table
 inside : (c : goal.In-Refused) → c.loop-i.i < 1025
@@ -43,7 +47,8 @@ returns-in-Refused c =
     record {
       room = simp length-set c.loop-i.invariant.2;
       laid = λ carry owners offsets.
-          laid_stops (over_2 c carry owners offsets) c.loop-i.here.0 c.args.positions.now c.loop-i.positions c.loop-i.i (c.loop-i.invariant.3 carry owners offsets)
+          laid_stops (over_2 c carry owners offsets) c.loop-i.here.0 c.args.positions.now c.loop-i.positions c.loop-i.i
+          (c.loop-i.invariant.3 carry owners offsets)
           (omega (arith, inside c, c.requires.1))
           c.loop-i-test.true
           c.in-Refused.r
@@ -57,7 +62,8 @@ loop-i-preserved c =
       small,
       simp length-set c.loop-i.invariant.2,
       λ carry owners offsets.
-          laid_next (over_3 c carry owners offsets) c.loop-i.here.0 c.args.positions.now c.loop-i.positions c.loop-i.i (c.loop-i.invariant.3 carry owners offsets)
+          laid_next (over_3 c carry owners offsets) c.loop-i.here.0 c.args.positions.now c.loop-i.positions c.loop-i.i
+          (c.loop-i.invariant.3 carry owners offsets)
           (omega (arith, inside_2 c, c.requires.1))
           c.loop-i-test.true
           c.in-To.next
@@ -71,5 +77,6 @@ returns c =
       room = simp length-set c.loop-i.invariant.2;
       laid = λ carry owners offsets.
           let t = over_4 c carry owners offsets in
-          laid_end t c.loop-i.here.0 c.args.positions.now c.loop-i.positions c.loop-i.i (c.loop-i.invariant.3 carry owners offsets) (omega (arith, inside_3 c, c.requires.1)) e;
+          laid_end t c.loop-i.here.0 c.args.positions.now c.loop-i.positions c.loop-i.i (c.loop-i.invariant.3 carry owners offsets)
+          (omega (arith, inside_3 c, c.requires.1)) e;
     }

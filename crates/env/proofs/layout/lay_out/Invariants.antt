@@ -9,7 +9,8 @@ use Rattle.env.proofs.layout.lay_out.Given as goal
 
 abbrev pub invariant-loop-i : goal.invariant-loop-i
 invariant-loop-i l =
-    (l.i ≤ l.count) × (l.here.0 ≤ 65536) × (length l.positions ≡ 1025) × Any l.frames (starts_in l.state) l.count (forms_in l.state) (λ t. LaidTo t l.here.0 l.initial.positions l.positions l.i)
+    (l.i ≤ l.count) × (l.here.0 ≤ 65536) × (length l.positions ≡ 1025) × Any l.frames (starts_in l.state) l.count (forms_in l.state)
+    (λ t. LaidTo t l.here.0 l.initial.positions l.positions l.i)
 
 abbrev pub decreases-loop-i : goal.decreases-loop-i
 decreases-loop-i l = l.count - l.i

@@ -7,7 +7,10 @@ use Rattle.env.proofs.layout.past.Goals as goal
 
 pub returns-then-from-n : goal.returns-then-from-n
 returns-then-from-n c =
-    record { within = omega arith; moved = sym (reach_beyond c.args.at.0 (c.args.from.0 + c.args.n) (omega (arith, c.if-from-n.true, c.requires))) }
+    record {
+      within = omega arith;
+      moved = sym (reach_beyond c.args.at.0 (c.args.from.0 + c.args.n) (omega (arith, c.if-from-n.true, c.requires)));
+    }
 
 pub returns : goal.returns
 returns c =

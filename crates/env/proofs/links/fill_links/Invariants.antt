@@ -9,7 +9,8 @@ use Rattle.env.proofs.links.fill_links.Given as goal
 
 abbrev pub invariant-loop-i : goal.invariant-loop-i
 invariant-loop-i l =
-    (l.i ≤ l.count) × (length l.links ≡ 28672) × ((h : Held l.frames (starts_in l.state) l.count) → AllTo l.frames (starts_in l.state) l.count h l.names l.contexts l.i l.links)
+    (l.i ≤ l.count) × (length l.links ≡ 28672) × ((h : Held l.frames (starts_in l.state) l.count) → AllTo l.frames (starts_in l.state)
+    l.count h l.names l.contexts l.i l.links)
 
 abbrev pub decreases-loop-i : goal.decreases-loop-i
 decreases-loop-i l = l.count - l.i

@@ -10,5 +10,6 @@ loop-a-preserved c = (
   omega (arith, c.loop-a-test.true),
   simp length-set c.loop-a.invariant.2,
   linked_byte c.args.frames.now c.args.names.now c.args.contexts.now c.args.count c.args.context c.args.from c.args.end c.args.links.now
-      c.loop-a.a c.loop-a.links c.loop-a.invariant.3 c.loop-a.invariant.0 c.link_at.result (omega (arith, c.loop-a.invariant.2, c.requires.frames_len.3, c.loop-a-test.true)) c.link_at.ensures,
+      c.loop-a.a c.loop-a.links c.loop-a.invariant.3 c.loop-a.invariant.0 c.link_at.result
+      (omega (arith, c.loop-a.invariant.2, c.requires.frames_len.3, c.loop-a-test.true)) c.link_at.ensures,
 )

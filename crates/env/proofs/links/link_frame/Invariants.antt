@@ -7,7 +7,8 @@ use Rattle.env.proofs.links.link_frame.Given as goal
 
 abbrev pub invariant-loop-a : goal.invariant-loop-a
 invariant-loop-a l =
-    (l.from ≤ l.a) × (l.a ≤ l.end) × (length l.links ≡ 28672) × LinkedTo l.frames l.names l.contexts l.count l.context l.from l.end l.a l.initial.links l.links
+    (l.from ≤ l.a) × (l.a ≤ l.end) × (length l.links ≡ 28672) × LinkedTo l.frames l.names l.contexts l.count l.context l.from l.end l.a
+    l.initial.links l.links
 
 abbrev pub decreases-loop-a : goal.decreases-loop-a
 decreases-loop-a l = l.end - l.a

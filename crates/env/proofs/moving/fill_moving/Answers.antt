@@ -9,13 +9,16 @@ use Rattle.slots.specs.State.{starts_in, forms_in}
 use Rattle.env.proofs.moving.fill_moving.Goals as goal
 
 abbrev over : (c : goal.After-shared_slice_known-1) → (carry owners offsets : List ℕ) → Slots
-over c carry owners offsets = slots c.args.frames.now (starts_in c.args.state.now) c.args.count (forms_in c.args.state.now) carry owners offsets
+over c carry owners offsets = slots c.args.frames.now (starts_in c.args.state.now) c.args.count (forms_in c.args.state.now) carry owners
+    offsets
 
 abbrev over_2 : (c : goal.After-way_told-1) → (carry owners offsets : List ℕ) → Slots
-over_2 c carry owners offsets = slots c.args.frames.now (starts_in c.args.state.now) c.args.count (forms_in c.args.state.now) carry owners offsets
+over_2 c carry owners offsets = slots c.args.frames.now (starts_in c.args.state.now) c.args.count (forms_in c.args.state.now) carry owners
+    offsets
 
 abbrev over_3 : (c : goal.After-loop-i) → (carry owners offsets : List ℕ) → Slots
-over_3 c carry owners offsets = slots c.args.frames.now (starts_in c.args.state.now) c.args.count (forms_in c.args.state.now) carry owners offsets
+over_3 c carry owners offsets = slots c.args.frames.now (starts_in c.args.state.now) c.args.count (forms_in c.args.state.now) carry owners
+    offsets
 
 -- a place lies within the table
 inside : (c : goal.After-way_told-1) → c.loop-i.i < 1024
@@ -30,7 +33,8 @@ loop-i-preserved c = (
   omega arith,
   simp length-set c.loop-i.invariant.1,
   λ carry owners offsets.
-      moving_next (over_2 c carry owners offsets) c.args.contexts.now c.loop-i.moving c.loop-i.i c.moving_at.result (c.loop-i.invariant.2 carry owners offsets)
+      moving_next (over_2 c carry owners offsets) c.args.contexts.now c.loop-i.moving c.loop-i.i c.moving_at.result
+      (c.loop-i.invariant.2 carry owners offsets)
       c.loop-i-test.true
       (omega (arith, inside c, c.loop-i.invariant.1))
       (c.requires.2 carry owners offsets c.loop-i.i c.loop-i-test.true)
@@ -39,4 +43,5 @@ loop-i-preserved c = (
 
 pub returns : goal.returns
 returns c carry owners offsets =
-    moving_all (over_3 c carry owners offsets) c.args.contexts.now c.loop-i.moving c.loop-i.i (omega arith) (c.loop-i.invariant.2 carry owners offsets)
+    moving_all (over_3 c carry owners offsets) c.args.contexts.now c.loop-i.moving c.loop-i.i (omega arith)
+    (c.loop-i.invariant.2 carry owners offsets)

@@ -1,4 +1,5 @@
--- `moving::moving_at` meets its contract: a label's name, that of a variable that holds a name that moves, and none for any other statement.
+-- `moving::moving_at` meets its contract: a label's name, that of a variable that holds a name that moves, and none for any other
+-- statement.
 use mathlib.Core.Path.{◌≡◌, refl, sym, ap, ◌∙◌}
 use mathlib.Core.List.{List, []}
 use Prim.Native.Nat.{ℕ, ◌≤◌}
@@ -24,9 +25,6 @@ use Rattle.env.proofs.moving.moving_at.Goals as goal
 module _ (c : goal.After-frame_at-frame) (carry owners offsets : List ℕ) where
   abbrev here : Slots
   here = slots c.args.frames.now (starts_in c.args.state.now) c.args.count (forms_in c.args.state.now) carry owners offsets
-
-  abbrev slot : Stmt
-  slot = slot_at here c.args.at.0
 
   stands : Stands here c.args.at.0 c.slot_at.result
   stands = c.slot_at.ensures carry owners offsets
@@ -168,4 +166,5 @@ returns-then-holds_label c carry owners offsets =
 pub returns-else-holds_label : goal.returns-else-holds_label
 returns-else-holds_label c carry owners offsets =
     let v = a_variable_3 c carry owners offsets in
-    moves_not (above_3 c) (context_3 c) (slot_4 c carry owners offsets) 65536 _ v.e v.is refl (sym (tested_2 c carry owners offsets) ∙ c.if-holds_label.false)
+    moves_not (above_3 c) (context_3 c) (slot_4 c carry owners offsets) 65536 _ v.e v.is refl (sym (tested_2 c carry owners offsets)
+    ∙ c.if-holds_label.false)

@@ -71,10 +71,12 @@ returns-in-Label c carry owners offsets =
 pub returns-in-Variable : goal.returns-in-Variable
 unfolding as_name
 returns-in-Variable c carry owners offsets =
-    let v = variable_stands (stands_3 c carry owners offsets) c.requires.0 c.requires.1 c.in-Variable.n _ (c.in-Holds.is ∙ ap Holds c.in-Variable.is) in
+    let v = variable_stands (stands_3 c carry owners offsets) c.requires.0 c.requires.1 c.in-Variable.n _
+    (c.in-Holds.is ∙ ap Holds c.in-Variable.is) in
     names_some (slot_3 c carry owners offsets) c.in-Variable.n (ap as_name v.is) (omega arith)
 
 pub returns-in-Instr : goal.returns-in-Instr
 returns-in-Instr c carry owners offsets =
-    let other = not_kind (stands_4 c carry owners offsets) c.in-Holds.statement c.in-Holds.is nameless (opened c.in-Instr.in-Instr-own.keys3) in
+    let other = not_kind (stands_4 c carry owners offsets) c.in-Holds.statement c.in-Holds.is nameless
+    (opened c.in-Instr.in-Instr-own.keys3) in
     names_none (slot_4 c carry owners offsets) (no_name (slot_4 c carry owners offsets) (other 1 tt) (other 2 tt))

@@ -14,7 +14,8 @@ returns-then-is_seen c p h =
     let a = c.args in
     sym
     (ap checked_as
-    (once_again p a.count a.names.now a.contexts.now h c.loop-i.i (omega arith) c.if-name-lt-NO_NAME.true (sym c.is_seen.ensures ∙ c.if-is_seen.true)
+    (once_again p a.count a.names.now a.contexts.now h c.loop-i.i (omega arith) c.if-name-lt-NO_NAME.true
+    (sym c.is_seen.ensures ∙ c.if-is_seen.true)
     (c.loop-i.invariant.1 p h)))
 
 pub loop-i-preserved : goal.loop-i-preserved
@@ -23,8 +24,10 @@ loop-i-preserved c =
       omega arith,
       λ p h.
           elim c.if-name-lt-NO_NAME.branch [
-            | then-name-lt-NO_NAME+else-is_seen w ↦ once_new p a.count a.names.now a.contexts.now h c.loop-i.i (omega arith) w.if-name-lt-NO_NAME.true (sym w.is_seen.ensures ∙ w.if-is_seen.false) (c.loop-i.invariant.1 p h)
-            | else-name-lt-NO_NAME w ↦ once_none p a.count a.names.now a.contexts.now h c.loop-i.i (omega arith) w.if-name-lt-NO_NAME.false (c.loop-i.invariant.1 p h)
+            | then-name-lt-NO_NAME+else-is_seen w ↦ once_new p a.count a.names.now a.contexts.now h c.loop-i.i (omega arith)
+                w.if-name-lt-NO_NAME.true (sym w.is_seen.ensures ∙ w.if-is_seen.false) (c.loop-i.invariant.1 p h)
+            | else-name-lt-NO_NAME w ↦ once_none p a.count a.names.now a.contexts.now h c.loop-i.i (omega arith) w.if-name-lt-NO_NAME.false
+                (c.loop-i.invariant.1 p h)
           ],
     )
 

@@ -9,7 +9,8 @@ use Rattle.env.proofs.settling.settle_all.Given as goal
 
 abbrev pub invariant-loop-i : goal.invariant-loop-i
 invariant-loop-i l =
-    (l.i ≤ l.count) × (length l.positions ≡ 1025) × (length l.values ≡ 1024) × Any l.frames (starts_in l.state) l.count (forms_in l.state) (λ t. SettledTo t l.positions l.values l.i)
+    (l.i ≤ l.count) × (length l.positions ≡ 1025) × (length l.values ≡ 1024) × Any l.frames (starts_in l.state) l.count (forms_in l.state)
+    (λ t. SettledTo t l.positions l.values l.i)
 
 abbrev pub decreases-loop-i : goal.decreases-loop-i
 decreases-loop-i l = l.count - l.i

@@ -15,16 +15,20 @@ use Rattle.slots.specs.State.{starts_in, forms_in}
 use Rattle.env.proofs.variables.define_all.Goals as goal
 
 abbrev over : (c : goal.After-shared_slice_known-2-1) → (carry owners offsets : List ℕ) → Slots
-over c carry owners offsets = slots c.args.frames.now (starts_in c.args.state.now) c.args.count (forms_in c.args.state.now) carry owners offsets
+over c carry owners offsets = slots c.args.frames.now (starts_in c.args.state.now) c.args.count (forms_in c.args.state.now) carry owners
+    offsets
 
 abbrev over_2 : (c : goal.In-Refused) → (carry owners offsets : List ℕ) → Slots
-over_2 c carry owners offsets = slots c.args.frames.now (starts_in c.args.state.now) c.args.count (forms_in c.args.state.now) carry owners offsets
+over_2 c carry owners offsets = slots c.args.frames.now (starts_in c.args.state.now) c.args.count (forms_in c.args.state.now) carry owners
+    offsets
 
 abbrev over_3 : (c : goal.In-Is) → (carry owners offsets : List ℕ) → Slots
-over_3 c carry owners offsets = slots c.args.frames.now (starts_in c.args.state.now) c.args.count (forms_in c.args.state.now) carry owners offsets
+over_3 c carry owners offsets = slots c.args.frames.now (starts_in c.args.state.now) c.args.count (forms_in c.args.state.now) carry owners
+    offsets
 
 abbrev over_4 : (c : goal.After-loop-i) → (carry owners offsets : List ℕ) → Slots
-over_4 c carry owners offsets = slots c.args.frames.now (starts_in c.args.state.now) c.args.count (forms_in c.args.state.now) carry owners offsets
+over_4 c carry owners offsets = slots c.args.frames.now (starts_in c.args.state.now) c.args.count (forms_in c.args.state.now) carry owners
+    offsets
 
 -- the contexts as they were read
 abbrev contexts : (c : goal.After-shared_slice_known-2-1) → List ℕ
@@ -61,7 +65,8 @@ returns-in-Refused c =
     record {
       room = c.loop-i.invariant.1;
       defined = λ carry owners offsets. (
-        defined_stops (over_2 c carry owners offsets) (names_now (over_2 c carry owners offsets)) (contexts_2 c) c.args.values.now c.loop-i.values c.loop-i.i
+        defined_stops (over_2 c carry owners offsets) (names_now (over_2 c carry owners offsets)) (contexts_2 c) c.args.values.now
+            c.loop-i.values c.loop-i.i
             (c.loop-i.invariant.2 carry owners offsets).0
             (c.requires.any carry owners offsets).named
             c.loop-i-test.true
@@ -78,7 +83,8 @@ loop-i-preserved c =
       simp length-set c.loop-i.invariant.1,
       λ carry owners offsets. (
         rw e
-            (defined_next (over_3 c carry owners offsets) (names_now (over_3 c carry owners offsets)) (contexts_3 c) c.args.values.now c.loop-i.values c.loop-i.i
+            (defined_next (over_3 c carry owners offsets) (names_now (over_3 c carry owners offsets)) (contexts_3 c) c.args.values.now
+            c.loop-i.values c.loop-i.i
             (c.loop-i.invariant.2 carry owners offsets).0
             (c.requires.any carry owners offsets).named
             c.loop-i-test.true
@@ -87,7 +93,8 @@ loop-i-preserved c =
             (sym (c.value_at.ensures carry owners offsets).0 ∙ c.in-Is.is)),
         rw e
             (shown_next (over_3 c carry owners offsets) c.requires.held.0 c.loop-i.values c.loop-i.i c.in-Is.z c.loop-i-test.true
-            (omega (arith, inside c, c.loop-i.invariant.1)) (c.loop-i.invariant.2 carry owners offsets).1 (rw c.in-Is.is at (c.value_at.ensures carry owners offsets).1)),
+            (omega (arith, inside c, c.loop-i.invariant.1)) (c.loop-i.invariant.2 carry owners offsets).1
+            (rw c.in-Is.is at (c.value_at.ensures carry owners offsets).1)),
       ),
     )
 
@@ -96,7 +103,8 @@ returns c =
     record {
       room = c.loop-i.invariant.1;
       defined = λ carry owners offsets. (
-        defined_end (over_4 c carry owners offsets) (names_now (over_4 c carry owners offsets)) (contexts_4 c) c.args.values.now c.loop-i.values c.loop-i.i
+        defined_end (over_4 c carry owners offsets) (names_now (over_4 c carry owners offsets)) (contexts_4 c) c.args.values.now
+            c.loop-i.values c.loop-i.i
             (c.loop-i.invariant.2 carry owners offsets).0
             (omega arith),
         λ q j less. (c.loop-i.invariant.2 carry owners offsets).1 j (omega arith),

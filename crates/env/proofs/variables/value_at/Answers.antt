@@ -39,12 +39,6 @@ module _ (c : goal.After-as_value-arg-1) (carry owners offsets : List ℕ) where
   abbrev here : Slots
   here = slots c.args.frames.now (starts_in c.args.state.now) c.args.count (forms_in c.args.state.now) carry owners offsets
 
-  abbrev slot : Stmt
-  slot = slot_at here c.args.at.0
-
-  stands : Stands here c.args.at.0 c.slot_at.result
-  stands = c.slot_at.ensures carry owners offsets
-
   abbrev i : ℕ
   i = c.args.at.0
 
@@ -52,34 +46,13 @@ module _ (c : goal.After-as_value-arg-1) (carry owners offsets : List ℕ) where
   abbrev contexts : List ℕ
   contexts = contexts_read c.args.frames.now (starts_in c.args.state.now) c.args.count
 
-  abbrev above : List Entry
-  above = entries_of (names_now here) contexts c.args.values.now i
-
   laid : LaidAt (program_of here) i contexts c.args.positions.now
   laid = (c.requires.any carry owners offsets).0
-
-  is_slot : at (program_of here) i ≡ slot
-  is_slot = at_program here i c.requires.held.1
-
-  -- no name is defined there
-  zero : (kind_of slot ≡ 0 → ⊥) → (kind_of slot ≡ 2 → ⊥) → (kind_of slot ≡ 3 → ⊥)
-      → (Is (pos 0) ≡ valued_as (meant_at (names_now here) contexts c.args.values.now (program_of here) i)) × TellsIn slot (Is (pos 0))
-  zero none label variable =
-      let p = program_of here in
-      let k = sym (ap kind_of is_slot) in (
-        sym
-            (ap valued_as
-            (meant_other above i (context_at p i) (position p i) (at p i) (λ e. none (k ∙ e)) (λ e. label (k ∙ e)) (λ e. variable (k ∙ e)))),
-        tells_zero slot none,
-      )
 
 -- behind the slot
 module _ (c : goal.After-links_at-beside) (carry owners offsets : List ℕ) where
   abbrev here_2 : Slots
   here_2 = slots c.args.frames.now (starts_in c.args.state.now) c.args.count (forms_in c.args.state.now) carry owners offsets
-
-  abbrev slot_2 : Stmt
-  slot_2 = slot_at here_2 c.args.at.0
 
   stands_2 : Stands here_2 c.args.at.0 c.slot_at.result
   stands_2 = c.slot_at.ensures carry owners offsets
@@ -87,108 +60,16 @@ module _ (c : goal.After-links_at-beside) (carry owners offsets : List ℕ) wher
   abbrev i_2 : ℕ
   i_2 = c.args.at.0
 
-  -- the contexts as they were read, and the names above
-  abbrev contexts_2 : List ℕ
-  contexts_2 = contexts_read c.args.frames.now (starts_in c.args.state.now) c.args.count
-
-  abbrev above_2 : List Entry
-  above_2 = entries_of (names_now here_2) contexts_2 c.args.values.now i_2
-
-  laid_2 : LaidAt (program_of here_2) i_2 contexts_2 c.args.positions.now
-  laid_2 = (c.requires.any carry owners offsets).0
-
-  is_slot_2 : at (program_of here_2) i_2 ≡ slot_2
-  is_slot_2 = at_program here_2 i_2 c.requires.held.1
-
-  -- no name is defined there
-  zero_2 : (kind_of slot_2 ≡ 0 → ⊥) → (kind_of slot_2 ≡ 2 → ⊥) → (kind_of slot_2 ≡ 3 → ⊥)
-      → (Is (pos 0) ≡ valued_as (meant_at (names_now here_2) contexts_2 c.args.values.now (program_of here_2) i_2)) × TellsIn slot_2 (Is (pos 0))
-  zero_2 none label variable =
-      let p = program_of here_2 in
-      let k = sym (ap kind_of is_slot_2) in (
-        sym
-            (ap valued_as
-            (meant_other above_2 i_2 (context_at p i_2) (position p i_2) (at p i_2) (λ e. none (k ∙ e)) (λ e. label (k ∙ e)) (λ e. variable (k ∙ e)))),
-        tells_zero slot_2 none,
-      )
-
 -- behind the slot
 module _ (c : goal.After-linked_worth-arg-1) (carry owners offsets : List ℕ) where
   abbrev here_3 : Slots
   here_3 = slots c.args.frames.now (starts_in c.args.state.now) c.args.count (forms_in c.args.state.now) carry owners offsets
-
-  abbrev slot_3 : Stmt
-  slot_3 = slot_at here_3 c.args.at.0
 
   stands_3 : Stands here_3 c.args.at.0 c.slot_at.result
   stands_3 = c.slot_at.ensures carry owners offsets
 
   abbrev i_3 : ℕ
   i_3 = c.args.at.0
-
-  -- the contexts as they were read, and the names above
-  abbrev contexts_3 : List ℕ
-  contexts_3 = contexts_read c.args.frames.now (starts_in c.args.state.now) c.args.count
-
-  abbrev above_3 : List Entry
-  above_3 = entries_of (names_now here_3) contexts_3 c.args.values.now i_3
-
-  laid_3 : LaidAt (program_of here_3) i_3 contexts_3 c.args.positions.now
-  laid_3 = (c.requires.any carry owners offsets).0
-
-  is_slot_3 : at (program_of here_3) i_3 ≡ slot_3
-  is_slot_3 = at_program here_3 i_3 c.requires.held.1
-
-  -- no name is defined there
-  zero_3 : (kind_of slot_3 ≡ 0 → ⊥) → (kind_of slot_3 ≡ 2 → ⊥) → (kind_of slot_3 ≡ 3 → ⊥)
-      → (Is (pos 0) ≡ valued_as (meant_at (names_now here_3) contexts_3 c.args.values.now (program_of here_3) i_3)) × TellsIn slot_3 (Is (pos 0))
-  zero_3 none label variable =
-      let p = program_of here_3 in
-      let k = sym (ap kind_of is_slot_3) in (
-        sym
-            (ap valued_as
-            (meant_other above_3 i_3 (context_at p i_3) (position p i_3) (at p i_3) (λ e. none (k ∙ e)) (λ e. label (k ∙ e)) (λ e. variable (k ∙ e)))),
-        tells_zero slot_3 none,
-      )
-
--- behind the slot
-module _ (c : goal.After-linked_worth-arg-in-Variable-1) (carry owners offsets : List ℕ) where
-  abbrev here_4 : Slots
-  here_4 = slots c.args.frames.now (starts_in c.args.state.now) c.args.count (forms_in c.args.state.now) carry owners offsets
-
-  abbrev slot_4 : Stmt
-  slot_4 = slot_at here_4 c.args.at.0
-
-  stands_4 : Stands here_4 c.args.at.0 c.slot_at.result
-  stands_4 = c.slot_at.ensures carry owners offsets
-
-  abbrev i_4 : ℕ
-  i_4 = c.args.at.0
-
-  -- the contexts as they were read, and the names above
-  abbrev contexts_4 : List ℕ
-  contexts_4 = contexts_read c.args.frames.now (starts_in c.args.state.now) c.args.count
-
-  abbrev above_4 : List Entry
-  above_4 = entries_of (names_now here_4) contexts_4 c.args.values.now i_4
-
-  laid_4 : LaidAt (program_of here_4) i_4 contexts_4 c.args.positions.now
-  laid_4 = (c.requires.any carry owners offsets).0
-
-  is_slot_4 : at (program_of here_4) i_4 ≡ slot_4
-  is_slot_4 = at_program here_4 i_4 c.requires.held.1
-
-  -- no name is defined there
-  zero_4 : (kind_of slot_4 ≡ 0 → ⊥) → (kind_of slot_4 ≡ 2 → ⊥) → (kind_of slot_4 ≡ 3 → ⊥)
-      → (Is (pos 0) ≡ valued_as (meant_at (names_now here_4) contexts_4 c.args.values.now (program_of here_4) i_4)) × TellsIn slot_4 (Is (pos 0))
-  zero_4 none label variable =
-      let p = program_of here_4 in
-      let k = sym (ap kind_of is_slot_4) in (
-        sym
-            (ap valued_as
-            (meant_other above_4 i_4 (context_at p i_4) (position p i_4) (at p i_4) (λ e. none (k ∙ e)) (λ e. label (k ∙ e)) (λ e. variable (k ∙ e)))),
-        tells_zero slot_4 none,
-      )
 
 -- behind the slot
 module _ (c : goal.In-Gone) (carry owners offsets : List ℕ) where
@@ -211,23 +92,8 @@ module _ (c : goal.In-Gone) (carry owners offsets : List ℕ) where
   abbrev above_5 : List Entry
   above_5 = entries_of (names_now here_5) contexts_5 c.args.values.now i_5
 
-  laid_5 : LaidAt (program_of here_5) i_5 contexts_5 c.args.positions.now
-  laid_5 = (c.requires.any carry owners offsets).0
-
   is_slot_5 : at (program_of here_5) i_5 ≡ slot_5
   is_slot_5 = at_program here_5 i_5 c.requires.held.1
-
-  -- no name is defined there
-  zero_5 : (kind_of slot_5 ≡ 0 → ⊥) → (kind_of slot_5 ≡ 2 → ⊥) → (kind_of slot_5 ≡ 3 → ⊥)
-      → (Is (pos 0) ≡ valued_as (meant_at (names_now here_5) contexts_5 c.args.values.now (program_of here_5) i_5)) × TellsIn slot_5 (Is (pos 0))
-  zero_5 none label variable =
-      let p = program_of here_5 in
-      let k = sym (ap kind_of is_slot_5) in (
-        sym
-            (ap valued_as
-            (meant_other above_5 i_5 (context_at p i_5) (position p i_5) (at p i_5) (λ e. none (k ∙ e)) (λ e. label (k ∙ e)) (λ e. variable (k ∙ e)))),
-        tells_zero slot_5 none,
-      )
 
 -- behind the slot
 module _ (c : goal.In-Form) (carry owners offsets : List ℕ) where
@@ -250,21 +116,20 @@ module _ (c : goal.In-Form) (carry owners offsets : List ℕ) where
   abbrev above_6 : List Entry
   above_6 = entries_of (names_now here_6) contexts_6 c.args.values.now i_6
 
-  laid_6 : LaidAt (program_of here_6) i_6 contexts_6 c.args.positions.now
-  laid_6 = (c.requires.any carry owners offsets).0
-
   is_slot_6 : at (program_of here_6) i_6 ≡ slot_6
   is_slot_6 = at_program here_6 i_6 c.requires.held.1
 
   -- no name is defined there
   zero_6 : (kind_of slot_6 ≡ 0 → ⊥) → (kind_of slot_6 ≡ 2 → ⊥) → (kind_of slot_6 ≡ 3 → ⊥)
-      → (Is (pos 0) ≡ valued_as (meant_at (names_now here_6) contexts_6 c.args.values.now (program_of here_6) i_6)) × TellsIn slot_6 (Is (pos 0))
+      → (Is (pos 0) ≡ valued_as (meant_at (names_now here_6) contexts_6 c.args.values.now (program_of here_6) i_6)) × TellsIn slot_6
+      (Is (pos 0))
   zero_6 none label variable =
       let p = program_of here_6 in
       let k = sym (ap kind_of is_slot_6) in (
         sym
             (ap valued_as
-            (meant_other above_6 i_6 (context_at p i_6) (position p i_6) (at p i_6) (λ e. none (k ∙ e)) (λ e. label (k ∙ e)) (λ e. variable (k ∙ e)))),
+            (meant_other above_6 i_6 (context_at p i_6) (position p i_6) (at p i_6) (λ e. none (k ∙ e)) (λ e. label (k ∙ e))
+            (λ e. variable (k ∙ e)))),
         tells_zero slot_6 none,
       )
 
@@ -295,18 +160,6 @@ module _ (c : goal.After-as_value) (carry owners offsets : List ℕ) where
   is_slot_7 : at (program_of here_7) i_7 ≡ slot_7
   is_slot_7 = at_program here_7 i_7 c.requires.held.1
 
-  -- no name is defined there
-  zero_7 : (kind_of slot_7 ≡ 0 → ⊥) → (kind_of slot_7 ≡ 2 → ⊥) → (kind_of slot_7 ≡ 3 → ⊥)
-      → (Is (pos 0) ≡ valued_as (meant_at (names_now here_7) contexts_7 c.args.values.now (program_of here_7) i_7)) × TellsIn slot_7 (Is (pos 0))
-  zero_7 none label variable =
-      let p = program_of here_7 in
-      let k = sym (ap kind_of is_slot_7) in (
-        sym
-            (ap valued_as
-            (meant_other above_7 i_7 (context_at p i_7) (position p i_7) (at p i_7) (λ e. none (k ∙ e)) (λ e. label (k ∙ e)) (λ e. variable (k ∙ e)))),
-        tells_zero slot_7 none,
-      )
-
 -- behind the slot
 module _ (c : goal.After-judged) (carry owners offsets : List ℕ) where
   abbrev here_8 : Slots
@@ -334,18 +187,6 @@ module _ (c : goal.After-judged) (carry owners offsets : List ℕ) where
   is_slot_8 : at (program_of here_8) i_8 ≡ slot_8
   is_slot_8 = at_program here_8 i_8 c.requires.held.1
 
-  -- no name is defined there
-  zero_8 : (kind_of slot_8 ≡ 0 → ⊥) → (kind_of slot_8 ≡ 2 → ⊥) → (kind_of slot_8 ≡ 3 → ⊥)
-      → (Is (pos 0) ≡ valued_as (meant_at (names_now here_8) contexts_8 c.args.values.now (program_of here_8) i_8)) × TellsIn slot_8 (Is (pos 0))
-  zero_8 none label variable =
-      let p = program_of here_8 in
-      let k = sym (ap kind_of is_slot_8) in (
-        sym
-            (ap valued_as
-            (meant_other above_8 i_8 (context_at p i_8) (position p i_8) (at p i_8) (λ e. none (k ∙ e)) (λ e. label (k ∙ e)) (λ e. variable (k ∙ e)))),
-        tells_zero slot_8 none,
-      )
-
 -- behind the slot
 module _ (c : goal.In-Instr) (carry owners offsets : List ℕ) where
   abbrev here_9 : Slots
@@ -367,21 +208,20 @@ module _ (c : goal.In-Instr) (carry owners offsets : List ℕ) where
   abbrev above_9 : List Entry
   above_9 = entries_of (names_now here_9) contexts_9 c.args.values.now i_9
 
-  laid_9 : LaidAt (program_of here_9) i_9 contexts_9 c.args.positions.now
-  laid_9 = (c.requires.any carry owners offsets).0
-
   is_slot_9 : at (program_of here_9) i_9 ≡ slot_9
   is_slot_9 = at_program here_9 i_9 c.requires.held.1
 
   -- no name is defined there
   zero_9 : (kind_of slot_9 ≡ 0 → ⊥) → (kind_of slot_9 ≡ 2 → ⊥) → (kind_of slot_9 ≡ 3 → ⊥)
-      → (Is (pos 0) ≡ valued_as (meant_at (names_now here_9) contexts_9 c.args.values.now (program_of here_9) i_9)) × TellsIn slot_9 (Is (pos 0))
+      → (Is (pos 0) ≡ valued_as (meant_at (names_now here_9) contexts_9 c.args.values.now (program_of here_9) i_9)) × TellsIn slot_9
+      (Is (pos 0))
   zero_9 none label variable =
       let p = program_of here_9 in
       let k = sym (ap kind_of is_slot_9) in (
         sym
             (ap valued_as
-            (meant_other above_9 i_9 (context_at p i_9) (position p i_9) (at p i_9) (λ e. none (k ∙ e)) (λ e. label (k ∙ e)) (λ e. variable (k ∙ e)))),
+            (meant_other above_9 i_9 (context_at p i_9) (position p i_9) (at p i_9) (λ e. none (k ∙ e)) (λ e. label (k ∙ e))
+            (λ e. variable (k ∙ e)))),
         tells_zero slot_9 none,
       )
 
@@ -390,7 +230,8 @@ module _ (c : goal.After-links_at-beside) where
   abbrev value : Arg
   value = c.in-Variable.value
 
-  a_variable : (carry owners offsets : List ℕ) → VariableAt (here_2 c carry owners offsets) (i_2 c carry owners offsets) c.in-Variable.field-0 value
+  a_variable : (carry owners offsets : List ℕ) → VariableAt (here_2 c carry owners offsets) (i_2 c carry owners offsets)
+      c.in-Variable.field-0 value
   a_variable carry owners offsets =
       variable_stands (stands_2 c carry owners offsets) c.requires.held.0 c.requires.held.1 c.in-Variable.field-0 value
       (c.in-Holds.is ∙ ap Holds c.in-Variable.is)
@@ -400,7 +241,8 @@ module _ (c : goal.After-linked_worth-arg-1) where
   abbrev value_2 : Arg
   value_2 = c.in-Variable.value
 
-  a_variable_2 : (carry owners offsets : List ℕ) → VariableAt (here_3 c carry owners offsets) (i_3 c carry owners offsets) c.in-Variable.field-0 value_2
+  a_variable_2 : (carry owners offsets : List ℕ) → VariableAt (here_3 c carry owners offsets) (i_3 c carry owners offsets)
+      c.in-Variable.field-0 value_2
   a_variable_2 carry owners offsets =
       variable_stands (stands_3 c carry owners offsets) c.requires.held.0 c.requires.held.1 c.in-Variable.field-0 value_2
       (c.in-Holds.is ∙ ap Holds c.in-Variable.is)
@@ -410,17 +252,13 @@ module _ (c : goal.After-linked_worth-arg-in-Variable-1) where
   abbrev value_3 : Arg
   value_3 = c.in-Variable.value
 
-  a_variable_3 : (carry owners offsets : List ℕ) → VariableAt (here_4 c carry owners offsets) (i_4 c carry owners offsets) c.in-Variable.field-0 value_3
-  a_variable_3 carry owners offsets =
-      variable_stands (stands_4 c carry owners offsets) c.requires.held.0 c.requires.held.1 c.in-Variable.field-0 value_3
-      (c.in-Holds.is ∙ ap Holds c.in-Variable.is)
-
 -- ---- a variable
 module _ (c : goal.After-judged) where
   abbrev value_4 : Arg
   value_4 = c.in-Variable.value
 
-  a_variable_4 : (carry owners offsets : List ℕ) → VariableAt (here_8 c carry owners offsets) (i_8 c carry owners offsets) c.in-Variable.field-0 value_4
+  a_variable_4 : (carry owners offsets : List ℕ) → VariableAt (here_8 c carry owners offsets) (i_8 c carry owners offsets)
+      c.in-Variable.field-0 value_4
   a_variable_4 carry owners offsets =
       variable_stands (stands_8 c carry owners offsets) c.requires.held.0 c.requires.held.1 c.in-Variable.field-0 value_4
       (c.in-Holds.is ∙ ap Holds c.in-Variable.is)
@@ -437,13 +275,15 @@ inside_2 c = let v = a_variable_2 c [] [] [] in (v.from, rw c.frame_at-frame.ens
 beside : (c : goal.After-linked_worth-arg-1) → length c.links_at-beside.result.now ≡ length c.frame_at-frame.result.now
 beside c =
     rw (c.links_at-beside.ensures, c.frame_at-frame.ensures)
-    (length_beside c.args.frames.now (starts_in c.args.state.now) c.args.count c.requires.held.0 c.args.links.now c.requires.held.2.full c.args.at.0 c.requires.held.1)
+    (length_beside c.args.frames.now (starts_in c.args.state.now) c.args.count c.requires.held.0 c.args.links.now c.requires.held.2.full
+    c.args.at.0 c.requires.held.1)
 
 -- as many links as bytes
 beside_2 : (c : goal.After-linked_worth-arg-in-Variable-1) → length c.links_at-beside.result.now ≡ length c.frame_at-frame.result.now
 beside_2 c =
     rw (c.links_at-beside.ensures, c.frame_at-frame.ensures)
-    (length_beside c.args.frames.now (starts_in c.args.state.now) c.args.count c.requires.held.0 c.args.links.now c.requires.held.2.full c.args.at.0 c.requires.held.1)
+    (length_beside c.args.frames.now (starts_in c.args.state.now) c.args.count c.requires.held.0 c.args.links.now c.requires.held.2.full
+    c.args.at.0 c.requires.held.1)
 
 pub as_value-requires : goal.as_value-requires
 as_value-requires c =
@@ -452,7 +292,8 @@ as_value-requires c =
 
 pub links_at-beside-requires : goal.links_at-beside-requires
 links_at-beside-requires c =
-    spans c.args.frames.now (starts_in c.args.state.now) c.args.count c.requires.held.0 c.args.links.now c.requires.held.2.full c.args.at.0 c.requires.held.1
+    spans c.args.frames.now (starts_in c.args.state.now) c.args.count c.requires.held.0 c.args.links.now c.requires.held.2.full c.args.at.0
+    c.requires.held.1
 
 pub slice_bounds-linked_worth-count : goal.slice_bounds-linked_worth-count
 slice_bounds-linked_worth-count c = omega (arith, inside c)
@@ -470,20 +311,25 @@ pub slice_bounds-linked_worth-start-in-Variable : goal.slice_bounds-linked_worth
 slice_bounds-linked_worth-start-in-Variable c = omega (arith, inside_2 c, beside c)
 
 pub linked_worth-requires : goal.linked_worth-requires
-linked_worth-requires c =
-    (omega (arith, c.requires.held.1, c.requires.held.0.few), part_lengths c.frame_at-frame.result.now c.links_at-beside.result.now (value_3 c).0 (beside_2 c))
+linked_worth-requires c = (
+  omega (arith, c.requires.held.1, c.requires.held.0.few),
+  part_lengths c.frame_at-frame.result.now c.links_at-beside.result.now
+      (value_3 c).0 (beside_2 c),
+)
 
 pub returns-in-Gone : goal.returns-in-Gone
 returns-in-Gone c carry owners offsets =
     let p = program_of (here_5 c carry owners offsets) in
     let j = i_5 c carry owners offsets in
     let k : kind_of (slot_5 c carry owners offsets) ≡ 0 = ap kind_of (gone_stands (stands_5 c carry owners offsets) c.in-Gone.is) in
-    let m = meant_gone (above_5 c carry owners offsets) j (context_at p j) (position p j) (at p j) (ap kind_of (is_slot_5 c carry owners offsets) ∙ k) in
+    let m = meant_gone (above_5 c carry owners offsets) j (context_at p j) (position p j) (at p j)
+    (ap kind_of (is_slot_5 c carry owners offsets) ∙ k) in
     (sym (ap valued_as m), rw k)
 
 pub returns-in-Form : goal.returns-in-Form
 returns-in-Form c carry owners offsets =
-    let k = form_stands (here_6 c carry owners offsets) (i_6 c carry owners offsets) c.slot_at.result (stands_6 c carry owners offsets) _ c.in-Form.is in
+    let k = form_stands (here_6 c carry owners offsets) (i_6 c carry owners offsets) c.slot_at.result (stands_6 c carry owners offsets) _
+    c.in-Form.is in
     zero_6 c carry owners offsets (λ e. omega arith) (λ e. omega arith) (λ e. omega arith)
 
 pub returns-in-Label : goal.returns-in-Label
@@ -492,7 +338,8 @@ returns-in-Label c carry owners offsets =
     let j = i_7 c carry owners offsets in
     let e : at64 c.as_value.result ≡ c.as_value.result = search rules in
     let f = label_stands (stands_7 c carry owners offsets) _ (c.in-Holds.is ∙ ap Holds c.in-Label.is) in
-    let m = meant_label (above_7 c carry owners offsets) j (context_at p j) (position p j) (at p j) _ (is_slot_7 c carry owners offsets ∙ f) in
+    let m = meant_label (above_7 c carry owners offsets) j (context_at p j) (position p j) (at p j) _ (is_slot_7 c carry owners offsets
+    ∙ f) in
     let h = laid_7 c carry owners offsets in
     let is = e ∙ c.as_value.ensures ∙ ap pos h.held in
     (ap Is is ∙ sym (ap valued_as m), rw is (tells_position (slot_7 c carry owners offsets) 1 (ap kind_of f) (position p j) h.small))
@@ -508,10 +355,13 @@ returns-in-Variable c carry owners offsets =
     let env : ℕ → Outcome = (λ m. lookup (above_8 c carry owners offsets) (key_of (context_at p j) m)) in
     let whole : Linked env c.frame_at-frame.result.now c.links_at-beside.result.now c.args.values.now j =
     simp (c.frame_at-frame.ensures, c.links_at-beside.ensures, ← context)
-    (above_linked (here_8 c carry owners offsets) c.args.links.now c.args.values.now j c.requires.held.1 c.requires.held.2 (c.requires.any carry owners offsets).1) in
+    (above_linked (here_8 c carry owners offsets) c.args.links.now c.args.values.now j c.requires.held.1 c.requires.held.2
+    (c.requires.any carry owners offsets).1) in
     let worth_is : c.linked_worth.result ≡ worth (above_8 c carry owners offsets) (context_at p j) v.e =
-    c.linked_worth.ensures env (part_linked env c.frame_at-frame.result.now c.links_at-beside.result.now c.args.values.now j a whole) v.e v.reads.width (ap read_expr part ∙ v.reads.reads) in
-    let m = meant_variable (above_8 c carry owners offsets) j (context_at p j) (position p j) (at p j) _ v.e (is_slot_8 c carry owners offsets ∙ v.is) in (
+    c.linked_worth.ensures env (part_linked env c.frame_at-frame.result.now c.links_at-beside.result.now c.args.values.now j a whole) v.e
+    v.reads.width (ap read_expr part ∙ v.reads.reads) in
+    let m = meant_variable (above_8 c carry owners offsets) j (context_at p j) (position p j) (at p j) _ v.e
+    (is_slot_8 c carry owners offsets ∙ v.is) in (
       c.judged.ensures.value ∙ ap (λ o. valued_as (value_at j o)) worth_is ∙ sym (ap valued_as m),
       tells_value (slot_8 c carry owners offsets) 2 (ap kind_of v.is) c.judged.result c.judged.ensures.in_range,
     )
@@ -519,5 +369,7 @@ returns-in-Variable c carry owners offsets =
 -- ---- any other statement
 pub returns-in-Instr : goal.returns-in-Instr
 returns-in-Instr c carry owners offsets =
-    let other = not_kind (stands_9 c carry owners offsets) c.in-Holds.statement c.in-Holds.is nameless (opened c.in-Instr.in-Instr-own.keys3) in
-    zero_9 c carry owners offsets (some_stands (stands_9 c carry owners offsets) c.in-Holds.statement c.in-Holds.is) (other 1 tt) (other 2 tt)
+    let other = not_kind (stands_9 c carry owners offsets) c.in-Holds.statement c.in-Holds.is nameless
+    (opened c.in-Instr.in-Instr-own.keys3) in
+    zero_9 c carry owners offsets (some_stands (stands_9 c carry owners offsets) c.in-Holds.statement c.in-Holds.is) (other 1 tt)
+    (other 2 tt)

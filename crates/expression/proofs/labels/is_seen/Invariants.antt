@@ -1,4 +1,5 @@
--- The loop of `labels::is_seen` asks the places below `limit`, from the last down: whether one below `limit` has the name is whether one below i does.
+-- The loop of `labels::is_seen` asks the places below `limit`, from the last down: whether one below `limit` has the name is whether one
+-- below i does.
 use Rattle.std.proofs.Common.{◌≡◌, ◌≤◌}
 use Rattle.expression.proofs.Keys.{seen}
 use Rattle.expression.proofs.labels.is_seen.Given as goal

@@ -54,16 +54,29 @@ returns-then-s-lt1 t c = record { few = omega arith; counted = empty_counted _ _
 
 pub returns-in-Number : goal.returns-in-Number
 returns-in-Number t c =
-    rw c.leaf.ensures record { few = cond_both Few (leb 5 (length c.args.s.now)) (leaf 5 0) no_names (omega arith) (omega arith); counted = number_counted c.args.s.now c.args.links.now c.args.place (sym c.tag_of.ensures ∙ c.in-Number.is) }
+    rw c.leaf.ensures
+        record {
+          few = cond_both Few (leb 5 (length c.args.s.now)) (leaf 5 0) no_names (omega arith) (omega arith);
+          counted = number_counted c.args.s.now c.args.links.now c.args.place (sym c.tag_of.ensures ∙ c.in-Number.is);
+        }
 
 pub returns-in-Name : goal.returns-in-Name
 returns-in-Name t c =
     let here = eqb (get_or c.args.links.now 0 0) c.args.place in
-    rw c.linked.ensures record { few = cond_both Few (leb 3 (length c.args.s.now)) (leaf 3 (cond here 1 0)) no_names (cond_le here 1 0 3 (omega arith) (omega arith)) (omega arith); counted = name_counted c.args.s.now c.args.links.now c.args.place (sym c.tag_of.ensures ∙ c.in-Name.is) }
+    rw c.linked.ensures
+        record {
+          few = cond_both Few (leb 3 (length c.args.s.now)) (leaf 3 (cond here 1 0)) no_names
+              (cond_le here 1 0 3 (omega arith) (omega arith)) (omega arith);
+          counted = name_counted c.args.s.now c.args.links.now c.args.place (sym c.tag_of.ensures ∙ c.in-Name.is);
+        }
 
 pub returns-in-One : goal.returns-in-One
 returns-in-One t c =
-    let x = c.tally-a.result in record { few = omega (arith, c.tally-a.ensures.few); counted = one_counted _ _ _ c.in-One.field-0 (sym c.tag_of.ensures ∙ c.in-One.is) c.if-s-lt1.false x.found x.taken (only t c) }
+    let x = c.tally-a.result in
+    record {
+      few = omega (arith, c.tally-a.ensures.few);
+      counted = one_counted _ _ _ c.in-One.field-0 (sym c.tag_of.ensures ∙ c.in-One.is) c.if-s-lt1.false x.found x.taken (only t c);
+    }
 
 pub returns-in-Two : goal.returns-in-Two
 returns-in-Two t c = record { few = both_few t c; counted = both t c }

@@ -1,4 +1,5 @@
--- `expr_end` meets its contract: the expression is read from the rest of the frame, and ends so many bytes behind its place. Assumes nothing.
+-- `expr_end` meets its contract: the expression is read from the rest of the frame, and ends so many bytes behind its place. Assumes
+-- nothing.
 use mathlib.Core.Path.{sym, ap, ◌∙◌}
 use native.Mathlib.Omega.{arith}
 use Rattle.expression.specs.Reading.{after_of}

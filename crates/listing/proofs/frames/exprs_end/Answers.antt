@@ -1,4 +1,5 @@
--- `exprs_end` meets its contract: after k turns a is where the first k expressions end, and what is left goes on from there. Assumes nothing.
+-- `exprs_end` meets its contract: after k turns a is where the first k expressions end, and what is left goes on from there. Assumes
+-- nothing.
 use mathlib.Core.Path.{sym, ap, ◌∙◌}
 use Prim.Native.Nat.{◌-◌, ◌+◌}
 use native.Mathlib.Omega.{arith}
@@ -10,12 +11,14 @@ use Rattle.listing.proofs.frames.exprs_end.Goals as goal
 pub returns-in-TooLong : goal.returns-in-TooLong
 returns-in-TooLong c =
     let next = exprs_end (c.args.n - (c.loop-k.k + 1)) c.args.s.now in
-    sym (c.loop-k.invariant.2 ∙ exprs_more c.args.n c.loop-k.k c.args.s.now c.loop-k.a (omega arith) ∙ ap (λ (r : Read). and_then r next) (sym c.expr_end.ensures ∙ c.in-TooLong.is))
+    sym (c.loop-k.invariant.2 ∙ exprs_more c.args.n c.loop-k.k c.args.s.now c.loop-k.a (omega arith) ∙ ap (λ (r : Read). and_then r next)
+        (sym c.expr_end.ensures ∙ c.in-TooLong.is))
 
 pub returns-in-Broken : goal.returns-in-Broken
 returns-in-Broken c =
     let next = exprs_end (c.args.n - (c.loop-k.k + 1)) c.args.s.now in
-    sym (c.loop-k.invariant.2 ∙ exprs_more c.args.n c.loop-k.k c.args.s.now c.loop-k.a (omega arith) ∙ ap (λ (r : Read). and_then r next) (sym c.expr_end.ensures ∙ c.in-Broken.is))
+    sym (c.loop-k.invariant.2 ∙ exprs_more c.args.n c.loop-k.k c.args.s.now c.loop-k.a (omega arith) ∙ ap (λ (r : Read). and_then r next)
+        (sym c.expr_end.ensures ∙ c.in-Broken.is))
 
 pub loop-k-preserved : goal.loop-k-preserved
 loop-k-preserved c =

@@ -1,4 +1,5 @@
--- `exprs_end` meets its contract: after k turns a is where the first k expressions end, and what is left goes on from there. Assumes nothing.
+-- `exprs_end` meets its contract: after k turns a is where the first k expressions end, and what is left goes on from there. Assumes
+-- nothing.
 use mathlib.Core.Path.{◌≡◌}
 use Prim.Native.Nat.{◌≤◌, ◌-◌}
 use lib.ListN.{length}

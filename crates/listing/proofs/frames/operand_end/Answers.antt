@@ -1,4 +1,5 @@
--- `operand_end` meets its contract: what is refused stays refused, and an operand that the form does not have takes nothing. Assumes nothing.
+-- `operand_end` meets its contract: what is refused stays refused, and an operand that the form does not have takes nothing. Assumes
+-- nothing.
 use mathlib.Core.Path.{sym, ◌∙◌}
 use Rattle.rules.specs.Forms.{operands_at}
 use Rattle.instruction.specs.Tables.{operand_in}

@@ -8,7 +8,8 @@ use Rattle.listing.specs.Form.{without}
 use Rattle.listing.proofs.hexadecimal.unhex_into.Given as goal
 
 abbrev pub invariant-loop-k : goal.invariant-loop-k
-invariant-loop-k l = (l.k ≤ l.count) × (l.count ≡ length l.line / 2 - l.b) × (l.frames ≡ paste l.initial.frames l.at (without l.b (unhex l.line)) l.k)
+invariant-loop-k l = (l.k ≤ l.count) × (l.count ≡ length l.line / 2 - l.b)
+    × (l.frames ≡ paste l.initial.frames l.at (without l.b (unhex l.line)) l.k)
 
 abbrev pub decreases-loop-k : goal.decreases-loop-k
 decreases-loop-k l = l.count - l.k

@@ -1,4 +1,5 @@
--- `read_listing` meets its contract: after i turns the tables hold the first i statements and their source lines, and what is left of the text
+-- `read_listing` meets its contract: after i turns the tables hold the first i statements and their source lines, and what is left of the
+-- text
 -- gives the rest. Each turn leaves less of the text. Assumes nothing.
 use mathlib.Core.Path.{◌∙◌}
 use native.Mathlib.Numerals.{add-one}
@@ -16,7 +17,8 @@ loop-rest-init c =
     let starts = c.args.starts.now in
     let rest = c.after_mark-first.ensures in
     let m = c.new_form-marked.ensures.0 in (
-      rw (rest, m) (at_first text c.args.frames.now (set starts 0 0) c.requires.0 (length-set starts 0 0 ∙ c.requires.1) (get_or-set_same starts 0 0 0 (omega (arith, c.requires.1)))),
+      rw (rest, m) (at_first text c.args.frames.now (set starts 0 0) c.requires.0 (length-set starts 0 0 ∙ c.requires.1)
+          (get_or-set_same starts 0 0 0 (omega (arith, c.requires.1)))),
       rw (rest, m) (lines_first text c.args.lines.now),
       c.requires.0,
       length-set starts 0 0 ∙ c.requires.1,
@@ -26,7 +28,8 @@ loop-rest-init c =
 pub returns-in-Refused : goal.returns-in-Refused
 returns-in-Refused c =
     record {
-      listed = at_refusal (form_of c.new_form-marked.result) c.args.text.now c.loop-rest.rest.now c.loop-rest.frames c.loop-rest.starts c.read_line.new.frames c.read_line.new.starts c.loop-rest.i c.loop-rest.invariant.0 (omega arith)
+      listed = at_refusal (form_of c.new_form-marked.result) c.args.text.now c.loop-rest.rest.now c.loop-rest.frames c.loop-rest.starts
+          c.read_line.new.frames c.read_line.new.starts c.loop-rest.i c.loop-rest.invariant.0 (omega arith)
           c.read_line.result c.in-Refused.r c.read_line.ensures.line c.in-Refused.is;
       beside = tt;
       lengths = c.read_line.ensures.lengths;
@@ -39,11 +42,21 @@ pub loop-rest-preserved : goal.loop-rest-preserved
 loop-rest-preserved c =
     let told = c.in-Stands.is in
     let w = form_of c.new_form-marked.result in
-    let next = at_next w c.args.text.now c.loop-rest.rest.now c.loop-rest.frames c.loop-rest.starts c.read_line.new.frames c.read_line.new.starts c.loop-rest.i c.loop-rest.invariant.0 (omega arith) c.read_line.result c.read_line.ensures.line told in
+    let next = at_next w c.args.text.now c.loop-rest.rest.now c.loop-rest.frames c.loop-rest.starts c.read_line.new.frames
+        c.read_line.new.starts c.loop-rest.i c.loop-rest.invariant.0 (omega arith) c.read_line.result c.read_line.ensures.line told in
     let few = next.held.few in
-    let lines = lines_next w c.args.text.now c.loop-rest.rest.now c.loop-rest.lines c.read_line.new.lines c.loop-rest.i c.loop-rest.invariant.1 (omega arith) (omega (arith, few, c.loop-rest.invariant.4)) c.read_line.result c.read_line.ensures.source told in
-    (rw (c.take_line-next.ensures, add-one) next, rw (c.take_line-next.ensures, add-one) lines, c.read_line.ensures.lengths.0, c.read_line.ensures.lengths.1, c.read_line.ensures.lengths.2)
+    let lines = lines_next w c.args.text.now c.loop-rest.rest.now c.loop-rest.lines c.read_line.new.lines c.loop-rest.i
+        c.loop-rest.invariant.1 (omega arith) (omega (arith, few, c.loop-rest.invariant.4)) c.read_line.result c.read_line.ensures.source
+        told in
+    (rw (c.take_line-next.ensures, add-one) next, rw (c.take_line-next.ensures, add-one) lines, c.read_line.ensures.lengths.0,
+        c.read_line.ensures.lengths.1, c.read_line.ensures.lengths.2)
 
 pub returns : goal.returns
 returns c =
-    record { listed = at_end (form_of c.new_form-marked.result) c.args.text.now c.loop-rest.rest.now c.loop-rest.frames c.loop-rest.starts c.loop-rest.i c.loop-rest.invariant.0 (omega arith); beside = lines_end (form_of c.new_form-marked.result) c.args.text.now c.loop-rest.rest.now c.loop-rest.lines c.loop-rest.i c.loop-rest.invariant.1 (omega arith); lengths = (c.loop-rest.invariant.2, c.loop-rest.invariant.3, c.loop-rest.invariant.4) }
+    record {
+      listed = at_end (form_of c.new_form-marked.result) c.args.text.now c.loop-rest.rest.now c.loop-rest.frames c.loop-rest.starts
+          c.loop-rest.i c.loop-rest.invariant.0 (omega arith);
+      beside = lines_end (form_of c.new_form-marked.result) c.args.text.now c.loop-rest.rest.now c.loop-rest.lines c.loop-rest.i
+          c.loop-rest.invariant.1 (omega arith);
+      lengths = (c.loop-rest.invariant.2, c.loop-rest.invariant.3, c.loop-rest.invariant.4);
+    }

@@ -39,12 +39,14 @@ module _ (c : goal.In-Is) where
     abbrev frame : List ℕ
     frame = frame_at frames (starts_in c.args.state.now) place
 
-    second_is : get_or frame 0 0 ≡ 1 → (j : ℕ) → 1 < length (operands_at (get_or frame 1 0)) → second ≡ argument_at frame (operands_at (get_or frame 1 0)) 2 1
+    second_is : get_or frame 0 0 ≡ 1 → (j : ℕ) → 1 < length (operands_at (get_or frame 1 0)) → second ≡ argument_at frame
+        (operands_at (get_or frame 1 0)) 2 1
     second_is one j m =
         c.wide.ensures ∙ sym (found_at c.args.state.now 1 place (omega arith) (omega (arith, c.requires.0)))
         ∙ (h.noted place l).place one 1 (omega arith) m
 
-    third_is : get_or frame 0 0 ≡ 1 → (j : ℕ) → 2 < length (operands_at (get_or frame 1 0)) → third ≡ argument_at frame (operands_at (get_or frame 1 0)) 2 2
+    third_is : get_or frame 0 0 ≡ 1 → (j : ℕ) → 2 < length (operands_at (get_or frame 1 0)) → third ≡ argument_at frame
+        (operands_at (get_or frame 1 0)) 2 2
     third_is one j m =
         c.wide-2.ensures ∙ sym (found_at c.args.state.now 2 place (omega arith) (omega (arith, c.requires.0)))
         ∙ (h.noted place l).place one 2 (omega arith) m
@@ -56,6 +58,7 @@ returns-in-Is c =
       means = λ frames count carry owners offsets h l kind agree.
           let t : Slots = slots frames (starts_in c.args.state.now) count (forms_in c.args.state.now) carry owners offsets in
           let one = first_is t h (place c) l 0 kind in
-          instr_means t h (place c) l (held c) (sym (form_is c)) (not_gone t (place c) 0 kind) one agree (second c) (third c) (second_is c frames count h l one) (third_is c frames count h l one)
+          instr_means t h (place c) l (held c) (sym (form_is c)) (not_gone t (place c) 0 kind) one agree (second c) (third c)
+              (second_is c frames count h l one) (third_is c frames count h l one)
           ∙ ap (λ x. meant_by t (place c) (OfInstr x)) (sym made.1);
     }

@@ -44,7 +44,8 @@ up : (n k : ℕ) → n ≤ k → (k ≡ n → ⊥) → suc n ≤ k
 up n k h e = omega arith
 
 last : (k : ℕ) → 1 ≤ k → k ≤ 8 → (k ≡ 1 → ⊥) → (k ≡ 2 → ⊥) → (k ≡ 3 → ⊥) → (k ≡ 4 → ⊥) → (k ≡ 5 → ⊥) → (k ≡ 6 → ⊥) → (k ≡ 7 → ⊥) → k ≡ 8
-last k l h a b c d e f g = let m : 8 ≤ k = up 7 k (up 6 k (up 5 k (up 4 k (up 3 k (up 2 k (up 1 k l a) b) c) d) e) f) g in omega (arith, l, h, m)
+last k l h a b c d e f g = let m : 8 ≤ k = up 7 k (up 6 k (up 5 k (up 4 k (up 3 k (up 2 k (up 1 k l a) b) c) d) e) f) g in omega
+    (arith, l, h, m)
 
 eight : (c : goal.In_default) → byte_6 c 0 ≡ 8
 eight c =
@@ -70,28 +71,36 @@ eight_4 c =
     let k = a_kind c.requires.0 c.args.frame.now c.requires.1.reads in
     last (byte_9 c 0) k.0 k.1 c.requires.1.kind r.0.0.0.0.0.1 r.0.0.0.0.1 r.0.0.0.1 r.0.0.1 r.0.1 r.1
 
-frame_of_lem : (s : goal.In-2) (k : ℕ) → byte s 0 ≡ k → FrameOf k s.requires.0 s.args.frame.now (judged_or (read_frame s.requires.0 s.args.frame.now) gone)
+frame_of_lem : (s : goal.In-2) (k : ℕ) → byte s 0 ≡ k → FrameOf k s.requires.0 s.args.frame.now
+    (judged_or (read_frame s.requires.0 s.args.frame.now) gone)
 frame_of_lem s k e = of_kind s.requires.0 s.args.frame.now s.requires.1.reads k e
 
-frame_of_lem_2 : (s : goal.In-3) (k : ℕ) → byte_2 s 0 ≡ k → FrameOf k s.requires.0 s.args.frame.now (judged_or (read_frame s.requires.0 s.args.frame.now) gone)
+frame_of_lem_2 : (s : goal.In-3) (k : ℕ) → byte_2 s 0 ≡ k → FrameOf k s.requires.0 s.args.frame.now
+    (judged_or (read_frame s.requires.0 s.args.frame.now) gone)
 frame_of_lem_2 s k e = of_kind s.requires.0 s.args.frame.now s.requires.1.reads k e
 
-frame_of_lem_3 : (s : goal.In-5) (k : ℕ) → byte_3 s 0 ≡ k → FrameOf k s.requires.0 s.args.frame.now (judged_or (read_frame s.requires.0 s.args.frame.now) gone)
+frame_of_lem_3 : (s : goal.In-5) (k : ℕ) → byte_3 s 0 ≡ k → FrameOf k s.requires.0 s.args.frame.now
+    (judged_or (read_frame s.requires.0 s.args.frame.now) gone)
 frame_of_lem_3 s k e = of_kind s.requires.0 s.args.frame.now s.requires.1.reads k e
 
-frame_of_lem_4 : (s : goal.In-6) (k : ℕ) → byte_4 s 0 ≡ k → FrameOf k s.requires.0 s.args.frame.now (judged_or (read_frame s.requires.0 s.args.frame.now) gone)
+frame_of_lem_4 : (s : goal.In-6) (k : ℕ) → byte_4 s 0 ≡ k → FrameOf k s.requires.0 s.args.frame.now
+    (judged_or (read_frame s.requires.0 s.args.frame.now) gone)
 frame_of_lem_4 s k e = of_kind s.requires.0 s.args.frame.now s.requires.1.reads k e
 
-frame_of_lem_5 : (s : goal.In-7) (k : ℕ) → byte_5 s 0 ≡ k → FrameOf k s.requires.0 s.args.frame.now (judged_or (read_frame s.requires.0 s.args.frame.now) gone)
+frame_of_lem_5 : (s : goal.In-7) (k : ℕ) → byte_5 s 0 ≡ k → FrameOf k s.requires.0 s.args.frame.now
+    (judged_or (read_frame s.requires.0 s.args.frame.now) gone)
 frame_of_lem_5 s k e = of_kind s.requires.0 s.args.frame.now s.requires.1.reads k e
 
-frame_of_lem_6 : (s : goal.In_default) (k : ℕ) → byte_6 s 0 ≡ k → FrameOf k s.requires.0 s.args.frame.now (judged_or (read_frame s.requires.0 s.args.frame.now) gone)
+frame_of_lem_6 : (s : goal.In_default) (k : ℕ) → byte_6 s 0 ≡ k → FrameOf k s.requires.0 s.args.frame.now
+    (judged_or (read_frame s.requires.0 s.args.frame.now) gone)
 frame_of_lem_6 s k e = of_kind s.requires.0 s.args.frame.now s.requires.1.reads k e
 
-frame_of_lem_7 : (s : goal.After-shared_slice_known-in_default-1-unread) (k : ℕ) → byte_7 s 0 ≡ k → FrameOf k s.requires.0 s.args.frame.now (judged_or (read_frame s.requires.0 s.args.frame.now) gone)
+frame_of_lem_7 : (s : goal.After-shared_slice_known-in_default-1-unread) (k : ℕ) → byte_7 s 0 ≡ k → FrameOf k s.requires.0 s.args.frame.now
+    (judged_or (read_frame s.requires.0 s.args.frame.now) gone)
 frame_of_lem_7 s k e = of_kind s.requires.0 s.args.frame.now s.requires.1.reads k e
 
-frame_of_lem_8 : (s : goal.After-shared_slice_known-in_default-2-1-unread) (k : ℕ) → byte_8 s 0 ≡ k → FrameOf k s.requires.0 s.args.frame.now (judged_or (read_frame s.requires.0 s.args.frame.now) gone)
+frame_of_lem_8 : (s : goal.After-shared_slice_known-in_default-2-1-unread) (k : ℕ) → byte_8 s 0 ≡ k → FrameOf k s.requires.0
+    s.args.frame.now (judged_or (read_frame s.requires.0 s.args.frame.now) gone)
 frame_of_lem_8 s k e = of_kind s.requires.0 s.args.frame.now s.requires.1.reads k e
 
 first : (s : goal.After-shared_slice_known-2-1-unread) → 0 < length s.args.frame.now

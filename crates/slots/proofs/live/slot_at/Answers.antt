@@ -23,22 +23,13 @@ use Rattle.slots.proofs.live.slot_at.Goals as goal
 
 module _ (s : goal.Then-form-ge-GONE) where
   abbrev over : (carry owners offsets : List ℕ) → Slots
-  over carry owners offsets = slots s.args.frames.now (starts_in s.args.state.now) s.args.count (forms_in s.args.state.now) carry owners offsets
+  over carry owners offsets = slots s.args.frames.now (starts_in s.args.state.now) s.args.count (forms_in s.args.state.now) carry owners
+      offsets
 
   abbrev place : ℕ
   place = s.args.at.0
 
-  abbrev frame : List ℕ
-  frame = frame_at s.args.frames.now (starts_in s.args.state.now) s.args.at.0
-
-  -- the frame reads
-  reads : is_ok (read_frame place frame) ≡ true
-  reads = s.requires.0.reads place s.requires.1
-
 module _ (s : goal.After-shared_slice_known-2-1-unread) where
-  abbrev over_2 : (carry owners offsets : List ℕ) → Slots
-  over_2 carry owners offsets = slots s.args.frames.now (starts_in s.args.state.now) s.args.count (forms_in s.args.state.now) carry owners offsets
-
   abbrev place_2 : ℕ
   place_2 = s.args.at.0
 
@@ -51,7 +42,8 @@ module _ (s : goal.After-shared_slice_known-2-1-unread) where
 
 module _ (s : goal.Then-frame-eq1) where
   abbrev over_3 : (carry owners offsets : List ℕ) → Slots
-  over_3 carry owners offsets = slots s.args.frames.now (starts_in s.args.state.now) s.args.count (forms_in s.args.state.now) carry owners offsets
+  over_3 carry owners offsets = slots s.args.frames.now (starts_in s.args.state.now) s.args.count (forms_in s.args.state.now) carry owners
+      offsets
 
   abbrev place_3 : ℕ
   place_3 = s.args.at.0
@@ -59,23 +51,16 @@ module _ (s : goal.Then-frame-eq1) where
   abbrev frame_3 : List ℕ
   frame_3 = frame_at s.args.frames.now (starts_in s.args.state.now) s.args.at.0
 
-  -- the frame reads
-  reads_3 : is_ok (read_frame place_3 frame_3) ≡ true
-  reads_3 = s.requires.0.reads place_3 s.requires.1
-
 module _ (s : goal.After-other_in) where
   abbrev over_4 : (carry owners offsets : List ℕ) → Slots
-  over_4 carry owners offsets = slots s.args.frames.now (starts_in s.args.state.now) s.args.count (forms_in s.args.state.now) carry owners offsets
+  over_4 carry owners offsets = slots s.args.frames.now (starts_in s.args.state.now) s.args.count (forms_in s.args.state.now) carry owners
+      offsets
 
   abbrev place_4 : ℕ
   place_4 = s.args.at.0
 
   abbrev frame_4 : List ℕ
   frame_4 = frame_at s.args.frames.now (starts_in s.args.state.now) s.args.at.0
-
-  -- the frame reads
-  reads_4 : is_ok (read_frame place_4 frame_4) ≡ true
-  reads_4 = s.requires.0.reads place_4 s.requires.1
 
 -- variants are apart
 abbrev variant : Slot → ℕ
@@ -115,7 +100,11 @@ module _ (c : goal.After-other_in) where
 pub returns-then-form-ge-GONE : goal.returns-then-form-ge-GONE
 returns-then-form-ge-GONE c carry owners offsets =
     let none = slot_gone (over c carry owners offsets) (place c) (omega (arith, c.form_in-form.ensures, c.if-form-ge-GONE.true)) in
-    record { kind = ap kind_of none; form = λ f e. apart Gone (Form f) e (λ z. omega arith); holds = λ x e. apart Gone (Holds x) e (λ z. omega arith) }
+    record {
+      kind = ap kind_of none;
+      form = λ f e. apart Gone (Form f) e (λ z. omega arith);
+      holds = λ x e. apart Gone (Holds x) e (λ z. omega arith);
+    }
 
 pub bounds-frame-0 : goal.bounds-frame-0
 bounds-frame-0 c =
@@ -127,7 +116,8 @@ returns-then-frame-eq1 c carry owners offsets =
     let one : get_or (frame_3 c) 0 0 ≡ 1 = sym (ap (λ l. get_or l 0 0) c.frame_at-frame.ensures) ∙ c.if-frame-eq1.true in
     record {
       kind = kind_kept t (place_3 c) (kept c)
-          ∙ kind_read (place_3 c) (frame_3 c) (written t (place_3 c)) (frame_is t.frames t.starts t.count c.requires.0 (place_3 c) c.requires.1) ∙ one;
+          ∙ kind_read (place_3 c) (frame_3 c) (written t (place_3 c)) (frame_is t.frames t.starts t.count c.requires.0 (place_3 c)
+              c.requires.1) ∙ one;
       form = λ g e. (let z : g ≡ c.form_in-form.result = cc in z ∙ form_is c);
       holds = λ x e. apart (Form c.form_in-form.result) (Holds x) e (λ z. omega arith);
     }
@@ -138,7 +128,8 @@ returns c carry owners offsets =
     let is : c.other_in.result ≡ statement_of (frame_4 c) = c.other_in.ensures ∙ ap statement_of c.frame_at-frame.ensures in
     let means : slot_at t (place_4 c) ≡ meant_by t (place_4 c) c.other_in.result =
     other_means t c.requires.0 (place_4 c) c.requires.1 (kept_2 c) (other c) ∙ ap (meant_by t (place_4 c)) (sym is) in
-    let kind : kind_of (slot_at t (place_4 c)) ≡ kind_for c.other_in.result = ap kind_of means ∙ kind_meant t (place_4 c) c.other_in.result in
+    let kind : kind_of (slot_at t (place_4 c)) ≡ kind_for c.other_in.result = ap kind_of means ∙ kind_meant t (place_4 c) c.other_in.result
+        in
     let here : (x : Statement) → Holds c.other_in.result ≡ Holds x → c.other_in.result ≡ x = (λ x e. cc) in
     record {
       kind = kind;
@@ -146,7 +137,8 @@ returns c carry owners offsets =
       holds = λ x e.
           (let q = here x e in
           record {
-            other = above (kind_for x) (λ z. other c (first_is t c.requires.0 (place_4 c) c.requires.1 0 (kind ∙ ap kind_for q ∙ z))) (some x);
+            other = above (kind_for x) (λ z. other c (first_is t c.requires.0 (place_4 c) c.requires.1 0 (kind ∙ ap kind_for q ∙ z)))
+                (some x);
             read = sym q ∙ is;
             means = means ∙ ap (meant_by t (place_4 c)) q;
           });
