@@ -1,14 +1,13 @@
 -- Bytes laid behind those that stand in the room. Assumes nothing.
 use mathlib.Core.Path.{◌≡◌, refl, sym, ap, ◌∙◌, subst}
-use mathlib.Core.Logic.{◌⊎◌, inl, inr}
 use mathlib.Core.List.{List, [], ◌∷◌, ◌++◌, append_assoc, append-nil}
 use mathlib.Core.Bool.{Bool, true, false, cond}
-use Prim.Native.Nat.{ℕ, zero, suc, ◌+◌, ◌-◌, ◌≤◌, ◌<◌}
+use Prim.Native.Nat.{ℕ, suc, ◌+◌, ◌≤◌, ◌<◌}
 use native.Mathlib.Numerals.{add-one}
 use native.Mathlib.Omega.{arith}
 use lib.Dec.{leb}
-use lib.ListN.{length, take, drop, get_or, set, length-append, length-set, length-take, length-drop}
-use lib.Seq.{take-suc, take-suc-set, take-set-le, drop-drop, take_all}
+use lib.ListN.{length, take, drop, get_or, set, length-append, length-set, length-drop}
+use lib.Seq.{take-suc, take-suc-set, drop-drop}
 use borrow.Author.Tests.{le-leb, lt-leb, leb-true, leb-false}
 use Rattle.rules.specs.Expressions.{Expr, bytes_of}
 use Rattle.grammar.specs.Going.{got, stuck, whole, Goes}

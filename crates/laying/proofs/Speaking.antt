@@ -1,16 +1,16 @@
 -- A line by its plan: its end, one byte, a number, a name. Assumes nothing.
 use mathlib.Core.Path.{◌≡◌, refl, sym, ap, ◌∙◌, subst}
-use mathlib.Core.List.{List, [], ◌∷◌, ◌++◌}
-use mathlib.Core.Option.{Option, none, some}
+use mathlib.Core.List.{List, [], ◌∷◌}
+use mathlib.Core.Option.{Option, none}
 use mathlib.Core.Bool.{Bool, true, false, cond}
-use Prim.Native.Nat.{ℕ, zero, suc, ◌+◌, ◌/◌, ◌%◌, ◌≤◌, ◌<◌}
+use Prim.Native.Nat.{ℕ, suc, ◌+◌, ◌/◌, ◌%◌, ◌≤◌, ◌<◌}
 use native.Mathlib.Omega.{arith}
 use lib.Dec.{ltb}
-use lib.ListN.{length, drop, take, length-drop, drop_of_length-le}
+use lib.ListN.{length, drop, length-drop, drop_of_length-le}
 use lib.Seq.{drop-drop}
 use borrow.Author.Tests.{ltb-true, ltb-false}
-use Rattle.laws.proofs.Tests.{clash, true_false}
-use Rattle.rules.specs.Expressions.{Expr, pair}
+use Rattle.laws.proofs.Tests.{clash}
+use Rattle.rules.specs.Expressions.{pair}
 use Rattle.rules.specs.Programs.{Stmt}
 use Rattle.grammar.specs.Reading.{is_decimal, look}
 use Rattle.grammar.specs.Going.{Read, got, stuck, digits, fixed}

@@ -1,5 +1,5 @@
 -- "then a good line whose expression passes 32 bytes or whose frame passes 120 is 2": a frame that is laid byte by byte, and its limits.
-use Rattle.std.specs.Prelude.{◌≡◌, List, [], ◌∷◌, ◌++◌, cond, ℕ, ◌+◌, ◌≤◌, ◌<◌, leb, length, take, drop}
+use Rattle.std.specs.Prelude.{◌≡◌, List, ◌++◌, cond, ℕ, ◌+◌, ◌≤◌, ◌<◌, leb, length, take, drop}
 use Rattle.rules.specs.Expressions.{Expr, bytes_of}
 use Rattle.grammar.specs.Going.{got, stuck, whole, Goes}
 use Rattle.leaves.specs.declared.Found.{Found}

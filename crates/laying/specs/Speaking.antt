@@ -1,5 +1,5 @@
 -- What the readers of a line answer, in terms of its plan: the frame that they leave, or the byte where they are stuck.
-use Rattle.std.specs.Prelude.{◌≡◌, List, [], ◌∷◌, Bool, true, false, cond, ℕ, ◌≤◌, ltb, length, drop}
+use Rattle.std.specs.Prelude.{◌≡◌, List, [], ◌∷◌, cond, ℕ, ◌≤◌, ltb, length, drop}
 use Rattle.laws.specs.Lists.{each, total}
 use Rattle.rules.specs.Expressions.{Expr, bytes_of}
 use Rattle.rules.specs.Programs.{Stmt, over_exprs}
