@@ -1,7 +1,7 @@
 -- Arguments written one behind the other.
 use mathlib.Core.Path.{◌≡◌, refl, sym, ap, ◌∙◌, subst}
 use mathlib.Core.Bool.{false}
-use mathlib.Core.List.{List, [], ◌∷◌, ◌++◌, append_assoc, append-nil}
+use mathlib.Core.List.{List, [], ◌∷◌, ◌++◌, append_assoc}
 use Prim.Native.Nat.{ℕ, zero, suc, ◌+◌, ◌-◌, ◌≤◌, ◌<◌}
 use native.Mathlib.Omega.{arith}
 use lib.ListN.{length, get_or, drop, take}
@@ -10,13 +10,12 @@ use Rattle.laws.specs.Lists.{each}
 use Rattle.laws.proofs.Tests.{clash}
 use Rattle.laws.proofs.Stores.{rest_is}
 use Rattle.rules.specs.declared.Kind.{Kind}
-use Rattle.rules.specs.declared.Kind.TheVariants.{Reg, I8, D9, Bit, Rel8, A12, A16, Rel16}
+use Rattle.rules.specs.declared.Kind.TheVariants.{Reg}
 use Rattle.rules.specs.Expressions.{Expr, got, parse, read_expr, bytes_of}
 use Rattle.rules.specs.Forms.{operands_at}
 use Rattle.rules.specs.Output.{operand_bytes}
-use Rattle.rules.specs.Programs.{Operand, register, value}
+use Rattle.rules.specs.Programs.{Operand, value}
 use Rattle.expression.proofs.RoundTrip.{reads_expr}
-use Rattle.instruction.specs.declared.tables.Operand as op
 use Rattle.instruction.specs.declared.tables.Operand.TheVariants.{Is, Nothing}
 use Rattle.instruction.specs.Tables.{operand_in}
 use Rattle.instruction.proofs.Numbers.{few_operands}

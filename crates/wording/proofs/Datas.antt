@@ -2,7 +2,7 @@
 use mathlib.Core.Path.{◌≡◌, refl, ap, ◌∙◌}
 use mathlib.Core.Bool.{false}
 use mathlib.Core.List.{List, [], ◌∷◌, ◌++◌, append_assoc}
-use Prim.Native.Nat.{ℕ, suc, ◌+◌, ◌-◌, ◌/◌, ◌%◌, ◌≤◌, ◌<◌}
+use Prim.Native.Nat.{ℕ, suc, ◌-◌, ◌/◌, ◌%◌, ◌≤◌, ◌<◌}
 use native.Mathlib.Omega.{arith}
 use lib.IntN.{pos}
 use lib.ListN.{length, get_or, drop, take}
@@ -10,7 +10,7 @@ use lib.Seq.{drop_at}
 use Rattle.laws.specs.Lists.{each}
 use Rattle.laws.proofs.Tests.{clash}
 use Rattle.laws.proofs.Stores.{rest_is}
-use Rattle.rules.specs.Expressions.{Expr, num, two, one, parse, got, read_expr, bytes_of}
+use Rattle.rules.specs.Expressions.{Expr, num, parse, got, read_expr, bytes_of}
 use Rattle.rules.specs.Output.{hex_digit, hex_byte}
 use Rattle.rules.specs.Statements.{pair_at}
 use Rattle.text.specs.Fits.{ExprFits}

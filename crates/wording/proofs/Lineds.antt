@@ -1,6 +1,6 @@
 -- The line of whatever statement a frame holds, by the frame's first byte.
-use mathlib.Core.Path.{◌≡◌, refl, sym, ap, ◌∙◌, subst}
-use mathlib.Core.Logic.{◌⊎◌, inl, inr, ⊎_elim}
+use mathlib.Core.Path.{◌≡◌, sym, ap, ◌∙◌, subst}
+use mathlib.Core.Logic.{◌⊎◌, inl, inr}
 use mathlib.Core.List.{List, [], ◌∷◌, ◌++◌, append-nil}
 use Prim.Native.Nat.{ℕ, ◌+◌, ◌*◌, ◌/◌, ◌%◌, ◌≤◌, ◌<◌}
 use native.Mathlib.Omega.{arith}
@@ -8,7 +8,7 @@ use lib.ListN.{length, get_or, drop}
 use Rattle.rules.specs.Expressions.{read_expr, bytes_of}
 use Rattle.rules.specs.Forms.{operands_at}
 use Rattle.rules.specs.Output.{frame_of}
-use Rattle.rules.specs.Programs.{Stmt, instr, label, variable, comment, org, bytes, words, pad}
+use Rattle.rules.specs.Programs.{instr, label, variable, comment, org, bytes, words, pad}
 use Rattle.rules.specs.Statements.{pair_at}
 use Rattle.expression.proofs.RoundTrip.{reads_expr}
 use Rattle.text.specs.Fits.{OperandsFit, fits_instr, fits_label, fits_variable, fits_comment, fits_org, fits_bytes, fits_words, fits_pad}
