@@ -11,8 +11,7 @@ use lib.ListN.{length, take}
 use borrow.Author.Tests.{leb-true, leb-false, ltb-true, ltb-false, lt-ltb}
 use Rattle.laws.specs.Lists.{each, total}
 use Rattle.laws.proofs.Tests.{and_true, and_false}
-use Rattle.rules.specs.Programs.{Placeℕ}
-use Rattle.rules.specs.Listing.{Line, lines_of, ListingForm, old_form, new_form, form_in, statement_lines, most_characters}
+use Rattle.rules.specs.Listing.{Line, lines_of, ListingForm, form_in, statement_lines, most_characters}
 use Rattle.rules.specs.Output.{mark_of}
 use Rattle.lines.specs.Alone.{by_itself, standing, told, left_from}
 use Rattle.salvage.specs.Salvage.{Salvaged, left_off, in_front, keeps_limits, salvage_from, salvaged}

@@ -15,7 +15,7 @@ use Rattle.rules.specs.Answers.{at_place, Judged, ok, no, require, ◌>>=◌}
 use Rattle.rules.specs.Programs.{Stmt, comment, Program}
 use Rattle.rules.specs.Listing.{Line, lines_of, is_digit, unhex, ListingForm, old_form, new_form, is_mark, widest, most_characters, within_limits, well_formed, take_byte, read_frame, read_frame_in, read_lines}
 use Rattle.rules.specs.Output.{frame_in, frame_of, line_of, lines_in}
-use Rattle.rules.proofs.Laws.{no_ok, then_ok, require_ok}
+use Rattle.rules.proofs.Laws.{no_ok, require_ok}
 use Rattle.promises.proofs.RoundTrip.{AllBytes}
 use Rattle.promises.proofs.Listings.{line_room, zero_fits}
 use Rattle.promises.proofs.TextBack.{Writable, text_back}

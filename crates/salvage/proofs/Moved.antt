@@ -4,14 +4,13 @@ use mathlib.Core.Bool.{Bool}
 use mathlib.Core.List.{List, [], ◌∷◌}
 use mathlib.Core.Logic.{⊎_elim}
 use Prim.Native.Nat.{ℕ, ◌≤◌}
-use native.Mathlib.Omega.{arith}
 use lib.Dec.{leb}
 use lib.ListN.{length, get_or, drop}
 use Rattle.laws.proofs.Tests.{eq_or_not, lt_or_le}
 use Rattle.rules.specs.declared.Refusal.TheVariants.{Broken}
 use Rattle.rules.specs.Answers.{at_place, Judged, ok, require}
 use Rattle.rules.specs.Programs.{Placeℕ, Stmt}
-use Rattle.rules.specs.Listing.{ListingForm, old_form, new_form, read_instr, read_frame, read_new, read_frame_in}
+use Rattle.rules.specs.Listing.{ListingForm, old_form, new_form, read_instr, read_frame, read_frame_in}
 use Rattle.rules.specs.Statements.{instruction_of, statement_of}
 use Rattle.rules.proofs.Laws.{no_ok, require_ok}
 use Rattle.instruction.proofs.Entries.{NoneIn}

@@ -1,12 +1,12 @@
 -- "The output is never refused 1 or 2."
-use mathlib.Core.Path.{◌≡◌, refl, sym, ap, ap₂, ◌∙◌}
+use mathlib.Core.Path.{◌≡◌, refl, ap, ap₂, ◌∙◌}
 use mathlib.Core.List.{List, [], ◌∷◌, ◌++◌}
 use mathlib.Core.Bool.{Bool, true, false, cond}
 use Prim.Native.Nat.{ℕ, suc, ◌+◌}
 use lib.ListN.{length}
 use Rattle.laws.specs.Lists.{each, same}
 use Rattle.rules.specs.Answers.{ok}
-use Rattle.rules.specs.Programs.{Placeℕ, Program}
+use Rattle.rules.specs.Programs.{Program}
 use Rattle.rules.specs.Listing.{Line, lines_of, ListingForm, old_form, new_form, is_mark, form_in, statement_lines, read_lines, read_listing}
 use Rattle.rules.specs.Output.{line_of, mark_of}
 use Rattle.promises.proofs.RoundTrip.{AllBytes}

@@ -1,10 +1,10 @@
 -- Rooms of 58,373 and of 9,223 bytes are never too short, whatever the text is.
 use mathlib.Core.Path.{◌≡◌, refl, ap, ◌∙◌}
-use mathlib.Core.Bool.{Bool, true, false, ◌&&◌, cond}
+use mathlib.Core.Bool.{Bool, true, false, cond}
 use mathlib.Core.List.{List, [], ◌∷◌, ◌++◌}
 use Prim.Native.Nat.{ℕ, suc, ◌+◌, ◌*◌, ◌≤◌}
 use native.Mathlib.Omega.{arith}
-use lib.Dec.{leb, ltb}
+use lib.Dec.{ltb}
 use lib.ListN.{length, take, length-take, length-append}
 use borrow.Author.Tests.{le-leb}
 use Rattle.laws.specs.Lists.{each, total}
@@ -14,7 +14,7 @@ use Rattle.rules.specs.Expressions.{pair}
 use Rattle.rules.specs.Programs.{Placeℕ, Program}
 use Rattle.rules.specs.Refusals.{fault_of}
 use Rattle.rules.specs.Listing.{Line, lines_of, ListingForm, old_form, new_form, form_in, statement_lines, most_characters}
-use Rattle.rules.specs.Output.{line_of, mark_of}
+use Rattle.rules.specs.Output.{mark_of}
 use Rattle.digits.proofs.Rooms.{length_line}
 use Rattle.lines.specs.Alone.{by_itself, standing, told, left_from}
 use Rattle.salvage.specs.Salvage.{salvaged, salvage}

@@ -1,5 +1,5 @@
 -- Runs computed from the definitions, on both sides of each edge.
-use mathlib.Core.List.{List, [], ◌∷◌, ◌++◌}
+use mathlib.Core.List.{List, [], ◌∷◌}
 use mathlib.Core.Bool.{Bool, true, false, ◌&&◌}
 use Prim.Native.Nat.{ℕ}
 use Prim.Native.String.{String}

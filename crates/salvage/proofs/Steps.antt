@@ -13,7 +13,7 @@ use Rattle.laws.proofs.Tests.{and_true, true_false, false_true}
 use Rattle.rules.specs.Answers.{Judged, ok, no}
 use Rattle.rules.specs.Expressions.{pair}
 use Rattle.rules.specs.Programs.{Placeℕ, Program}
-use Rattle.rules.specs.Listing.{Line, lines_of, ListingForm, old_form, new_form, most_characters}
+use Rattle.rules.specs.Listing.{lines_of, ListingForm, old_form, new_form, most_characters}
 use Rattle.rules.specs.Output.{line_of}
 use Rattle.listing.specs.Lines.{first_line, after_line}
 use Rattle.listing.proofs.FirstLine.{lines_are}

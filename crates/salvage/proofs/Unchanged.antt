@@ -13,7 +13,7 @@ use Rattle.rules.specs.Listing.{Line, lines_of, ListingForm, old_form, new_form,
 use Rattle.rules.specs.Output.{line_of, mark_of}
 use Rattle.rules.proofs.Laws.{then_ok}
 use Rattle.lines.proofs.Feeds.{with_feed, joined_back}
-use Rattle.salvage.specs.Salvage.{keeps_limits, salvage_from, salvaged}
+use Rattle.salvage.specs.Salvage.{salvage_from, salvaged}
 use Rattle.salvage.specs.Promise.{Unchanged}
 use Rattle.salvage.proofs.Goods.{judged, line_good, good_alone}
 
