@@ -22,11 +22,13 @@ tested_2 : (c : goal.After-in_part) → c.is_register.result ≡ is_reg (get_or 
 tested_2 c = c.is_register.ensures ∙ register_at_lem (operands_at (get_or c.args.frame.now 1 0)) c.args.j c.requires.1
 
 -- where reading found it
-found : (c : goal.After-argument_at) → c.argument_at.result ≡ argument_at c.args.frame.now (operands_at (get_or c.args.frame.now 1 0)) 2 c.args.j
+found : (c : goal.After-argument_at) → c.argument_at.result ≡ argument_at c.args.frame.now (operands_at (get_or c.args.frame.now 1 0)) 2
+    c.args.j
 found c = c.argument_at.ensures c.args.frame.now c.requires.4 c.requires.0.kind c.requires.1
 
 -- where reading found it
-found_2 : (c : goal.After-in_part) → c.argument_at.result ≡ argument_at c.args.frame.now (operands_at (get_or c.args.frame.now 1 0)) 2 c.args.j
+found_2 : (c : goal.After-in_part) → c.argument_at.result ≡ argument_at c.args.frame.now (operands_at (get_or c.args.frame.now 1 0)) 2
+    c.args.j
 found_2 c = c.argument_at.ensures c.args.frame.now c.requires.4 c.requires.0.kind c.requires.1
 
 pub bounds-frame-1 : goal.bounds-frame-1
@@ -34,7 +36,11 @@ bounds-frame-1 c = omega (arith, (instr_in c.args.at.0 c.args.frame.now c.requir
 
 pub returns-then-is_register : goal.returns-then-is_register
 returns-then-is_register c =
-    record { few = omega arith; by_index = λ f l. sym (in_register c.args.at.0 c.args.frame.now c.requires.0 c.args.j c.requires.1 (mentions f) (sym (tested c) ∙ c.if-is_register.true)) }
+    record {
+      few = omega arith;
+      by_index = λ f l. sym (in_register c.args.at.0 c.args.frame.now c.requires.0 c.args.j c.requires.1 (mentions f)
+          (sym (tested c) ∙ c.if-is_register.true));
+    }
 
 pub argument_at-requires : goal.argument_at-requires
 argument_at-requires c =

@@ -31,5 +31,11 @@ loop-j-preserved c =
       omega arith,
       omega (arith, l.invariant.1, c.in_argument-found.ensures.few),
       λ f r.
-          omega (arith, l.invariant.2 f r, c.in_argument-found.ensures.by_index f r, total_more (in_operand (mentions f)) (args_of (read_as c.args.at.0 b)) l.j (register 0) inside),
+          omega (
+            arith,
+            l.invariant.2 f r,
+            c.in_argument-found.ensures.by_index f r,
+            total_more (in_operand (mentions f))
+                (args_of (read_as c.args.at.0 b)) l.j (register 0) inside,
+          ),
     )

@@ -13,7 +13,8 @@ use Rattle.patterns.proofs.counting.in_arguments.Given as goal
 abbrev pub invariant-loop-j : goal.invariant-loop-j
 invariant-loop-j l =
     (l.j ≤ l.m) × (l.found ≤ 120 * l.j)
-    × ((f : ℕ → Bool) → Referred f l.frame l.links l.place.0 → l.found ≡ total (in_operand (mentions f)) (take l.j (args_of (read_as l.at.0 l.frame))))
+    × ((f : ℕ → Bool) → Referred f l.frame l.links l.place.0 → l.found ≡ total (in_operand (mentions f))
+    (take l.j (args_of (read_as l.at.0 l.frame))))
 
 abbrev pub decreases-loop-j : goal.decreases-loop-j
 decreases-loop-j l = l.m - l.j

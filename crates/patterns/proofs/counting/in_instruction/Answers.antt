@@ -29,39 +29,24 @@ module _ (c : goal.After-shared_slice_known-2-1-unread) where
   frame = frame_at c.args.frames.now (starts_in c.args.state.now) c.args.at.0
 
   abbrev over : (offsets : List ℕ) → Slots
-  over offsets = slots c.args.frames.now (starts_in c.args.state.now) c.args.count (forms_in c.args.state.now) (carry_in c.args.state.now) (owners_in c.args.state.now) offsets
+  over offsets = slots c.args.frames.now (starts_in c.args.state.now) c.args.count (forms_in c.args.state.now) (carry_in c.args.state.now)
+      (owners_in c.args.state.now) offsets
 
   here : InstrIn c.args.at.0 frame
   here = instr_here (over []) (c.requires.2 []).0 c.args.at.0 c.requires.0 (c.requires.2 []).1
 
-  abbrev beside : List ℕ
-  beside = frame_at c.args.links.now (starts_in c.args.state.now) c.args.at.0
-
-  short : Short frame beside
-  short = beside_short c.args.frames.now (starts_in c.args.state.now) c.args.count (c.requires.2 []).0.held c.args.links.now c.requires.1 c.args.at.0 c.requires.0
-
 module _ (c : goal.After-carry_at-written) where
-  abbrev frame_2 : List ℕ
-  frame_2 = frame_at c.args.frames.now (starts_in c.args.state.now) c.args.at.0
-
   abbrev over_2 : (offsets : List ℕ) → Slots
-  over_2 offsets = slots c.args.frames.now (starts_in c.args.state.now) c.args.count (forms_in c.args.state.now) (carry_in c.args.state.now) (owners_in c.args.state.now) offsets
-
-  here_2 : InstrIn c.args.at.0 frame_2
-  here_2 = instr_here (over_2 []) (c.requires.2 []).0 c.args.at.0 c.requires.0 (c.requires.2 []).1
-
-  abbrev beside_2 : List ℕ
-  beside_2 = frame_at c.args.links.now (starts_in c.args.state.now) c.args.at.0
-
-  short_2 : Short frame_2 beside_2
-  short_2 = beside_short c.args.frames.now (starts_in c.args.state.now) c.args.count (c.requires.2 []).0.held c.args.links.now c.requires.1 c.args.at.0 c.requires.0
+  over_2 offsets = slots c.args.frames.now (starts_in c.args.state.now) c.args.count (forms_in c.args.state.now)
+      (carry_in c.args.state.now) (owners_in c.args.state.now) offsets
 
 module _ (c : goal.After-in_target-carried) where
   abbrev frame_3 : List ℕ
   frame_3 = frame_at c.args.frames.now (starts_in c.args.state.now) c.args.at.0
 
   abbrev over_3 : (offsets : List ℕ) → Slots
-  over_3 offsets = slots c.args.frames.now (starts_in c.args.state.now) c.args.count (forms_in c.args.state.now) (carry_in c.args.state.now) (owners_in c.args.state.now) offsets
+  over_3 offsets = slots c.args.frames.now (starts_in c.args.state.now) c.args.count (forms_in c.args.state.now)
+      (carry_in c.args.state.now) (owners_in c.args.state.now) offsets
 
   here_3 : InstrIn c.args.at.0 frame_3
   here_3 = instr_here (over_3 []) (c.requires.2 []).0 c.args.at.0 c.requires.0 (c.requires.2 []).1
@@ -70,30 +55,27 @@ module _ (c : goal.After-in_target-carried) where
   beside_3 = frame_at c.args.links.now (starts_in c.args.state.now) c.args.at.0
 
   short_3 : Short frame_3 beside_3
-  short_3 = beside_short c.args.frames.now (starts_in c.args.state.now) c.args.count (c.requires.2 []).0.held c.args.links.now c.requires.1 c.args.at.0 c.requires.0
+  short_3 = beside_short c.args.frames.now (starts_in c.args.state.now) c.args.count (c.requires.2 []).0.held c.args.links.now c.requires.1
+      c.args.at.0 c.requires.0
 
 module _ (c : goal.After-in_arguments) where
   abbrev frame_4 : List ℕ
   frame_4 = frame_at c.args.frames.now (starts_in c.args.state.now) c.args.at.0
 
   abbrev over_4 : (offsets : List ℕ) → Slots
-  over_4 offsets = slots c.args.frames.now (starts_in c.args.state.now) c.args.count (forms_in c.args.state.now) (carry_in c.args.state.now) (owners_in c.args.state.now) offsets
-
-  here_4 : InstrIn c.args.at.0 frame_4
-  here_4 = instr_here (over_4 []) (c.requires.2 []).0 c.args.at.0 c.requires.0 (c.requires.2 []).1
+  over_4 offsets = slots c.args.frames.now (starts_in c.args.state.now) c.args.count (forms_in c.args.state.now)
+      (carry_in c.args.state.now) (owners_in c.args.state.now) offsets
 
   abbrev beside_4 : List ℕ
   beside_4 = frame_at c.args.links.now (starts_in c.args.state.now) c.args.at.0
-
-  short_4 : Short frame_4 beside_4
-  short_4 = beside_short c.args.frames.now (starts_in c.args.state.now) c.args.count (c.requires.2 []).0.held c.args.links.now c.requires.1 c.args.at.0 c.requires.0
 
 module _ (c : goal.Else-is_transfer) where
   abbrev frame_5 : List ℕ
   frame_5 = frame_at c.args.frames.now (starts_in c.args.state.now) c.args.at.0
 
   abbrev over_5 : (offsets : List ℕ) → Slots
-  over_5 offsets = slots c.args.frames.now (starts_in c.args.state.now) c.args.count (forms_in c.args.state.now) (carry_in c.args.state.now) (owners_in c.args.state.now) offsets
+  over_5 offsets = slots c.args.frames.now (starts_in c.args.state.now) c.args.count (forms_in c.args.state.now)
+      (carry_in c.args.state.now) (owners_in c.args.state.now) offsets
 
   here_5 : InstrIn c.args.at.0 frame_5
   here_5 = instr_here (over_5 []) (c.requires.2 []).0 c.args.at.0 c.requires.0 (c.requires.2 []).1
@@ -102,23 +84,19 @@ module _ (c : goal.Else-is_transfer) where
   beside_5 = frame_at c.args.links.now (starts_in c.args.state.now) c.args.at.0
 
   short_5 : Short frame_5 beside_5
-  short_5 = beside_short c.args.frames.now (starts_in c.args.state.now) c.args.count (c.requires.2 []).0.held c.args.links.now c.requires.1 c.args.at.0 c.requires.0
+  short_5 = beside_short c.args.frames.now (starts_in c.args.state.now) c.args.count (c.requires.2 []).0.held c.args.links.now c.requires.1
+      c.args.at.0 c.requires.0
 
 module _ (c : goal.After-in_arguments-2) where
   abbrev frame_6 : List ℕ
   frame_6 = frame_at c.args.frames.now (starts_in c.args.state.now) c.args.at.0
 
   abbrev over_6 : (offsets : List ℕ) → Slots
-  over_6 offsets = slots c.args.frames.now (starts_in c.args.state.now) c.args.count (forms_in c.args.state.now) (carry_in c.args.state.now) (owners_in c.args.state.now) offsets
-
-  here_6 : InstrIn c.args.at.0 frame_6
-  here_6 = instr_here (over_6 []) (c.requires.2 []).0 c.args.at.0 c.requires.0 (c.requires.2 []).1
+  over_6 offsets = slots c.args.frames.now (starts_in c.args.state.now) c.args.count (forms_in c.args.state.now)
+      (carry_in c.args.state.now) (owners_in c.args.state.now) offsets
 
   abbrev beside_6 : List ℕ
   beside_6 = frame_at c.args.links.now (starts_in c.args.state.now) c.args.at.0
-
-  short_6 : Short frame_6 beside_6
-  short_6 = beside_short c.args.frames.now (starts_in c.args.state.now) c.args.count (c.requires.2 []).0.held c.args.links.now c.requires.1 c.args.at.0 c.requires.0
 
 -- the count, as the frame has it, and the sum over the first of its arguments
 module _ (c : goal.After-in_target-carried) where
@@ -128,14 +106,12 @@ module _ (c : goal.After-in_target-carried) where
   few : c.operand_count-own.result ≤ 3
   few = omega (arith, counted, few_operands (get_or (frame_3 c) 1 0))
 
-  abbrev sum : (f : ℕ → Bool) (s : List ℕ) (k : ℕ) → ℕ
-  sum f s k = total (in_operand (mentions f)) (take k (args_of (read_as c.args.at.0 s)))
-
   asked : (k : ℕ) → k ≤ c.operand_count-own.result → InstrIn c.args.at.0 c.frame_at-frame.result.now
       × (k ≤ length (operands_at (get_or c.frame_at-frame.result.now 1 0))) × Short c.frame_at-frame.result.now c.links_at-beside.result.now
       × (c.args.at.0 < 1024) × Noted (starts_in c.args.state.now) c.args.at.0 c.frame_at-frame.result.now
   asked k l =
-      subst₂ (λ (s b : List ℕ). InstrIn c.args.at.0 s × (k ≤ length (operands_at (get_or s 1 0))) × Short s b × (c.args.at.0 < 1024) × Noted (starts_in c.args.state.now) c.args.at.0 s)
+      subst₂ (λ (s b : List ℕ). InstrIn c.args.at.0 s × (k ≤ length (operands_at (get_or s 1 0))) × Short s b × (c.args.at.0 < 1024)
+      × Noted (starts_in c.args.state.now) c.args.at.0 s)
       (sym c.frame_at-frame.ensures) (sym c.links_at-beside.ensures) (
         here_3 c,
         omega (arith, counted),
@@ -143,9 +119,6 @@ module _ (c : goal.After-in_target-carried) where
         omega (arith, c.requires.0, (c.requires.2 []).0.held.few),
         (c.requires.2 []).0.held.noted c.args.at.0 c.requires.0,
       )
-
-  told : (f : ℕ → Bool) → Referred f (frame_3 c) (beside_3 c) c.args.place.0 → Referred f c.frame_at-frame.result.now c.links_at-beside.result.now c.args.place.0
-  told f r = subst₂ (λ (s b : List ℕ). Referred f s b c.args.place.0) (sym c.frame_at-frame.ensures) (sym c.links_at-beside.ensures) r
 
 -- the count, as the frame has it, and the sum over the first of its arguments
 module _ (c : goal.After-in_arguments) where
@@ -158,20 +131,8 @@ module _ (c : goal.After-in_arguments) where
   abbrev sum_2 : (f : ℕ → Bool) (s : List ℕ) (k : ℕ) → ℕ
   sum_2 f s k = total (in_operand (mentions f)) (take k (args_of (read_as c.args.at.0 s)))
 
-  asked_2 : (k : ℕ) → k ≤ c.operand_count-own.result → InstrIn c.args.at.0 c.frame_at-frame.result.now
-      × (k ≤ length (operands_at (get_or c.frame_at-frame.result.now 1 0))) × Short c.frame_at-frame.result.now c.links_at-beside.result.now
-      × (c.args.at.0 < 1024) × Noted (starts_in c.args.state.now) c.args.at.0 c.frame_at-frame.result.now
-  asked_2 k l =
-      subst₂ (λ (s b : List ℕ). InstrIn c.args.at.0 s × (k ≤ length (operands_at (get_or s 1 0))) × Short s b × (c.args.at.0 < 1024) × Noted (starts_in c.args.state.now) c.args.at.0 s)
-      (sym c.frame_at-frame.ensures) (sym c.links_at-beside.ensures) (
-        here_4 c,
-        omega (arith, counted_2),
-        short_4 c,
-        omega (arith, c.requires.0, (c.requires.2 []).0.held.few),
-        (c.requires.2 []).0.held.noted c.args.at.0 c.requires.0,
-      )
-
-  told_2 : (f : ℕ → Bool) → Referred f (frame_4 c) (beside_4 c) c.args.place.0 → Referred f c.frame_at-frame.result.now c.links_at-beside.result.now c.args.place.0
+  told_2 : (f : ℕ → Bool) → Referred f (frame_4 c) (beside_4 c) c.args.place.0 → Referred f c.frame_at-frame.result.now
+      c.links_at-beside.result.now c.args.place.0
   told_2 f r = subst₂ (λ (s b : List ℕ). Referred f s b c.args.place.0) (sym c.frame_at-frame.ensures) (sym c.links_at-beside.ensures) r
 
 -- the count, as the frame has it, and the sum over the first of its arguments
@@ -179,17 +140,12 @@ module _ (c : goal.Else-is_transfer) where
   counted_3 : c.operand_count-own.result ≡ length (operands_at (get_or (frame_5 c) 1 0))
   counted_3 = c.operand_count-own.ensures ∙ ap (λ s. length (operands_at (get_or s 1 0))) c.frame_at-frame.ensures
 
-  few_3 : c.operand_count-own.result ≤ 3
-  few_3 = omega (arith, counted_3, few_operands (get_or (frame_5 c) 1 0))
-
-  abbrev sum_3 : (f : ℕ → Bool) (s : List ℕ) (k : ℕ) → ℕ
-  sum_3 f s k = total (in_operand (mentions f)) (take k (args_of (read_as c.args.at.0 s)))
-
   asked_3 : (k : ℕ) → k ≤ c.operand_count-own.result → InstrIn c.args.at.0 c.frame_at-frame.result.now
       × (k ≤ length (operands_at (get_or c.frame_at-frame.result.now 1 0))) × Short c.frame_at-frame.result.now c.links_at-beside.result.now
       × (c.args.at.0 < 1024) × Noted (starts_in c.args.state.now) c.args.at.0 c.frame_at-frame.result.now
   asked_3 k l =
-      subst₂ (λ (s b : List ℕ). InstrIn c.args.at.0 s × (k ≤ length (operands_at (get_or s 1 0))) × Short s b × (c.args.at.0 < 1024) × Noted (starts_in c.args.state.now) c.args.at.0 s)
+      subst₂ (λ (s b : List ℕ). InstrIn c.args.at.0 s × (k ≤ length (operands_at (get_or s 1 0))) × Short s b × (c.args.at.0 < 1024)
+      × Noted (starts_in c.args.state.now) c.args.at.0 s)
       (sym c.frame_at-frame.ensures) (sym c.links_at-beside.ensures) (
         here_5 c,
         omega (arith, counted_3),
@@ -197,9 +153,6 @@ module _ (c : goal.Else-is_transfer) where
         omega (arith, c.requires.0, (c.requires.2 []).0.held.few),
         (c.requires.2 []).0.held.noted c.args.at.0 c.requires.0,
       )
-
-  told_3 : (f : ℕ → Bool) → Referred f (frame_5 c) (beside_5 c) c.args.place.0 → Referred f c.frame_at-frame.result.now c.links_at-beside.result.now c.args.place.0
-  told_3 f r = subst₂ (λ (s b : List ℕ). Referred f s b c.args.place.0) (sym c.frame_at-frame.ensures) (sym c.links_at-beside.ensures) r
 
 -- the count, as the frame has it, and the sum over the first of its arguments
 module _ (c : goal.After-in_arguments-2) where
@@ -212,20 +165,8 @@ module _ (c : goal.After-in_arguments-2) where
   abbrev sum_4 : (f : ℕ → Bool) (s : List ℕ) (k : ℕ) → ℕ
   sum_4 f s k = total (in_operand (mentions f)) (take k (args_of (read_as c.args.at.0 s)))
 
-  asked_4 : (k : ℕ) → k ≤ c.operand_count-own.result → InstrIn c.args.at.0 c.frame_at-frame.result.now
-      × (k ≤ length (operands_at (get_or c.frame_at-frame.result.now 1 0))) × Short c.frame_at-frame.result.now c.links_at-beside.result.now
-      × (c.args.at.0 < 1024) × Noted (starts_in c.args.state.now) c.args.at.0 c.frame_at-frame.result.now
-  asked_4 k l =
-      subst₂ (λ (s b : List ℕ). InstrIn c.args.at.0 s × (k ≤ length (operands_at (get_or s 1 0))) × Short s b × (c.args.at.0 < 1024) × Noted (starts_in c.args.state.now) c.args.at.0 s)
-      (sym c.frame_at-frame.ensures) (sym c.links_at-beside.ensures) (
-        here_6 c,
-        omega (arith, counted_4),
-        short_6 c,
-        omega (arith, c.requires.0, (c.requires.2 []).0.held.few),
-        (c.requires.2 []).0.held.noted c.args.at.0 c.requires.0,
-      )
-
-  told_4 : (f : ℕ → Bool) → Referred f (frame_6 c) (beside_6 c) c.args.place.0 → Referred f c.frame_at-frame.result.now c.links_at-beside.result.now c.args.place.0
+  told_4 : (f : ℕ → Bool) → Referred f (frame_6 c) (beside_6 c) c.args.place.0 → Referred f c.frame_at-frame.result.now
+      c.links_at-beside.result.now c.args.place.0
   told_4 f r = subst₂ (λ (s b : List ℕ). Referred f s b c.args.place.0) (sym c.frame_at-frame.ensures) (sym c.links_at-beside.ensures) r
 
 -- a transfer, and the place that it carries
@@ -241,16 +182,10 @@ module _ (c : goal.After-in_target-carried) where
   moves_2 : is_transfer (get_or (forms_in c.args.state.now) c.args.at.0 0) ≡ true
   moves_2 = sym (ap is_transfer c.form_in.ensures) ∙ sym c.is_transfer.ensures ∙ c.if-is_transfer.true
 
-  target_2 : TargetIn c.args.frames.now (starts_in c.args.state.now) c.args.count (get_or (carry_in c.args.state.now) c.args.at.0 0)
-  target_2 = carried_target (over_3 c []) (c.requires.2 []).0 c.args.at.0 c.requires.0 (c.requires.2 []).1 moves_2
-
 -- a transfer, and the place that it carries
 module _ (c : goal.After-in_arguments) where
   moves_3 : is_transfer (get_or (forms_in c.args.state.now) c.args.at.0 0) ≡ true
   moves_3 = sym (ap is_transfer c.form_in.ensures) ∙ sym c.is_transfer.ensures ∙ c.if-is_transfer.true
-
-  target_3 : TargetIn c.args.frames.now (starts_in c.args.state.now) c.args.count (get_or (carry_in c.args.state.now) c.args.at.0 0)
-  target_3 = carried_target (over_4 c []) (c.requires.2 []).0 c.args.at.0 c.requires.0 (c.requires.2 []).1 moves_3
 
 -- it has an operand, its target
 some : (c : goal.After-in_target-carried) → 1 ≤ c.operand_count-own.result
@@ -258,7 +193,8 @@ some c =
     omega (
       arith,
       counted c,
-      has_target (get_or (frame_3 c) 1 0) (sym ((c.requires.2 []).0.forms c.args.at.0 c.requires.0 (c.requires.2 []).1).transfer ∙ moves_2 c),
+      has_target (get_or (frame_3 c) 1 0) (sym ((c.requires.2 []).0.forms c.args.at.0 c.requires.0 (c.requires.2 []).1).transfer ∙ moves_2
+          c),
     )
 
 pub frame_at-frame-requires : goal.frame_at-frame-requires
@@ -266,7 +202,8 @@ frame_at-frame-requires c = ((c.requires.2 []).0.held, c.requires.0)
 
 pub links_at-beside-requires : goal.links_at-beside-requires
 links_at-beside-requires c =
-    spans c.args.frames.now (starts_in c.args.state.now) c.args.count (c.requires.2 []).0.held c.args.links.now c.requires.1 c.args.at.0 c.requires.0
+    spans c.args.frames.now (starts_in c.args.state.now) c.args.count (c.requires.2 []).0.held c.args.links.now c.requires.1 c.args.at.0
+    c.requires.0
 
 pub bounds-frame-1 : goal.bounds-frame-1
 bounds-frame-1 c =
@@ -298,9 +235,11 @@ returns-then-is_transfer c =
           ap₂ (λ (a b : ℕ). a + b)
           (c.in_arguments.ensures.by_index f (told_2 c f r.own)
           ∙ ap (λ x. sum_2 c f x (m - 1)) c.frame_at-frame.ensures ∙ ap (λ (j : ℕ). sum_2 c f (frame_4 c) (j - 1)) (counted_2 c))
-          (c.in_target-carried.ensures.by_index f (rw c.carry_at-written.ensures (r.carried (c.requires.2 offsets).1 (moves_3 c))) (forms_in c.args.state.now) (carry_in c.args.state.now) offsets
+          (c.in_target-carried.ensures.by_index f (rw c.carry_at-written.ensures (r.carried (c.requires.2 offsets).1 (moves_3 c)))
+          (forms_in c.args.state.now) (carry_in c.args.state.now) offsets
           ∙ ap (λ (w : ℕ). in_operand (mentions f) (target_of (over_4 c offsets) w)) c.carry_at-written.ensures)
-          ∙ sym (in_aimed (over_4 c offsets) (c.requires.2 offsets).0 c.args.at.0 c.requires.0 (c.requires.2 offsets).1 (mentions f) (moves_3 c));
+          ∙ sym (in_aimed (over_4 c offsets) (c.requires.2 offsets).0 c.args.at.0 c.requires.0 (c.requires.2 offsets).1 (mentions f)
+          (moves_3 c));
     }
 
 pub in_arguments-requires-2 : goal.in_arguments-requires-2
@@ -312,7 +251,8 @@ returns c =
       few = omega (arith, c.in_arguments-2.ensures.few, few_4 c);
       by_index = λ f offsets r.
           c.in_arguments-2.ensures.by_index f (told_4 c f r.own)
-          ∙ ap (λ x. sum_4 c f x c.operand_count-own.result) c.frame_at-frame.ensures ∙ ap (λ (m : ℕ). sum_4 c f (frame_6 c) m) (counted_4 c)
+          ∙ ap (λ x. sum_4 c f x c.operand_count-own.result) c.frame_at-frame.ensures ∙ ap (λ (m : ℕ). sum_4 c f (frame_6 c) m)
+          (counted_4 c)
           ∙ sym
           (in_own (over_6 c offsets) (c.requires.2 offsets).0 c.args.at.0 c.requires.0 (c.requires.2 offsets).1 (mentions f)
           (sym (ap is_transfer c.form_in.ensures) ∙ sym c.is_transfer.ensures ∙ c.if-is_transfer.false));

@@ -13,16 +13,25 @@ use Rattle.patterns.proofs.Mentions.{data_in}
 use Rattle.patterns.proofs.counting.in_item.Goals as goal
 
 item : (c : goal.After-item_in) (i : ℕ) → DataIn i c.args.frame.now
-    → Reads (drop (item_at c.args.frame.now 2 c.args.j) c.args.frame.now) (get_or (items_of (read_as i c.args.frame.now)) c.args.j (num (pos 0)))
+    → Reads (drop (item_at c.args.frame.now 2 c.args.j) c.args.frame.now) (get_or (items_of (read_as i c.args.frame.now)) c.args.j
+    (num (pos 0)))
 item c i d = (data_in i c.args.frame.now d).items.each c.args.j c.requires.1
 
 item_2 : (c : goal.After-in_part) (i : ℕ) → DataIn i c.args.frame.now
-    → Reads (drop (item_at c.args.frame.now 2 c.args.j) c.args.frame.now) (get_or (items_of (read_as i c.args.frame.now)) c.args.j (num (pos 0)))
+    → Reads (drop (item_at c.args.frame.now 2 c.args.j) c.args.frame.now) (get_or (items_of (read_as i c.args.frame.now)) c.args.j
+    (num (pos 0)))
 item_2 c i d = (data_in i c.args.frame.now d).items.each c.args.j c.requires.1
 
 pub in_part-requires : goal.in_part-requires
-in_part-requires c =
-    (omega (arith, c.item_in.ensures, reads_inside c.args.frame.now (item_at c.args.frame.now 2 c.args.j) _ (item c c.requires.0.0 c.requires.0.1)), c.requires.2)
+in_part-requires c = (
+  omega (
+    arith,
+    c.item_in.ensures,
+    reads_inside c.args.frame.now (item_at c.args.frame.now 2 c.args.j) _
+        (item c c.requires.0.0 c.requires.0.1),
+  ),
+  c.requires.2,
+)
 
 pub returns : goal.returns
 returns c =

@@ -30,7 +30,13 @@ loop-j-preserved c =
       λ i d f r.
           let es = items_of (read_as i c.args.frame.now) in
           let inside : l.j < length es = omega (arith, (data_in i c.args.frame.now d).items.count, c.requires.1) in
-          omega (arith, l.invariant.2 i d f r, c.in_item-found.ensures.by_index i d f r, total_more (mentions f) es l.j (num (pos 0)) inside),
+          omega (
+            arith,
+            l.invariant.2 i d f r,
+            c.in_item-found.ensures.by_index i d f r,
+            total_more (mentions f) es l.j (num (pos 0))
+                inside,
+          ),
     )
 
 pub returns : goal.returns
@@ -41,5 +47,6 @@ returns c =
           let h = data_in i c.args.frame.now d in
           let es = items_of (read_as i c.args.frame.now) in
           let e : l.j ≡ length es = omega (arith, h.items.count, c.requires.1) in
-          l.invariant.2 i d f r ∙ ap (λ (k : ℕ). total (mentions f) (take k es)) e ∙ ap (total (mentions f)) (take-length es) ∙ sym (h.over (mentions f));
+          l.invariant.2 i d f r ∙ ap (λ (k : ℕ). total (mentions f) (take k es)) e ∙ ap (total (mentions f)) (take-length es)
+          ∙ sym (h.over (mentions f));
     }

@@ -34,44 +34,11 @@ module _ (c : goal.In-Form) where
       slots c.args.frames.now (starts_in c.args.state.now) c.args.count (forms_in c.args.state.now)
       (carry_in c.args.state.now) (owners_in c.args.state.now) offsets
 
-  abbrev frame : List ℕ
-  frame = frame_at c.args.frames.now (starts_in c.args.state.now) place
-
-  abbrev beside : List ℕ
-  beside = frame_at c.args.links.now (starts_in c.args.state.now) place
-
-  short : Short frame beside
-  short =
-      beside_short c.args.frames.now (starts_in c.args.state.now) c.args.count (c.requires.2 []).held c.args.links.now
-      c.requires.1 place c.requires.0
-
   stands : (offsets : List ℕ) → Stands (over offsets) place c.slot_at.result
   stands offsets = c.slot_at.ensures (carry_in c.args.state.now) (owners_in c.args.state.now) offsets
 
   kind : (x : Statement) → c.slot_at.result ≡ Holds x → (offsets : List ℕ) → kind_of (slot_at (over offsets) place) ≡ kind_for x
   kind x e offsets = kind_stands (over offsets) place c.slot_at.result (stands offsets) x e
-
-  -- a variable: its value stands behind its name
-  value_frame : (n : ℕ) (a : Arg) (e : c.slot_at.result ≡ Holds (Variable n a)) → VariableFrame frame (written (over []) place)
-  value_frame n a e = written_frame (over []) (c.requires.2 []).held place c.requires.0 2 (kind (Variable n a) e [])
-
-  value_at : (n : ℕ) (a : Arg) (e : c.slot_at.result ≡ Holds (Variable n a)) → a.0 ≡ 3
-  value_at n a e = ap (λ (b : Arg). b.0) (variable_says (over []) (c.requires.2 []).held place c.requires.0 c.slot_at.result (stands []) n a e).1
-
-  over_value : (n : ℕ) (a : Arg) (e : c.slot_at.result ≡ Holds (Variable n a)) (f : ℕ → Bool) (offsets : List ℕ)
-      → over_exprs (mentions f) (slot_at (over offsets) place) ≡ mentions f (value_frame n a e).e
-  over_value n a e f offsets = ap (over_exprs (mentions f)) (slot_data (over offsets) place 1 (kind (Variable n a) e offsets) ∙ (value_frame n a e).is)
-
-  -- bytes or words: the frame as it was read
-  data_frame : (x : Statement) (e : c.slot_at.result ≡ Holds x) (k : ℕ) (n : kind_for x ≡ suc (suc (4 + k))) (m : k ≤ 1) → DataIn place frame
-  data_frame x e k n m =
-      let first = first_is (over []) (c.requires.2 []).held place c.requires.0 (suc (4 + k)) (kind x e [] ∙ n) in
-      record { reads = (c.requires.2 []).held.reads place c.requires.0; kind = omega arith; no_pad = omega arith }
-
-  over_data : (x : Statement) (e : c.slot_at.result ≡ Holds x) (k : ℕ) (n : kind_for x ≡ suc (suc (4 + k))) (m : k ≤ 1) (f : ℕ → Bool) (offsets : List ℕ)
-      → over_exprs (mentions f) (slot_at (over offsets) place) ≡ over_exprs (mentions f) (read_as place frame)
-  unfolding input_at
-  over_data x e k n m f offsets = ap (over_exprs (mentions f)) (slot_data (over offsets) place (4 + k) (kind x e offsets ∙ n))
 
 -- behind the slot
 module _ (c : goal.In-Variable) where
@@ -105,22 +72,8 @@ module _ (c : goal.In-Variable) where
   value_frame_2 n a e = written_frame (over_2 []) (c.requires.2 []).held place_2 c.requires.0 2 (kind_2 (Variable n a) e [])
 
   value_at_2 : (n : ℕ) (a : Arg) (e : c.slot_at.result ≡ Holds (Variable n a)) → a.0 ≡ 3
-  value_at_2 n a e = ap (λ (b : Arg). b.0) (variable_says (over_2 []) (c.requires.2 []).held place_2 c.requires.0 c.slot_at.result (stands_2 []) n a e).1
-
-  over_value_2 : (n : ℕ) (a : Arg) (e : c.slot_at.result ≡ Holds (Variable n a)) (f : ℕ → Bool) (offsets : List ℕ)
-      → over_exprs (mentions f) (slot_at (over_2 offsets) place_2) ≡ mentions f (value_frame_2 n a e).e
-  over_value_2 n a e f offsets = ap (over_exprs (mentions f)) (slot_data (over_2 offsets) place_2 1 (kind_2 (Variable n a) e offsets) ∙ (value_frame_2 n a e).is)
-
-  -- bytes or words: the frame as it was read
-  data_frame_2 : (x : Statement) (e : c.slot_at.result ≡ Holds x) (k : ℕ) (n : kind_for x ≡ suc (suc (4 + k))) (m : k ≤ 1) → DataIn place_2 frame_2
-  data_frame_2 x e k n m =
-      let first = first_is (over_2 []) (c.requires.2 []).held place_2 c.requires.0 (suc (4 + k)) (kind_2 x e [] ∙ n) in
-      record { reads = (c.requires.2 []).held.reads place_2 c.requires.0; kind = omega arith; no_pad = omega arith }
-
-  over_data_2 : (x : Statement) (e : c.slot_at.result ≡ Holds x) (k : ℕ) (n : kind_for x ≡ suc (suc (4 + k))) (m : k ≤ 1) (f : ℕ → Bool) (offsets : List ℕ)
-      → over_exprs (mentions f) (slot_at (over_2 offsets) place_2) ≡ over_exprs (mentions f) (read_as place_2 frame_2)
-  unfolding input_at
-  over_data_2 x e k n m f offsets = ap (over_exprs (mentions f)) (slot_data (over_2 offsets) place_2 (4 + k) (kind_2 x e offsets ∙ n))
+  value_at_2 n a e = ap (λ (b : Arg). b.0) (variable_says (over_2 []) (c.requires.2 []).held place_2 c.requires.0 c.slot_at.result
+      (stands_2 []) n a e).1
 
 -- behind the slot
 module _ (c : goal.In-Bytes) where
@@ -149,27 +102,12 @@ module _ (c : goal.In-Bytes) where
   kind_3 : (x : Statement) → c.slot_at.result ≡ Holds x → (offsets : List ℕ) → kind_of (slot_at (over_3 offsets) place_3) ≡ kind_for x
   kind_3 x e offsets = kind_stands (over_3 offsets) place_3 c.slot_at.result (stands_3 offsets) x e
 
-  -- a variable: its value stands behind its name
-  value_frame_3 : (n : ℕ) (a : Arg) (e : c.slot_at.result ≡ Holds (Variable n a)) → VariableFrame frame_3 (written (over_3 []) place_3)
-  value_frame_3 n a e = written_frame (over_3 []) (c.requires.2 []).held place_3 c.requires.0 2 (kind_3 (Variable n a) e [])
-
-  value_at_3 : (n : ℕ) (a : Arg) (e : c.slot_at.result ≡ Holds (Variable n a)) → a.0 ≡ 3
-  value_at_3 n a e = ap (λ (b : Arg). b.0) (variable_says (over_3 []) (c.requires.2 []).held place_3 c.requires.0 c.slot_at.result (stands_3 []) n a e).1
-
-  over_value_3 : (n : ℕ) (a : Arg) (e : c.slot_at.result ≡ Holds (Variable n a)) (f : ℕ → Bool) (offsets : List ℕ)
-      → over_exprs (mentions f) (slot_at (over_3 offsets) place_3) ≡ mentions f (value_frame_3 n a e).e
-  over_value_3 n a e f offsets = ap (over_exprs (mentions f)) (slot_data (over_3 offsets) place_3 1 (kind_3 (Variable n a) e offsets) ∙ (value_frame_3 n a e).is)
-
   -- bytes or words: the frame as it was read
-  data_frame_3 : (x : Statement) (e : c.slot_at.result ≡ Holds x) (k : ℕ) (n : kind_for x ≡ suc (suc (4 + k))) (m : k ≤ 1) → DataIn place_3 frame_3
+  data_frame_3 : (x : Statement) (e : c.slot_at.result ≡ Holds x) (k : ℕ) (n : kind_for x ≡ suc (suc (4 + k))) (m : k ≤ 1) → DataIn place_3
+      frame_3
   data_frame_3 x e k n m =
       let first = first_is (over_3 []) (c.requires.2 []).held place_3 c.requires.0 (suc (4 + k)) (kind_3 x e [] ∙ n) in
       record { reads = (c.requires.2 []).held.reads place_3 c.requires.0; kind = omega arith; no_pad = omega arith }
-
-  over_data_3 : (x : Statement) (e : c.slot_at.result ≡ Holds x) (k : ℕ) (n : kind_for x ≡ suc (suc (4 + k))) (m : k ≤ 1) (f : ℕ → Bool) (offsets : List ℕ)
-      → over_exprs (mentions f) (slot_at (over_3 offsets) place_3) ≡ over_exprs (mentions f) (read_as place_3 frame_3)
-  unfolding input_at
-  over_data_3 x e k n m f offsets = ap (over_exprs (mentions f)) (slot_data (over_3 offsets) place_3 (4 + k) (kind_3 x e offsets ∙ n))
 
 -- behind the slot
 module _ (c : goal.In-Words) where
@@ -198,27 +136,12 @@ module _ (c : goal.In-Words) where
   kind_4 : (x : Statement) → c.slot_at.result ≡ Holds x → (offsets : List ℕ) → kind_of (slot_at (over_4 offsets) place_4) ≡ kind_for x
   kind_4 x e offsets = kind_stands (over_4 offsets) place_4 c.slot_at.result (stands_4 offsets) x e
 
-  -- a variable: its value stands behind its name
-  value_frame_4 : (n : ℕ) (a : Arg) (e : c.slot_at.result ≡ Holds (Variable n a)) → VariableFrame frame_4 (written (over_4 []) place_4)
-  value_frame_4 n a e = written_frame (over_4 []) (c.requires.2 []).held place_4 c.requires.0 2 (kind_4 (Variable n a) e [])
-
-  value_at_4 : (n : ℕ) (a : Arg) (e : c.slot_at.result ≡ Holds (Variable n a)) → a.0 ≡ 3
-  value_at_4 n a e = ap (λ (b : Arg). b.0) (variable_says (over_4 []) (c.requires.2 []).held place_4 c.requires.0 c.slot_at.result (stands_4 []) n a e).1
-
-  over_value_4 : (n : ℕ) (a : Arg) (e : c.slot_at.result ≡ Holds (Variable n a)) (f : ℕ → Bool) (offsets : List ℕ)
-      → over_exprs (mentions f) (slot_at (over_4 offsets) place_4) ≡ mentions f (value_frame_4 n a e).e
-  over_value_4 n a e f offsets = ap (over_exprs (mentions f)) (slot_data (over_4 offsets) place_4 1 (kind_4 (Variable n a) e offsets) ∙ (value_frame_4 n a e).is)
-
   -- bytes or words: the frame as it was read
-  data_frame_4 : (x : Statement) (e : c.slot_at.result ≡ Holds x) (k : ℕ) (n : kind_for x ≡ suc (suc (4 + k))) (m : k ≤ 1) → DataIn place_4 frame_4
+  data_frame_4 : (x : Statement) (e : c.slot_at.result ≡ Holds x) (k : ℕ) (n : kind_for x ≡ suc (suc (4 + k))) (m : k ≤ 1) → DataIn place_4
+      frame_4
   data_frame_4 x e k n m =
       let first = first_is (over_4 []) (c.requires.2 []).held place_4 c.requires.0 (suc (4 + k)) (kind_4 x e [] ∙ n) in
       record { reads = (c.requires.2 []).held.reads place_4 c.requires.0; kind = omega arith; no_pad = omega arith }
-
-  over_data_4 : (x : Statement) (e : c.slot_at.result ≡ Holds x) (k : ℕ) (n : kind_for x ≡ suc (suc (4 + k))) (m : k ≤ 1) (f : ℕ → Bool) (offsets : List ℕ)
-      → over_exprs (mentions f) (slot_at (over_4 offsets) place_4) ≡ over_exprs (mentions f) (read_as place_4 frame_4)
-  unfolding input_at
-  over_data_4 x e k n m f offsets = ap (over_exprs (mentions f)) (slot_data (over_4 offsets) place_4 (4 + k) (kind_4 x e offsets ∙ n))
 
 -- behind the slot
 module _ (c : goal.After-in_part) where
@@ -236,11 +159,6 @@ module _ (c : goal.After-in_part) where
   abbrev beside_5 : List ℕ
   beside_5 = frame_at c.args.links.now (starts_in c.args.state.now) place_5
 
-  short_5 : Short frame_5 beside_5
-  short_5 =
-      beside_short c.args.frames.now (starts_in c.args.state.now) c.args.count (c.requires.2 []).held c.args.links.now
-      c.requires.1 place_5 c.requires.0
-
   stands_5 : (offsets : List ℕ) → Stands (over_5 offsets) place_5 c.slot_at.result
   stands_5 offsets = c.slot_at.ensures (carry_in c.args.state.now) (owners_in c.args.state.now) offsets
 
@@ -252,22 +170,13 @@ module _ (c : goal.After-in_part) where
   value_frame_5 n a e = written_frame (over_5 []) (c.requires.2 []).held place_5 c.requires.0 2 (kind_5 (Variable n a) e [])
 
   value_at_5 : (n : ℕ) (a : Arg) (e : c.slot_at.result ≡ Holds (Variable n a)) → a.0 ≡ 3
-  value_at_5 n a e = ap (λ (b : Arg). b.0) (variable_says (over_5 []) (c.requires.2 []).held place_5 c.requires.0 c.slot_at.result (stands_5 []) n a e).1
+  value_at_5 n a e = ap (λ (b : Arg). b.0) (variable_says (over_5 []) (c.requires.2 []).held place_5 c.requires.0 c.slot_at.result
+      (stands_5 []) n a e).1
 
   over_value_5 : (n : ℕ) (a : Arg) (e : c.slot_at.result ≡ Holds (Variable n a)) (f : ℕ → Bool) (offsets : List ℕ)
       → over_exprs (mentions f) (slot_at (over_5 offsets) place_5) ≡ mentions f (value_frame_5 n a e).e
-  over_value_5 n a e f offsets = ap (over_exprs (mentions f)) (slot_data (over_5 offsets) place_5 1 (kind_5 (Variable n a) e offsets) ∙ (value_frame_5 n a e).is)
-
-  -- bytes or words: the frame as it was read
-  data_frame_5 : (x : Statement) (e : c.slot_at.result ≡ Holds x) (k : ℕ) (n : kind_for x ≡ suc (suc (4 + k))) (m : k ≤ 1) → DataIn place_5 frame_5
-  data_frame_5 x e k n m =
-      let first = first_is (over_5 []) (c.requires.2 []).held place_5 c.requires.0 (suc (4 + k)) (kind_5 x e [] ∙ n) in
-      record { reads = (c.requires.2 []).held.reads place_5 c.requires.0; kind = omega arith; no_pad = omega arith }
-
-  over_data_5 : (x : Statement) (e : c.slot_at.result ≡ Holds x) (k : ℕ) (n : kind_for x ≡ suc (suc (4 + k))) (m : k ≤ 1) (f : ℕ → Bool) (offsets : List ℕ)
-      → over_exprs (mentions f) (slot_at (over_5 offsets) place_5) ≡ over_exprs (mentions f) (read_as place_5 frame_5)
-  unfolding input_at
-  over_data_5 x e k n m f offsets = ap (over_exprs (mentions f)) (slot_data (over_5 offsets) place_5 (4 + k) (kind_5 x e offsets ∙ n))
+  over_value_5 n a e f offsets = ap (over_exprs (mentions f)) (slot_data (over_5 offsets) place_5 1 (kind_5 (Variable n a) e offsets)
+      ∙ (value_frame_5 n a e).is)
 
 -- behind the slot
 module _ (c : goal.After-in_items) where
@@ -285,35 +194,21 @@ module _ (c : goal.After-in_items) where
   abbrev beside_6 : List ℕ
   beside_6 = frame_at c.args.links.now (starts_in c.args.state.now) place_6
 
-  short_6 : Short frame_6 beside_6
-  short_6 =
-      beside_short c.args.frames.now (starts_in c.args.state.now) c.args.count (c.requires.2 []).held c.args.links.now
-      c.requires.1 place_6 c.requires.0
-
   stands_6 : (offsets : List ℕ) → Stands (over_6 offsets) place_6 c.slot_at.result
   stands_6 offsets = c.slot_at.ensures (carry_in c.args.state.now) (owners_in c.args.state.now) offsets
 
   kind_6 : (x : Statement) → c.slot_at.result ≡ Holds x → (offsets : List ℕ) → kind_of (slot_at (over_6 offsets) place_6) ≡ kind_for x
   kind_6 x e offsets = kind_stands (over_6 offsets) place_6 c.slot_at.result (stands_6 offsets) x e
 
-  -- a variable: its value stands behind its name
-  value_frame_6 : (n : ℕ) (a : Arg) (e : c.slot_at.result ≡ Holds (Variable n a)) → VariableFrame frame_6 (written (over_6 []) place_6)
-  value_frame_6 n a e = written_frame (over_6 []) (c.requires.2 []).held place_6 c.requires.0 2 (kind_6 (Variable n a) e [])
-
-  value_at_6 : (n : ℕ) (a : Arg) (e : c.slot_at.result ≡ Holds (Variable n a)) → a.0 ≡ 3
-  value_at_6 n a e = ap (λ (b : Arg). b.0) (variable_says (over_6 []) (c.requires.2 []).held place_6 c.requires.0 c.slot_at.result (stands_6 []) n a e).1
-
-  over_value_6 : (n : ℕ) (a : Arg) (e : c.slot_at.result ≡ Holds (Variable n a)) (f : ℕ → Bool) (offsets : List ℕ)
-      → over_exprs (mentions f) (slot_at (over_6 offsets) place_6) ≡ mentions f (value_frame_6 n a e).e
-  over_value_6 n a e f offsets = ap (over_exprs (mentions f)) (slot_data (over_6 offsets) place_6 1 (kind_6 (Variable n a) e offsets) ∙ (value_frame_6 n a e).is)
-
   -- bytes or words: the frame as it was read
-  data_frame_6 : (x : Statement) (e : c.slot_at.result ≡ Holds x) (k : ℕ) (n : kind_for x ≡ suc (suc (4 + k))) (m : k ≤ 1) → DataIn place_6 frame_6
+  data_frame_6 : (x : Statement) (e : c.slot_at.result ≡ Holds x) (k : ℕ) (n : kind_for x ≡ suc (suc (4 + k))) (m : k ≤ 1) → DataIn place_6
+      frame_6
   data_frame_6 x e k n m =
       let first = first_is (over_6 []) (c.requires.2 []).held place_6 c.requires.0 (suc (4 + k)) (kind_6 x e [] ∙ n) in
       record { reads = (c.requires.2 []).held.reads place_6 c.requires.0; kind = omega arith; no_pad = omega arith }
 
-  over_data_6 : (x : Statement) (e : c.slot_at.result ≡ Holds x) (k : ℕ) (n : kind_for x ≡ suc (suc (4 + k))) (m : k ≤ 1) (f : ℕ → Bool) (offsets : List ℕ)
+  over_data_6 : (x : Statement) (e : c.slot_at.result ≡ Holds x) (k : ℕ) (n : kind_for x ≡ suc (suc (4 + k))) (m : k ≤ 1) (f : ℕ → Bool)
+      (offsets : List ℕ)
       → over_exprs (mentions f) (slot_at (over_6 offsets) place_6) ≡ over_exprs (mentions f) (read_as place_6 frame_6)
   unfolding input_at
   over_data_6 x e k n m f offsets = ap (over_exprs (mentions f)) (slot_data (over_6 offsets) place_6 (4 + k) (kind_6 x e offsets ∙ n))
@@ -334,35 +229,21 @@ module _ (c : goal.After-in_items-in-Words) where
   abbrev beside_7 : List ℕ
   beside_7 = frame_at c.args.links.now (starts_in c.args.state.now) place_7
 
-  short_7 : Short frame_7 beside_7
-  short_7 =
-      beside_short c.args.frames.now (starts_in c.args.state.now) c.args.count (c.requires.2 []).held c.args.links.now
-      c.requires.1 place_7 c.requires.0
-
   stands_7 : (offsets : List ℕ) → Stands (over_7 offsets) place_7 c.slot_at.result
   stands_7 offsets = c.slot_at.ensures (carry_in c.args.state.now) (owners_in c.args.state.now) offsets
 
   kind_7 : (x : Statement) → c.slot_at.result ≡ Holds x → (offsets : List ℕ) → kind_of (slot_at (over_7 offsets) place_7) ≡ kind_for x
   kind_7 x e offsets = kind_stands (over_7 offsets) place_7 c.slot_at.result (stands_7 offsets) x e
 
-  -- a variable: its value stands behind its name
-  value_frame_7 : (n : ℕ) (a : Arg) (e : c.slot_at.result ≡ Holds (Variable n a)) → VariableFrame frame_7 (written (over_7 []) place_7)
-  value_frame_7 n a e = written_frame (over_7 []) (c.requires.2 []).held place_7 c.requires.0 2 (kind_7 (Variable n a) e [])
-
-  value_at_7 : (n : ℕ) (a : Arg) (e : c.slot_at.result ≡ Holds (Variable n a)) → a.0 ≡ 3
-  value_at_7 n a e = ap (λ (b : Arg). b.0) (variable_says (over_7 []) (c.requires.2 []).held place_7 c.requires.0 c.slot_at.result (stands_7 []) n a e).1
-
-  over_value_7 : (n : ℕ) (a : Arg) (e : c.slot_at.result ≡ Holds (Variable n a)) (f : ℕ → Bool) (offsets : List ℕ)
-      → over_exprs (mentions f) (slot_at (over_7 offsets) place_7) ≡ mentions f (value_frame_7 n a e).e
-  over_value_7 n a e f offsets = ap (over_exprs (mentions f)) (slot_data (over_7 offsets) place_7 1 (kind_7 (Variable n a) e offsets) ∙ (value_frame_7 n a e).is)
-
   -- bytes or words: the frame as it was read
-  data_frame_7 : (x : Statement) (e : c.slot_at.result ≡ Holds x) (k : ℕ) (n : kind_for x ≡ suc (suc (4 + k))) (m : k ≤ 1) → DataIn place_7 frame_7
+  data_frame_7 : (x : Statement) (e : c.slot_at.result ≡ Holds x) (k : ℕ) (n : kind_for x ≡ suc (suc (4 + k))) (m : k ≤ 1) → DataIn place_7
+      frame_7
   data_frame_7 x e k n m =
       let first = first_is (over_7 []) (c.requires.2 []).held place_7 c.requires.0 (suc (4 + k)) (kind_7 x e [] ∙ n) in
       record { reads = (c.requires.2 []).held.reads place_7 c.requires.0; kind = omega arith; no_pad = omega arith }
 
-  over_data_7 : (x : Statement) (e : c.slot_at.result ≡ Holds x) (k : ℕ) (n : kind_for x ≡ suc (suc (4 + k))) (m : k ≤ 1) (f : ℕ → Bool) (offsets : List ℕ)
+  over_data_7 : (x : Statement) (e : c.slot_at.result ≡ Holds x) (k : ℕ) (n : kind_for x ≡ suc (suc (4 + k))) (m : k ≤ 1) (f : ℕ → Bool)
+      (offsets : List ℕ)
       → over_exprs (mentions f) (slot_at (over_7 offsets) place_7) ≡ over_exprs (mentions f) (read_as place_7 frame_7)
   unfolding input_at
   over_data_7 x e k n m f offsets = ap (over_exprs (mentions f)) (slot_data (over_7 offsets) place_7 (4 + k) (kind_7 x e offsets ∙ n))
@@ -378,44 +259,15 @@ module _ (c : goal.In-Variable) where
   asked : (P : (s b : List ℕ) → Type 0) → P (frame_2 c) (beside_2 c) → P c.frame_at-frame.result.now c.links_at-beside.result.now
   asked P h = subst₂ P (sym c.frame_at-frame.ensures) (sym c.links_at-beside.ensures) h
 
-  told : (f : ℕ → Bool) → Referred f (frame_2 c) (beside_2 c) c.args.place.0
-      → Referred f c.frame_at-frame.result.now c.links_at-beside.result.now c.args.place.0
-  told f r = asked (λ s b. Referred f s b c.args.place.0) r
-
   -- a variable: what is asked of the frame, and what its value holds
   is : (n : ℕ) (a : Arg) (e : it ≡ Variable n a) → c.slot_at.result ≡ Holds (Variable n a)
   is n a e = holds ∙ ap Holds e
 
-  value_asked : (n : ℕ) (a : Arg) (e : it ≡ Variable n a) → (a.0 ≤ length c.frame_at-frame.result.now) × Short c.frame_at-frame.result.now c.links_at-beside.result.now
+  value_asked : (n : ℕ) (a : Arg) (e : it ≡ Variable n a) → (a.0 ≤ length c.frame_at-frame.result.now) × Short c.frame_at-frame.result.now
+      c.links_at-beside.result.now
   value_asked n a e =
       let inside : a.0 ≤ length (frame_2 c) = omega (arith, value_at_2 c n a (is n a e), (value_frame_2 c n a (is n a e)).long) in
       asked (λ s b. (a.0 ≤ length s) × Short s b) (inside, short_2 c)
-
-  value_over : (n : ℕ) (a : Arg) (e : it ≡ Variable n a) (r : ℕ) (f : ℕ → Bool) (offsets : List ℕ)
-      → ((d : Expr) (k : ℕ) → read_expr (drop a.0 c.frame_at-frame.result.now) ≡ got d k → r ≡ mentions f d)
-      → r ≡ over_exprs (mentions f) (slot_at (over_2 c offsets) (place_2 c))
-  value_over n a e r f offsets g =
-      let v = value_frame_2 c n a (is n a e) in
-      let reads = ap (λ m. read_expr (drop m (frame_2 c))) (value_at_2 c n a (is n a e)) ∙ v.reads.reads in
-      g v.e v.reads.width (asked (λ s b. read_expr (drop a.0 s) ≡ got v.e v.reads.width) reads) ∙ sym (over_value_2 c n a (is n a e) f offsets)
-
-  -- data of either kind: what is asked of the frame, and what its items hold
-  holds_data : (x : Statement) (e : it ≡ x) (k : ℕ) (n : kind_for x ≡ suc (suc (4 + k))) (m : k ≤ 1) → DataIn (place_2 c) (frame_2 c)
-  holds_data x e k n m = data_frame_2 c x (holds ∙ ap Holds e) k n m
-
-  items_asked : (x : Statement) (e : it ≡ x) (k : ℕ) (n : kind_for x ≡ suc (suc (4 + k))) (m : k ≤ 1) (many : ℕ) → many ≡ get_or (frame_2 c) 1 0
-      → ((i : ℕ) × DataIn i c.frame_at-frame.result.now) × (many ≡ get_or c.frame_at-frame.result.now 1 0)
-      × Short c.frame_at-frame.result.now c.links_at-beside.result.now
-  items_asked x e k n m many q =
-      asked (λ s b. ((i : ℕ) × DataIn i s) × (many ≡ get_or s 1 0) × Short s b) ((place_2 c, holds_data x e k n m), q, short_2 c)
-
-  items_over : (x : Statement) (e : it ≡ x) (k : ℕ) (n : kind_for x ≡ suc (suc (4 + k))) (m : k ≤ 1) (r : ℕ) (f : ℕ → Bool) (offsets : List ℕ)
-      → (DataIn (place_2 c) c.frame_at-frame.result.now → r ≡ over_exprs (mentions f) (read_as (place_2 c) c.frame_at-frame.result.now))
-      → r ≡ over_exprs (mentions f) (slot_at (over_2 c offsets) (place_2 c))
-  items_over x e k n m r f offsets g =
-      g (asked (λ s b. DataIn (place_2 c) s) (holds_data x e k n m))
-      ∙ ap (λ s. over_exprs (mentions f) (read_as (place_2 c) s)) c.frame_at-frame.ensures
-      ∙ sym (over_data_2 c x (holds ∙ ap Holds e) k n m f offsets)
 
 -- the statement, its frame and the links beside it
 module _ (c : goal.In-Bytes) where
@@ -428,44 +280,16 @@ module _ (c : goal.In-Bytes) where
   asked_2 : (P : (s b : List ℕ) → Type 0) → P (frame_3 c) (beside_3 c) → P c.frame_at-frame.result.now c.links_at-beside.result.now
   asked_2 P h = subst₂ P (sym c.frame_at-frame.ensures) (sym c.links_at-beside.ensures) h
 
-  told_2 : (f : ℕ → Bool) → Referred f (frame_3 c) (beside_3 c) c.args.place.0
-      → Referred f c.frame_at-frame.result.now c.links_at-beside.result.now c.args.place.0
-  told_2 f r = asked_2 (λ s b. Referred f s b c.args.place.0) r
-
-  -- a variable: what is asked of the frame, and what its value holds
-  is_2 : (n : ℕ) (a : Arg) (e : it_2 ≡ Variable n a) → c.slot_at.result ≡ Holds (Variable n a)
-  is_2 n a e = holds_2 ∙ ap Holds e
-
-  value_asked_2 : (n : ℕ) (a : Arg) (e : it_2 ≡ Variable n a) → (a.0 ≤ length c.frame_at-frame.result.now) × Short c.frame_at-frame.result.now c.links_at-beside.result.now
-  value_asked_2 n a e =
-      let inside : a.0 ≤ length (frame_3 c) = omega (arith, value_at_3 c n a (is_2 n a e), (value_frame_3 c n a (is_2 n a e)).long) in
-      asked_2 (λ s b. (a.0 ≤ length s) × Short s b) (inside, short_3 c)
-
-  value_over_2 : (n : ℕ) (a : Arg) (e : it_2 ≡ Variable n a) (r : ℕ) (f : ℕ → Bool) (offsets : List ℕ)
-      → ((d : Expr) (k : ℕ) → read_expr (drop a.0 c.frame_at-frame.result.now) ≡ got d k → r ≡ mentions f d)
-      → r ≡ over_exprs (mentions f) (slot_at (over_3 c offsets) (place_3 c))
-  value_over_2 n a e r f offsets g =
-      let v = value_frame_3 c n a (is_2 n a e) in
-      let reads = ap (λ m. read_expr (drop m (frame_3 c))) (value_at_3 c n a (is_2 n a e)) ∙ v.reads.reads in
-      g v.e v.reads.width (asked_2 (λ s b. read_expr (drop a.0 s) ≡ got v.e v.reads.width) reads) ∙ sym (over_value_3 c n a (is_2 n a e) f offsets)
-
   -- data of either kind: what is asked of the frame, and what its items hold
   holds_data_2 : (x : Statement) (e : it_2 ≡ x) (k : ℕ) (n : kind_for x ≡ suc (suc (4 + k))) (m : k ≤ 1) → DataIn (place_3 c) (frame_3 c)
   holds_data_2 x e k n m = data_frame_3 c x (holds_2 ∙ ap Holds e) k n m
 
-  items_asked_2 : (x : Statement) (e : it_2 ≡ x) (k : ℕ) (n : kind_for x ≡ suc (suc (4 + k))) (m : k ≤ 1) (many : ℕ) → many ≡ get_or (frame_3 c) 1 0
+  items_asked_2 : (x : Statement) (e : it_2 ≡ x) (k : ℕ) (n : kind_for x ≡ suc (suc (4 + k))) (m : k ≤ 1) (many : ℕ) → many ≡ get_or
+      (frame_3 c) 1 0
       → ((i : ℕ) × DataIn i c.frame_at-frame.result.now) × (many ≡ get_or c.frame_at-frame.result.now 1 0)
       × Short c.frame_at-frame.result.now c.links_at-beside.result.now
   items_asked_2 x e k n m many q =
       asked_2 (λ s b. ((i : ℕ) × DataIn i s) × (many ≡ get_or s 1 0) × Short s b) ((place_3 c, holds_data_2 x e k n m), q, short_3 c)
-
-  items_over_2 : (x : Statement) (e : it_2 ≡ x) (k : ℕ) (n : kind_for x ≡ suc (suc (4 + k))) (m : k ≤ 1) (r : ℕ) (f : ℕ → Bool) (offsets : List ℕ)
-      → (DataIn (place_3 c) c.frame_at-frame.result.now → r ≡ over_exprs (mentions f) (read_as (place_3 c) c.frame_at-frame.result.now))
-      → r ≡ over_exprs (mentions f) (slot_at (over_3 c offsets) (place_3 c))
-  items_over_2 x e k n m r f offsets g =
-      g (asked_2 (λ s b. DataIn (place_3 c) s) (holds_data_2 x e k n m))
-      ∙ ap (λ s. over_exprs (mentions f) (read_as (place_3 c) s)) c.frame_at-frame.ensures
-      ∙ sym (over_data_3 c x (holds_2 ∙ ap Holds e) k n m f offsets)
 
 -- the statement, its frame and the links beside it
 module _ (c : goal.In-Words) where
@@ -478,44 +302,16 @@ module _ (c : goal.In-Words) where
   asked_3 : (P : (s b : List ℕ) → Type 0) → P (frame_4 c) (beside_4 c) → P c.frame_at-frame.result.now c.links_at-beside.result.now
   asked_3 P h = subst₂ P (sym c.frame_at-frame.ensures) (sym c.links_at-beside.ensures) h
 
-  told_3 : (f : ℕ → Bool) → Referred f (frame_4 c) (beside_4 c) c.args.place.0
-      → Referred f c.frame_at-frame.result.now c.links_at-beside.result.now c.args.place.0
-  told_3 f r = asked_3 (λ s b. Referred f s b c.args.place.0) r
-
-  -- a variable: what is asked of the frame, and what its value holds
-  is_3 : (n : ℕ) (a : Arg) (e : it_3 ≡ Variable n a) → c.slot_at.result ≡ Holds (Variable n a)
-  is_3 n a e = holds_3 ∙ ap Holds e
-
-  value_asked_3 : (n : ℕ) (a : Arg) (e : it_3 ≡ Variable n a) → (a.0 ≤ length c.frame_at-frame.result.now) × Short c.frame_at-frame.result.now c.links_at-beside.result.now
-  value_asked_3 n a e =
-      let inside : a.0 ≤ length (frame_4 c) = omega (arith, value_at_4 c n a (is_3 n a e), (value_frame_4 c n a (is_3 n a e)).long) in
-      asked_3 (λ s b. (a.0 ≤ length s) × Short s b) (inside, short_4 c)
-
-  value_over_3 : (n : ℕ) (a : Arg) (e : it_3 ≡ Variable n a) (r : ℕ) (f : ℕ → Bool) (offsets : List ℕ)
-      → ((d : Expr) (k : ℕ) → read_expr (drop a.0 c.frame_at-frame.result.now) ≡ got d k → r ≡ mentions f d)
-      → r ≡ over_exprs (mentions f) (slot_at (over_4 c offsets) (place_4 c))
-  value_over_3 n a e r f offsets g =
-      let v = value_frame_4 c n a (is_3 n a e) in
-      let reads = ap (λ m. read_expr (drop m (frame_4 c))) (value_at_4 c n a (is_3 n a e)) ∙ v.reads.reads in
-      g v.e v.reads.width (asked_3 (λ s b. read_expr (drop a.0 s) ≡ got v.e v.reads.width) reads) ∙ sym (over_value_4 c n a (is_3 n a e) f offsets)
-
   -- data of either kind: what is asked of the frame, and what its items hold
   holds_data_3 : (x : Statement) (e : it_3 ≡ x) (k : ℕ) (n : kind_for x ≡ suc (suc (4 + k))) (m : k ≤ 1) → DataIn (place_4 c) (frame_4 c)
   holds_data_3 x e k n m = data_frame_4 c x (holds_3 ∙ ap Holds e) k n m
 
-  items_asked_3 : (x : Statement) (e : it_3 ≡ x) (k : ℕ) (n : kind_for x ≡ suc (suc (4 + k))) (m : k ≤ 1) (many : ℕ) → many ≡ get_or (frame_4 c) 1 0
+  items_asked_3 : (x : Statement) (e : it_3 ≡ x) (k : ℕ) (n : kind_for x ≡ suc (suc (4 + k))) (m : k ≤ 1) (many : ℕ) → many ≡ get_or
+      (frame_4 c) 1 0
       → ((i : ℕ) × DataIn i c.frame_at-frame.result.now) × (many ≡ get_or c.frame_at-frame.result.now 1 0)
       × Short c.frame_at-frame.result.now c.links_at-beside.result.now
   items_asked_3 x e k n m many q =
       asked_3 (λ s b. ((i : ℕ) × DataIn i s) × (many ≡ get_or s 1 0) × Short s b) ((place_4 c, holds_data_3 x e k n m), q, short_4 c)
-
-  items_over_3 : (x : Statement) (e : it_3 ≡ x) (k : ℕ) (n : kind_for x ≡ suc (suc (4 + k))) (m : k ≤ 1) (r : ℕ) (f : ℕ → Bool) (offsets : List ℕ)
-      → (DataIn (place_4 c) c.frame_at-frame.result.now → r ≡ over_exprs (mentions f) (read_as (place_4 c) c.frame_at-frame.result.now))
-      → r ≡ over_exprs (mentions f) (slot_at (over_4 c offsets) (place_4 c))
-  items_over_3 x e k n m r f offsets g =
-      g (asked_3 (λ s b. DataIn (place_4 c) s) (holds_data_3 x e k n m))
-      ∙ ap (λ s. over_exprs (mentions f) (read_as (place_4 c) s)) c.frame_at-frame.ensures
-      ∙ sym (over_data_4 c x (holds_3 ∙ ap Holds e) k n m f offsets)
 
 -- the statement, its frame and the links beside it
 module _ (c : goal.After-in_part) where
@@ -536,36 +332,14 @@ module _ (c : goal.After-in_part) where
   is_4 : (n : ℕ) (a : Arg) (e : it_4 ≡ Variable n a) → c.slot_at.result ≡ Holds (Variable n a)
   is_4 n a e = holds_4 ∙ ap Holds e
 
-  value_asked_4 : (n : ℕ) (a : Arg) (e : it_4 ≡ Variable n a) → (a.0 ≤ length c.frame_at-frame.result.now) × Short c.frame_at-frame.result.now c.links_at-beside.result.now
-  value_asked_4 n a e =
-      let inside : a.0 ≤ length (frame_5 c) = omega (arith, value_at_5 c n a (is_4 n a e), (value_frame_5 c n a (is_4 n a e)).long) in
-      asked_4 (λ s b. (a.0 ≤ length s) × Short s b) (inside, short_5 c)
-
   value_over_4 : (n : ℕ) (a : Arg) (e : it_4 ≡ Variable n a) (r : ℕ) (f : ℕ → Bool) (offsets : List ℕ)
       → ((d : Expr) (k : ℕ) → read_expr (drop a.0 c.frame_at-frame.result.now) ≡ got d k → r ≡ mentions f d)
       → r ≡ over_exprs (mentions f) (slot_at (over_5 c offsets) (place_5 c))
   value_over_4 n a e r f offsets g =
       let v = value_frame_5 c n a (is_4 n a e) in
       let reads = ap (λ m. read_expr (drop m (frame_5 c))) (value_at_5 c n a (is_4 n a e)) ∙ v.reads.reads in
-      g v.e v.reads.width (asked_4 (λ s b. read_expr (drop a.0 s) ≡ got v.e v.reads.width) reads) ∙ sym (over_value_5 c n a (is_4 n a e) f offsets)
-
-  -- data of either kind: what is asked of the frame, and what its items hold
-  holds_data_4 : (x : Statement) (e : it_4 ≡ x) (k : ℕ) (n : kind_for x ≡ suc (suc (4 + k))) (m : k ≤ 1) → DataIn (place_5 c) (frame_5 c)
-  holds_data_4 x e k n m = data_frame_5 c x (holds_4 ∙ ap Holds e) k n m
-
-  items_asked_4 : (x : Statement) (e : it_4 ≡ x) (k : ℕ) (n : kind_for x ≡ suc (suc (4 + k))) (m : k ≤ 1) (many : ℕ) → many ≡ get_or (frame_5 c) 1 0
-      → ((i : ℕ) × DataIn i c.frame_at-frame.result.now) × (many ≡ get_or c.frame_at-frame.result.now 1 0)
-      × Short c.frame_at-frame.result.now c.links_at-beside.result.now
-  items_asked_4 x e k n m many q =
-      asked_4 (λ s b. ((i : ℕ) × DataIn i s) × (many ≡ get_or s 1 0) × Short s b) ((place_5 c, holds_data_4 x e k n m), q, short_5 c)
-
-  items_over_4 : (x : Statement) (e : it_4 ≡ x) (k : ℕ) (n : kind_for x ≡ suc (suc (4 + k))) (m : k ≤ 1) (r : ℕ) (f : ℕ → Bool) (offsets : List ℕ)
-      → (DataIn (place_5 c) c.frame_at-frame.result.now → r ≡ over_exprs (mentions f) (read_as (place_5 c) c.frame_at-frame.result.now))
-      → r ≡ over_exprs (mentions f) (slot_at (over_5 c offsets) (place_5 c))
-  items_over_4 x e k n m r f offsets g =
-      g (asked_4 (λ s b. DataIn (place_5 c) s) (holds_data_4 x e k n m))
-      ∙ ap (λ s. over_exprs (mentions f) (read_as (place_5 c) s)) c.frame_at-frame.ensures
-      ∙ sym (over_data_5 c x (holds_4 ∙ ap Holds e) k n m f offsets)
+      g v.e v.reads.width (asked_4 (λ s b. read_expr (drop a.0 s) ≡ got v.e v.reads.width) reads)
+      ∙ sym (over_value_5 c n a (is_4 n a e) f offsets)
 
 -- the statement, its frame and the links beside it
 module _ (c : goal.After-in_items) where
@@ -582,34 +356,12 @@ module _ (c : goal.After-in_items) where
       → Referred f c.frame_at-frame.result.now c.links_at-beside.result.now c.args.place.0
   told_5 f r = asked_5 (λ s b. Referred f s b c.args.place.0) r
 
-  -- a variable: what is asked of the frame, and what its value holds
-  is_5 : (n : ℕ) (a : Arg) (e : it_5 ≡ Variable n a) → c.slot_at.result ≡ Holds (Variable n a)
-  is_5 n a e = holds_5 ∙ ap Holds e
-
-  value_asked_5 : (n : ℕ) (a : Arg) (e : it_5 ≡ Variable n a) → (a.0 ≤ length c.frame_at-frame.result.now) × Short c.frame_at-frame.result.now c.links_at-beside.result.now
-  value_asked_5 n a e =
-      let inside : a.0 ≤ length (frame_6 c) = omega (arith, value_at_6 c n a (is_5 n a e), (value_frame_6 c n a (is_5 n a e)).long) in
-      asked_5 (λ s b. (a.0 ≤ length s) × Short s b) (inside, short_6 c)
-
-  value_over_5 : (n : ℕ) (a : Arg) (e : it_5 ≡ Variable n a) (r : ℕ) (f : ℕ → Bool) (offsets : List ℕ)
-      → ((d : Expr) (k : ℕ) → read_expr (drop a.0 c.frame_at-frame.result.now) ≡ got d k → r ≡ mentions f d)
-      → r ≡ over_exprs (mentions f) (slot_at (over_6 c offsets) (place_6 c))
-  value_over_5 n a e r f offsets g =
-      let v = value_frame_6 c n a (is_5 n a e) in
-      let reads = ap (λ m. read_expr (drop m (frame_6 c))) (value_at_6 c n a (is_5 n a e)) ∙ v.reads.reads in
-      g v.e v.reads.width (asked_5 (λ s b. read_expr (drop a.0 s) ≡ got v.e v.reads.width) reads) ∙ sym (over_value_6 c n a (is_5 n a e) f offsets)
-
   -- data of either kind: what is asked of the frame, and what its items hold
   holds_data_5 : (x : Statement) (e : it_5 ≡ x) (k : ℕ) (n : kind_for x ≡ suc (suc (4 + k))) (m : k ≤ 1) → DataIn (place_6 c) (frame_6 c)
   holds_data_5 x e k n m = data_frame_6 c x (holds_5 ∙ ap Holds e) k n m
 
-  items_asked_5 : (x : Statement) (e : it_5 ≡ x) (k : ℕ) (n : kind_for x ≡ suc (suc (4 + k))) (m : k ≤ 1) (many : ℕ) → many ≡ get_or (frame_6 c) 1 0
-      → ((i : ℕ) × DataIn i c.frame_at-frame.result.now) × (many ≡ get_or c.frame_at-frame.result.now 1 0)
-      × Short c.frame_at-frame.result.now c.links_at-beside.result.now
-  items_asked_5 x e k n m many q =
-      asked_5 (λ s b. ((i : ℕ) × DataIn i s) × (many ≡ get_or s 1 0) × Short s b) ((place_6 c, holds_data_5 x e k n m), q, short_6 c)
-
-  items_over_5 : (x : Statement) (e : it_5 ≡ x) (k : ℕ) (n : kind_for x ≡ suc (suc (4 + k))) (m : k ≤ 1) (r : ℕ) (f : ℕ → Bool) (offsets : List ℕ)
+  items_over_5 : (x : Statement) (e : it_5 ≡ x) (k : ℕ) (n : kind_for x ≡ suc (suc (4 + k))) (m : k ≤ 1) (r : ℕ) (f : ℕ → Bool)
+      (offsets : List ℕ)
       → (DataIn (place_6 c) c.frame_at-frame.result.now → r ≡ over_exprs (mentions f) (read_as (place_6 c) c.frame_at-frame.result.now))
       → r ≡ over_exprs (mentions f) (slot_at (over_6 c offsets) (place_6 c))
   items_over_5 x e k n m r f offsets g =
@@ -632,34 +384,12 @@ module _ (c : goal.After-in_items-in-Words) where
       → Referred f c.frame_at-frame.result.now c.links_at-beside.result.now c.args.place.0
   told_6 f r = asked_6 (λ s b. Referred f s b c.args.place.0) r
 
-  -- a variable: what is asked of the frame, and what its value holds
-  is_6 : (n : ℕ) (a : Arg) (e : it_6 ≡ Variable n a) → c.slot_at.result ≡ Holds (Variable n a)
-  is_6 n a e = holds_6 ∙ ap Holds e
-
-  value_asked_6 : (n : ℕ) (a : Arg) (e : it_6 ≡ Variable n a) → (a.0 ≤ length c.frame_at-frame.result.now) × Short c.frame_at-frame.result.now c.links_at-beside.result.now
-  value_asked_6 n a e =
-      let inside : a.0 ≤ length (frame_7 c) = omega (arith, value_at_7 c n a (is_6 n a e), (value_frame_7 c n a (is_6 n a e)).long) in
-      asked_6 (λ s b. (a.0 ≤ length s) × Short s b) (inside, short_7 c)
-
-  value_over_6 : (n : ℕ) (a : Arg) (e : it_6 ≡ Variable n a) (r : ℕ) (f : ℕ → Bool) (offsets : List ℕ)
-      → ((d : Expr) (k : ℕ) → read_expr (drop a.0 c.frame_at-frame.result.now) ≡ got d k → r ≡ mentions f d)
-      → r ≡ over_exprs (mentions f) (slot_at (over_7 c offsets) (place_7 c))
-  value_over_6 n a e r f offsets g =
-      let v = value_frame_7 c n a (is_6 n a e) in
-      let reads = ap (λ m. read_expr (drop m (frame_7 c))) (value_at_7 c n a (is_6 n a e)) ∙ v.reads.reads in
-      g v.e v.reads.width (asked_6 (λ s b. read_expr (drop a.0 s) ≡ got v.e v.reads.width) reads) ∙ sym (over_value_7 c n a (is_6 n a e) f offsets)
-
   -- data of either kind: what is asked of the frame, and what its items hold
   holds_data_6 : (x : Statement) (e : it_6 ≡ x) (k : ℕ) (n : kind_for x ≡ suc (suc (4 + k))) (m : k ≤ 1) → DataIn (place_7 c) (frame_7 c)
   holds_data_6 x e k n m = data_frame_7 c x (holds_6 ∙ ap Holds e) k n m
 
-  items_asked_6 : (x : Statement) (e : it_6 ≡ x) (k : ℕ) (n : kind_for x ≡ suc (suc (4 + k))) (m : k ≤ 1) (many : ℕ) → many ≡ get_or (frame_7 c) 1 0
-      → ((i : ℕ) × DataIn i c.frame_at-frame.result.now) × (many ≡ get_or c.frame_at-frame.result.now 1 0)
-      × Short c.frame_at-frame.result.now c.links_at-beside.result.now
-  items_asked_6 x e k n m many q =
-      asked_6 (λ s b. ((i : ℕ) × DataIn i s) × (many ≡ get_or s 1 0) × Short s b) ((place_7 c, holds_data_6 x e k n m), q, short_7 c)
-
-  items_over_6 : (x : Statement) (e : it_6 ≡ x) (k : ℕ) (n : kind_for x ≡ suc (suc (4 + k))) (m : k ≤ 1) (r : ℕ) (f : ℕ → Bool) (offsets : List ℕ)
+  items_over_6 : (x : Statement) (e : it_6 ≡ x) (k : ℕ) (n : kind_for x ≡ suc (suc (4 + k))) (m : k ≤ 1) (r : ℕ) (f : ℕ → Bool)
+      (offsets : List ℕ)
       → (DataIn (place_7 c) c.frame_at-frame.result.now → r ≡ over_exprs (mentions f) (read_as (place_7 c) c.frame_at-frame.result.now))
       → r ≡ over_exprs (mentions f) (slot_at (over_7 c offsets) (place_7 c))
   items_over_6 x e k n m r f offsets g =
@@ -683,7 +413,8 @@ frame_at-frame-requires c = ((c.requires.2 []).held, c.requires.0)
 
 pub links_at-beside-requires : goal.links_at-beside-requires
 links_at-beside-requires c =
-    spans c.args.frames.now (starts_in c.args.state.now) c.args.count (c.requires.2 []).held c.args.links.now c.requires.1 c.args.at.0 c.requires.0
+    spans c.args.frames.now (starts_in c.args.state.now) c.args.count (c.requires.2 []).held c.args.links.now c.requires.1 c.args.at.0
+    c.requires.0
 
 pub in_part-requires : goal.in_part-requires
 in_part-requires c = value_asked c _ _ c.in-Variable.is
@@ -692,25 +423,38 @@ pub in_items-requires : goal.in_items-requires
 in_items-requires c =
     let e = c.in-Bytes.is in
     items_asked_2 c _ e 0 refl (omega arith) _
-    (bytes_says (over_3 c []) (c.requires.2 []).held (place_3 c) c.requires.0 c.slot_at.result (stands_3 c []) _ _ (holds_2 c ∙ ap Holds e)).0
+    (bytes_says (over_3 c []) (c.requires.2 []).held (place_3 c) c.requires.0 c.slot_at.result (stands_3 c []) _ _
+    (holds_2 c ∙ ap Holds e)).0
 
 pub in_items-requires-in-Words : goal.in_items-requires-in-Words
 in_items-requires-in-Words c =
     let e = c.in-Words.is in
     items_asked_3 c _ e 1 refl (omega arith) _
-    (words_says (over_4 c []) (c.requires.2 []).held (place_4 c) c.requires.0 c.slot_at.result (stands_4 c []) _ _ (holds_3 c ∙ ap Holds e)).0
+    (words_says (over_4 c []) (c.requires.2 []).held (place_4 c) c.requires.0 c.slot_at.result (stands_4 c []) _ _
+    (holds_3 c ∙ ap Holds e)).0
 
 pub returns-in-Variable : goal.returns-in-Variable
 returns-in-Variable c =
     let e = c.in-Variable.is in
-    record { few = omega (arith, c.in_part.ensures.few); by_index = λ f offsets r. value_over_4 c _ _ e _ f offsets (c.in_part.ensures.by_index f (told_4 c f r.own)) }
+    record {
+      few = omega (arith, c.in_part.ensures.few);
+      by_index = λ f offsets r. value_over_4 c _ _ e _ f offsets (c.in_part.ensures.by_index f (told_4 c f r.own));
+    }
 
 pub returns-in-Bytes : goal.returns-in-Bytes
 returns-in-Bytes c =
     let e = c.in-Bytes.is in
-    record { few = c.in_items.ensures.few; by_index = λ f offsets r. items_over_5 c _ e 0 refl (omega arith) _ f offsets (λ d. c.in_items.ensures.by_index _ d f (told_5 c f r.own)) }
+    record {
+      few = c.in_items.ensures.few;
+      by_index = λ f offsets r. items_over_5 c _ e 0 refl (omega arith) _ f offsets (λ d. c.in_items.ensures.by_index _ d f
+          (told_5 c f r.own));
+    }
 
 pub returns-in-Words : goal.returns-in-Words
 returns-in-Words c =
     let e = c.in-Words.is in
-    record { few = c.in_items-in-Words.ensures.few; by_index = λ f offsets r. items_over_6 c _ e 1 refl (omega arith) _ f offsets (λ d. c.in_items-in-Words.ensures.by_index _ d f (told_6 c f r.own)) }
+    record {
+      few = c.in_items-in-Words.ensures.few;
+      by_index = λ f offsets r. items_over_6 c _ e 1 refl (omega arith) _ f offsets (λ d. c.in_items-in-Words.ensures.by_index _ d f
+          (told_6 c f r.own));
+    }

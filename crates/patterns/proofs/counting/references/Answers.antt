@@ -17,10 +17,12 @@ abbrev adds : (F : ℕ → ℕ → Bool) (t : Slots) (j : ℕ) → ℕ
 adds F t j = over_exprs (mentions (F j)) (slot_at t j)
 
 abbrev over : (c : goal.After-in_statement-found) (offsets : List ℕ) → Slots
-over c offsets = slots c.args.frames.now (starts_in c.args.state.now) c.args.count (forms_in c.args.state.now) (carry_in c.args.state.now) (owners_in c.args.state.now) offsets
+over c offsets = slots c.args.frames.now (starts_in c.args.state.now) c.args.count (forms_in c.args.state.now) (carry_in c.args.state.now)
+    (owners_in c.args.state.now) offsets
 
 abbrev over_2 : (c : goal.After-loop-j) (offsets : List ℕ) → Slots
-over_2 c offsets = slots c.args.frames.now (starts_in c.args.state.now) c.args.count (forms_in c.args.state.now) (carry_in c.args.state.now) (owners_in c.args.state.now) offsets
+over_2 c offsets = slots c.args.frames.now (starts_in c.args.state.now) c.args.count (forms_in c.args.state.now)
+    (carry_in c.args.state.now) (owners_in c.args.state.now) offsets
 
 pub loop-j-init : goal.loop-j-init
 unfolding sum_to
@@ -36,7 +38,12 @@ loop-j-preserved c =
       omega arith,
       omega (arith, l.invariant.1, c.in_statement-found.ensures.few),
       λ F offsets r.
-          omega (arith, l.invariant.2 F offsets r, c.in_statement-found.ensures.by_index (F l.j) offsets (r l.j c.loop-j-test.true), sum_more (adds F (over c offsets)) l.j),
+          omega (
+            arith,
+            l.invariant.2 F offsets r,
+            c.in_statement-found.ensures.by_index (F l.j) offsets (r l.j c.loop-j-test.true),
+            sum_more (adds F (over c offsets)) l.j,
+          ),
     )
 
 pub returns : goal.returns

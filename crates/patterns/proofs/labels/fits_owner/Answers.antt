@@ -21,11 +21,9 @@ module _ (c : goal.After-size_at) where
   inside : owner < c.args.count
   inside = subst (λ (x : InnerLabel). OwnerIn c.args.count x) c.in-Of.is c.requires.1
 
-  low : owner < 1024
-  low = omega (arith, inside, c.requires.0.few)
-
 abbrev over : (s : goal.After-size_at) (carry owners offsets : List ℕ) → Slots
-over s carry owners offsets = slots s.args.frames.now (starts_in s.args.state.now) s.args.count (forms_in s.args.state.now) carry owners offsets
+over s carry owners offsets = slots s.args.frames.now (starts_in s.args.state.now) s.args.count (forms_in s.args.state.now) carry owners
+    offsets
 
 pub returns-in-Of : goal.returns-in-Of
 returns-in-Of c carry owners offsets at =

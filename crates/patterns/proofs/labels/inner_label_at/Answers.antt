@@ -30,27 +30,32 @@ over_5 c = table_of c.args.frames.now c.args.state.now c.args.count
 -- the test, as the definitions have it
 tested : (c : goal.Then-not-is_transfer) → c.is_transfer.result ≡ is_transfer (form_in (stands_at (over c) c.args.at.0))
 tested c =
-    c.is_transfer.ensures ∙ ap is_transfer (c.form_at.ensures (carry_in c.args.state.now) (owners_in c.args.state.now) (offsets_in c.args.state.now))
+    c.is_transfer.ensures ∙ ap is_transfer (c.form_at.ensures (carry_in c.args.state.now) (owners_in c.args.state.now)
+    (offsets_in c.args.state.now))
 
 -- the test, as the definitions have it
 tested_2 : (c : goal.After-carry_at-written) → c.is_transfer.result ≡ is_transfer (form_in (stands_at (over_2 c) c.args.at.0))
 tested_2 c =
-    c.is_transfer.ensures ∙ ap is_transfer (c.form_at.ensures (carry_in c.args.state.now) (owners_in c.args.state.now) (offsets_in c.args.state.now))
+    c.is_transfer.ensures ∙ ap is_transfer (c.form_at.ensures (carry_in c.args.state.now) (owners_in c.args.state.now)
+    (offsets_in c.args.state.now))
 
 -- the test, as the definitions have it
 tested_3 : (c : goal.Then-owner-lt-NO_OWNER) → c.is_transfer.result ≡ is_transfer (form_in (stands_at (over_3 c) c.args.at.0))
 tested_3 c =
-    c.is_transfer.ensures ∙ ap is_transfer (c.form_at.ensures (carry_in c.args.state.now) (owners_in c.args.state.now) (offsets_in c.args.state.now))
+    c.is_transfer.ensures ∙ ap is_transfer (c.form_at.ensures (carry_in c.args.state.now) (owners_in c.args.state.now)
+    (offsets_in c.args.state.now))
 
 -- the test, as the definitions have it
 tested_4 : (c : goal.After-offset_at) → c.is_transfer.result ≡ is_transfer (form_in (stands_at (over_4 c) c.args.at.0))
 tested_4 c =
-    c.is_transfer.ensures ∙ ap is_transfer (c.form_at.ensures (carry_in c.args.state.now) (owners_in c.args.state.now) (offsets_in c.args.state.now))
+    c.is_transfer.ensures ∙ ap is_transfer (c.form_at.ensures (carry_in c.args.state.now) (owners_in c.args.state.now)
+    (offsets_in c.args.state.now))
 
 -- the test, as the definitions have it
 tested_5 : (c : goal.Else-owner-lt-NO_OWNER) → c.is_transfer.result ≡ is_transfer (form_in (stands_at (over_5 c) c.args.at.0))
 tested_5 c =
-    c.is_transfer.ensures ∙ ap is_transfer (c.form_at.ensures (carry_in c.args.state.now) (owners_in c.args.state.now) (offsets_in c.args.state.now))
+    c.is_transfer.ensures ∙ ap is_transfer (c.form_at.ensures (carry_in c.args.state.now) (owners_in c.args.state.now)
+    (offsets_in c.args.state.now))
 
 -- a transfer, and the place that it carries
 module _ (c : goal.After-carry_at-written) where
@@ -88,32 +93,19 @@ module _ (c : goal.After-offset_at) where
   target_3 : TargetIn c.args.frames.now (starts_in c.args.state.now) c.args.count (get_or (carry_in c.args.state.now) c.args.at.0 0)
   target_3 = label_target (over_4 c) c.requires.0 c.args.at.0 c.requires.1 moves_3
 
-  inside_3 : c.carry_at-written.result.0 < c.args.count
-  inside_3 = omega (arith, target_3.inside, c.carry_at-written.ensures)
-
-  small_3 : c.carry_at-written.result.0 < 1024
-  small_3 = omega (arith, inside_3, c.requires.0.held.few)
-
 -- a transfer, and the place that it carries
 module _ (c : goal.Else-owner-lt-NO_OWNER) where
   moves_4 : is_transfer (form_in (stands_at (over_5 c) c.args.at.0)) ≡ true
   moves_4 = sym (tested_5 c) ∙ c.if-not-is_transfer.false
 
-  target_4 : TargetIn c.args.frames.now (starts_in c.args.state.now) c.args.count (get_or (carry_in c.args.state.now) c.args.at.0 0)
-  target_4 = label_target (over_5 c) c.requires.0 c.args.at.0 c.requires.1 moves_4
-
-  inside_4 : c.carry_at-written.result.0 < c.args.count
-  inside_4 = omega (arith, target_4.inside, c.carry_at-written.ensures)
-
-  small_4 : c.carry_at-written.result.0 < 1024
-  small_4 = omega (arith, inside_4, c.requires.0.held.few)
-
 -- the owner, as the tables have it
-owner : (c : goal.After-offset_at) → c.owner_at-owner.result ≡ get_or (owners_in c.args.state.now) (get_or (carry_in c.args.state.now) c.args.at.0 0) 0
+owner : (c : goal.After-offset_at) → c.owner_at-owner.result ≡ get_or (owners_in c.args.state.now) (get_or (carry_in c.args.state.now)
+    c.args.at.0 0) 0
 owner c = c.owner_at-owner.ensures ∙ ap (λ (n : ℕ). get_or (owners_in c.args.state.now) n 0) c.carry_at-written.ensures
 
 -- the owner, as the tables have it
-owner_2 : (c : goal.Else-owner-lt-NO_OWNER) → c.owner_at-owner.result ≡ get_or (owners_in c.args.state.now) (get_or (carry_in c.args.state.now) c.args.at.0 0) 0
+owner_2 : (c : goal.Else-owner-lt-NO_OWNER) → c.owner_at-owner.result ≡ get_or (owners_in c.args.state.now)
+    (get_or (carry_in c.args.state.now) c.args.at.0 0) 0
 owner_2 c = c.owner_at-owner.ensures ∙ ap (λ (n : ℕ). get_or (owners_in c.args.state.now) n 0) c.carry_at-written.ensures
 
 pub returns-then-not-is_transfer : goal.returns-then-not-is_transfer
@@ -129,11 +121,16 @@ offset_at-requires c = omega (arith, small_2 c)
 pub returns-then-owner-lt-NO_OWNER : goal.returns-then-owner-lt-NO_OWNER
 returns-then-owner-lt-NO_OWNER c =
     let offset = c.offset_at.ensures ∙ ap (λ (k : ℕ). get_or (offsets_in c.args.state.now) k 0) c.carry_at-written.ensures in
-    let low : get_or (owners_in c.args.state.now) (get_or (carry_in c.args.state.now) c.args.at.0 0) 0 < no_owner = omega (arith, owner c, c.if-owner-lt-NO_OWNER.true) in (
-      ap₂ (λ (a b : ℕ). Of (record { 0 = a }) b) (owner c) offset ∙ sym (label_inner (over_4 c) c.requires.0 c.args.at.0 c.requires.1 (moves_3 c) low),
+    let low : get_or (owners_in c.args.state.now) (get_or (carry_in c.args.state.now) c.args.at.0 0) 0 < no_owner
+    = omega (arith, owner c, c.if-owner-lt-NO_OWNER.true) in (
+      ap₂ (λ (a b : ℕ). Of (record { 0 = a }) b) (owner c) offset ∙ sym (label_inner (over_4 c) c.requires.0 c.args.at.0 c.requires.1
+          (moves_3 c) low),
       omega (arith, owner c, c.requires.0.owned _ (target_3 c).inside low),
     )
 
 pub returns : goal.returns
-returns c =
-    (sym (label_written (over_5 c) c.requires.0 c.args.at.0 c.requires.1 (moves_4 c) (omega (arith, owner_2 c, c.if-owner-lt-NO_OWNER.false))), tt)
+returns c = (
+  sym (label_written (over_5 c) c.requires.0 c.args.at.0 c.requires.1 (moves_4 c)
+      (omega (arith, owner_2 c, c.if-owner-lt-NO_OWNER.false))),
+  tt,
+)

@@ -27,10 +27,12 @@ abbrev over_3 : (c : goal.After-loop-j) → Slots
 over_3 c = table_of c.args.frames.now c.args.state.now c.args.count
 
 tested : (c : goal.Then-not-is_outside) → c.is_outside.result ≡ passes (over c) c.args.i.0 c.args.m.0 c.loop-j.j
-tested c = c.is_outside.ensures ∙ ap (of_label (λ owner o. not (ltb c.args.i.0 owner && leb owner c.args.m.0))) c.inner_label_at-label.ensures.0
+tested c = c.is_outside.ensures ∙ ap (of_label (λ owner o. not (ltb c.args.i.0 owner && leb owner c.args.m.0)))
+    c.inner_label_at-label.ensures.0
 
 tested_2 : (c : goal.Else-not-is_outside) → c.is_outside.result ≡ passes (over_2 c) c.args.i.0 c.args.m.0 c.loop-j.j
-tested_2 c = c.is_outside.ensures ∙ ap (of_label (λ owner o. not (ltb c.args.i.0 owner && leb owner c.args.m.0))) c.inner_label_at-label.ensures.0
+tested_2 c = c.is_outside.ensures ∙ ap (of_label (λ owner o. not (ltb c.args.i.0 owner && leb owner c.args.m.0)))
+    c.inner_label_at-label.ensures.0
 
 pub loop-j-init : goal.loop-j-init
 unfolding all_to
@@ -39,13 +41,20 @@ loop-j-init c = (omega arith, refl)
 pub returns-then-not-is_outside : goal.returns-then-not-is_outside
 unfolding no_inner_label_between
 returns-then-not-is_outside c =
-    sym (labels_by (over c) c.requires (λ owner o. not (ltb c.args.i.0 owner && leb owner c.args.m.0)) ∙ all_fails (passes (over c) c.args.i.0 c.args.m.0) c.loop-j.j c.args.count c.loop-j-test.true (sym (tested c) ∙ c.if-not-is_outside.true))
+    sym (labels_by (over c) c.requires (λ owner o. not (ltb c.args.i.0 owner && leb owner c.args.m.0)) ∙ all_fails
+    (passes (over c) c.args.i.0 c.args.m.0) c.loop-j.j c.args.count c.loop-j-test.true (sym (tested c) ∙ c.if-not-is_outside.true))
 
 pub loop-j-preserved : goal.loop-j-preserved
-loop-j-preserved c = let l = c.loop-j in (omega arith, all_more (passes (over_2 c) c.args.i.0 c.args.m.0) l.j l.invariant.1 (sym (tested_2 c) ∙ c.if-not-is_outside.false))
+loop-j-preserved c = let l = c.loop-j in (
+  omega arith,
+  all_more (passes (over_2 c) c.args.i.0 c.args.m.0) l.j l.invariant.1
+      (sym (tested_2 c) ∙ c.if-not-is_outside.false),
+)
 
 pub returns : goal.returns
 unfolding no_inner_label_between
 returns c =
     let l = c.loop-j in
-    sym (labels_by (over_3 c) c.requires (λ owner o. not (ltb c.args.i.0 owner && leb owner c.args.m.0)) ∙ sym (at_end (all_to (passes (over_3 c) c.args.i.0 c.args.m.0)) l.j c.args.count l.invariant.0 c.loop-j-test.false) ∙ l.invariant.1)
+    sym (labels_by (over_3 c) c.requires (λ owner o. not (ltb c.args.i.0 owner && leb owner c.args.m.0))
+    ∙ sym (at_end (all_to (passes (over_3 c) c.args.i.0 c.args.m.0)) l.j c.args.count l.invariant.0 c.loop-j-test.false)
+    ∙ l.invariant.1)

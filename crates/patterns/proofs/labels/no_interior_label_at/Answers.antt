@@ -39,13 +39,19 @@ loop-j-init c = (omega arith, refl)
 pub returns-then-not-is_not_interior : goal.returns-then-not-is_not_interior
 unfolding no_interior_label_at
 returns-then-not-is_not_interior c =
-    sym (labels_by (over c) c.requires (λ owner o. not (eqb owner c.args.at.0 && leb 1 o)) ∙ all_fails (passes (over c) c.args.at.0) c.loop-j.j c.args.count c.loop-j-test.true (sym (tested c) ∙ c.if-not-is_not_interior.true))
+    sym (labels_by (over c) c.requires (λ owner o. not (eqb owner c.args.at.0 && leb 1 o)) ∙ all_fails (passes (over c) c.args.at.0)
+    c.loop-j.j c.args.count c.loop-j-test.true (sym (tested c) ∙ c.if-not-is_not_interior.true))
 
 pub loop-j-preserved : goal.loop-j-preserved
-loop-j-preserved c = let l = c.loop-j in (omega arith, all_more (passes (over_2 c) c.args.at.0) l.j l.invariant.1 (sym (tested_2 c) ∙ c.if-not-is_not_interior.false))
+loop-j-preserved c = let l = c.loop-j in (
+  omega arith,
+  all_more (passes (over_2 c) c.args.at.0) l.j l.invariant.1
+      (sym (tested_2 c) ∙ c.if-not-is_not_interior.false),
+)
 
 pub returns : goal.returns
 unfolding no_interior_label_at
 returns c =
     let l = c.loop-j in
-    sym (labels_by (over_3 c) c.requires (λ owner o. not (eqb owner c.args.at.0 && leb 1 o)) ∙ sym (at_end (all_to (passes (over_3 c) c.args.at.0)) l.j c.args.count l.invariant.0 c.loop-j-test.false) ∙ l.invariant.1)
+    sym (labels_by (over_3 c) c.requires (λ owner o. not (eqb owner c.args.at.0 && leb 1 o))
+    ∙ sym (at_end (all_to (passes (over_3 c) c.args.at.0)) l.j c.args.count l.invariant.0 c.loop-j-test.false) ∙ l.invariant.1)

@@ -41,13 +41,19 @@ loop-j-init c = (omega arith, refl)
 pub returns-then-not-fits_owner : goal.returns-then-not-fits_owner
 unfolding all_to
 returns-then-not-fits_owner c =
-    sym (labels_by (over c) c.requires.0 (λ owner o. ltb o (size_in (program_of (over c)) owner)) ∙ all_fails (passes (over c)) c.loop-j.j c.args.count c.loop-j-test.true (sym (tested c) ∙ c.if-not-fits_owner.true))
+    sym (labels_by (over c) c.requires.0 (λ owner o. ltb o (size_in (program_of (over c)) owner)) ∙ all_fails (passes (over c)) c.loop-j.j
+    c.args.count c.loop-j-test.true (sym (tested c) ∙ c.if-not-fits_owner.true))
 
 pub loop-j-preserved : goal.loop-j-preserved
-loop-j-preserved c = let l = c.loop-j in (omega arith, all_more (passes (over_2 c)) l.j l.invariant.1 (sym (tested_2 c) ∙ c.if-not-fits_owner.false))
+loop-j-preserved c = let l = c.loop-j in (
+  omega arith,
+  all_more (passes (over_2 c)) l.j l.invariant.1
+      (sym (tested_2 c) ∙ c.if-not-fits_owner.false),
+)
 
 pub returns : goal.returns
 unfolding all_to
 returns c =
     let l = c.loop-j in
-    sym (labels_by (over_3 c) c.requires.0 (λ owner o. ltb o (size_in (program_of (over_3 c)) owner)) ∙ sym (at_end (all_to (passes (over_3 c))) l.j c.args.count l.invariant.0 c.loop-j-test.false) ∙ l.invariant.1)
+    sym (labels_by (over_3 c) c.requires.0 (λ owner o. ltb o (size_in (program_of (over_3 c)) owner))
+    ∙ sym (at_end (all_to (passes (over_3 c))) l.j c.args.count l.invariant.0 c.loop-j-test.false) ∙ l.invariant.1)

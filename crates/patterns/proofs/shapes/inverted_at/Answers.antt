@@ -48,9 +48,11 @@ pub returns-then-is_free : goal.returns-then-is_free
 returns-then-is_free c =
     record {
       shaped = stands c;
-      fold = λ to. begun_free (program_of (over_2 c)) (inverted c.args.from to) c.args.at.0 _ ((stands c).shape to) (sym c.is_free.ensures ∙ c.if-is_free.true);
+      fold = λ to. begun_free (program_of (over_2 c)) (inverted c.args.from to) c.args.at.0 _ ((stands c).shape to)
+          (sym c.is_free.ensures ∙ c.if-is_free.true);
     }
 
 pub returns : goal.returns
 returns c =
-    λ to. begun_barred (program_of (over_3 c)) (inverted c.args.from to) c.args.at.0 _ ((stands_2 c).shape to) (sym c.is_free.ensures ∙ c.if-is_free.false)
+    λ to. begun_barred (program_of (over_3 c)) (inverted c.args.from to) c.args.at.0 _ ((stands_2 c).shape to)
+    (sym c.is_free.ensures ∙ c.if-is_free.false)

@@ -53,21 +53,15 @@ module _ (c : goal.In-At) where
       opening_found (over c) i c.args.from c.in-At.is
       (c.opening_at.ensures (carry_in c.args.state.now) (owners_in c.args.state.now) (offsets_in c.args.state.now))
 
-  stored : AreBytes c.args.frames.now
-  stored k = (c.shared_slice_known-1.given k).fits
-
-  -- the label and the unconditional stand in the branch's context
-  jump_together : context_at program jump ≡ context_at program i
-  jump_together = jump_context (over c) i jump opens.jumps
-
-  label_together : context_at program label ≡ context_at program i
-  label_together = landing_context (over c) jump label c.requires.0.held name opens.lands ∙ jump_together
-
   abbrev bare : Bool
   bare = names_bare name (instr_at (over c) i)
 
   abbrev standing : (to : ℕ) → Option Shape
-  standing to = some (record { last = label; folded = drop_all (jump ∷ []) (set program i (aimed to (instr_at (over c) i) (instr_at (over c) jump))) })
+  standing to = some (
+      record {
+        last = label;
+        folded = drop_all (jump ∷ []) (set program i (aimed to (instr_at (over c) i) (instr_at (over c) jump)));
+      })
 
   shape : (to : ℕ) → inverted_shape c.args.from to program i ≡ given bare (standing to)
   shape to =
@@ -110,7 +104,11 @@ module _ (c : goal.Then-names_bare) where
   bare_2 = names_bare name_2 (instr_at (over_2 c) i_2)
 
   abbrev standing_2 : (to : ℕ) → Option Shape
-  standing_2 to = some (record { last = label_2; folded = drop_all (jump_2 ∷ []) (set program_2 i_2 (aimed to (instr_at (over_2 c) i_2) (instr_at (over_2 c) jump_2))) })
+  standing_2 to = some (
+      record {
+        last = label_2;
+        folded = drop_all (jump_2 ∷ []) (set program_2 i_2 (aimed to (instr_at (over_2 c) i_2) (instr_at (over_2 c) jump_2)));
+      })
 
   shape_2 : (to : ℕ) → inverted_shape c.args.from to program_2 i_2 ≡ given bare_2 (standing_2 to)
   shape_2 to =
@@ -153,7 +151,11 @@ module _ (c : goal.Else-names_bare) where
   bare_3 = names_bare name_3 (instr_at (over_3 c) i_3)
 
   abbrev standing_3 : (to : ℕ) → Option Shape
-  standing_3 to = some (record { last = label_3; folded = drop_all (jump_3 ∷ []) (set program_3 i_3 (aimed to (instr_at (over_3 c) i_3) (instr_at (over_3 c) jump_3))) })
+  standing_3 to = some (
+      record {
+        last = label_3;
+        folded = drop_all (jump_3 ∷ []) (set program_3 i_3 (aimed to (instr_at (over_3 c) i_3) (instr_at (over_3 c) jump_3)));
+      })
 
   shape_3 : (to : ℕ) → inverted_shape c.args.from to program_3 i_3 ≡ given bare_3 (standing_3 to)
   shape_3 to =
@@ -165,7 +167,8 @@ tested : (c : goal.Then-names_bare) → c.names_bare.result ≡ bare_2 c
 tested c =
     let m = (opens_2 c).branches in
     c.names_bare.ensures (name_2 c)
-    (bare_to (over_2 c) c.requires.0 (stored_2 c) c.args.links.now c.requires.1 (label_2 c) (name_2 c) (opens_2 c).lands.inside (opens_2 c).lands.is (i_2 c) m (sym (label_together_2 c)))
+    (bare_to (over_2 c) c.requires.0 (stored_2 c) c.args.links.now c.requires.1 (label_2 c) (name_2 c) (opens_2 c).lands.inside
+    (opens_2 c).lands.is (i_2 c) m (sym (label_together_2 c)))
     (forms_in c.args.state.now) (offsets_in c.args.state.now) c.requires.0 m.kind m.transfer
 
 -- the test, as the definition has it
@@ -173,7 +176,8 @@ tested_2 : (c : goal.Else-names_bare) → c.names_bare.result ≡ bare_3 c
 tested_2 c =
     let m = (opens_3 c).branches in
     c.names_bare.ensures (name_3 c)
-    (bare_to (over_3 c) c.requires.0 (stored_3 c) c.args.links.now c.requires.1 (label_3 c) (name_3 c) (opens_3 c).lands.inside (opens_3 c).lands.is (i_3 c) m (sym (label_together_3 c)))
+    (bare_to (over_3 c) c.requires.0 (stored_3 c) c.args.links.now c.requires.1 (label_3 c) (name_3 c) (opens_3 c).lands.inside
+    (opens_3 c).lands.is (i_3 c) m (sym (label_together_3 c)))
     (forms_in c.args.state.now) (offsets_in c.args.state.now) c.requires.0 m.kind m.transfer
 
 pub names_bare-requires : goal.names_bare-requires

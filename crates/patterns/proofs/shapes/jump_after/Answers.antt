@@ -12,7 +12,8 @@ use Rattle.slots.specs.State.{starts_in, forms_in}
 use Rattle.patterns.proofs.shapes.jump_after.Goals as goal
 
 abbrev over : (c : goal.Then-unconditional_at) (carry owners offsets : List ℕ) → Slots
-over c carry owners offsets = slots c.args.frames.now (starts_in c.args.state.now) c.args.count (forms_in c.args.state.now) carry owners offsets
+over c carry owners offsets = slots c.args.frames.now (starts_in c.args.state.now) c.args.count (forms_in c.args.state.now) carry owners
+    offsets
 
 -- the place, as the definition has it
 module _ (c : goal.Then-unconditional_at) (carry owners offsets : List ℕ) where
@@ -27,5 +28,6 @@ module _ (c : goal.Then-unconditional_at) (carry owners offsets : List ℕ) wher
 
 pub returns-then-unconditional_at : goal.returns-then-unconditional_at
 returns-then-unconditional_at c carry owners offsets =
-    let j = jump_slot (here c carry owners offsets) c.requires.0 c.next-jump.result.0 (sym (c.unconditional_at.ensures carry owners offsets) ∙ c.if-unconditional_at.true) in
+    let j = jump_slot (here c carry owners offsets) c.requires.0 c.next-jump.result.0
+    (sym (c.unconditional_at.ensures carry owners offsets) ∙ c.if-unconditional_at.true) in
     record { next_is = place c carry owners offsets; rises = rises c carry owners offsets; moves = j.0; is = j.1 }

@@ -13,7 +13,8 @@ use Rattle.slots.specs.State.{starts_in, forms_in}
 use Rattle.patterns.proofs.shapes.landing_after.Goals as goal
 
 abbrev over : (c : goal.In-Name) (carry owners offsets : List ℕ) → Slots
-over c carry owners offsets = slots c.args.frames.now (starts_in c.args.state.now) c.args.count (forms_in c.args.state.now) carry owners offsets
+over c carry owners offsets = slots c.args.frames.now (starts_in c.args.state.now) c.args.count (forms_in c.args.state.now) carry owners
+    offsets
 
 -- the place, as the definition has it
 module _ (c : goal.In-Name) (carry owners offsets : List ℕ) where
@@ -29,5 +30,11 @@ module _ (c : goal.In-Name) (carry owners offsets : List ℕ) where
 pub returns-in-Name : goal.returns-in-Name
 returns-in-Name c carry owners offsets =
     let t = here c carry owners offsets in
-    let e = named_label (local_label (stands_at t c.next-label.result.0)) _ (sym c.in-Name.is ∙ c.local_label_at.ensures carry owners offsets) in
-    record { next_is = place c carry owners offsets; rises = rises c carry owners offsets; inside = label_inside t c.requires.0 c.next-label.result.0 _ e; is = e }
+    let e = named_label (local_label (stands_at t c.next-label.result.0)) _ (sym c.in-Name.is ∙ c.local_label_at.ensures carry owners
+    offsets) in
+    record {
+      next_is = place c carry owners offsets;
+      rises = rises c carry owners offsets;
+      inside = label_inside t c.requires.0 c.next-label.result.0 _ e;
+      is = e;
+    }

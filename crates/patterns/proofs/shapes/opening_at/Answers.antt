@@ -12,19 +12,24 @@ use Rattle.slots.specs.State.{starts_in, forms_in}
 use Rattle.patterns.proofs.shapes.opening_at.Goals as goal
 
 abbrev over : (c : goal.Then-not-branch_at) (carry owners offsets : List ℕ) → Slots
-over c carry owners offsets = slots c.args.frames.now (starts_in c.args.state.now) c.args.count (forms_in c.args.state.now) carry owners offsets
+over c carry owners offsets = slots c.args.frames.now (starts_in c.args.state.now) c.args.count (forms_in c.args.state.now) carry owners
+    offsets
 
 abbrev over_2 : (c : goal.In_default) (carry owners offsets : List ℕ) → Slots
-over_2 c carry owners offsets = slots c.args.frames.now (starts_in c.args.state.now) c.args.count (forms_in c.args.state.now) carry owners offsets
+over_2 c carry owners offsets = slots c.args.frames.now (starts_in c.args.state.now) c.args.count (forms_in c.args.state.now) carry owners
+    offsets
 
 abbrev over_3 : (c : goal.In-At) (carry owners offsets : List ℕ) → Slots
-over_3 c carry owners offsets = slots c.args.frames.now (starts_in c.args.state.now) c.args.count (forms_in c.args.state.now) carry owners offsets
+over_3 c carry owners offsets = slots c.args.frames.now (starts_in c.args.state.now) c.args.count (forms_in c.args.state.now) carry owners
+    offsets
 
 abbrev over_4 : (c : goal.In_default-landing_after) (carry owners offsets : List ℕ) → Slots
-over_4 c carry owners offsets = slots c.args.frames.now (starts_in c.args.state.now) c.args.count (forms_in c.args.state.now) carry owners offsets
+over_4 c carry owners offsets = slots c.args.frames.now (starts_in c.args.state.now) c.args.count (forms_in c.args.state.now) carry owners
+    offsets
 
 abbrev over_5 : (c : goal.In-At-landing_after) (carry owners offsets : List ℕ) → Slots
-over_5 c carry owners offsets = slots c.args.frames.now (starts_in c.args.state.now) c.args.count (forms_in c.args.state.now) carry owners offsets
+over_5 c carry owners offsets = slots c.args.frames.now (starts_in c.args.state.now) c.args.count (forms_in c.args.state.now) carry owners
+    offsets
 
 -- the unconditional
 module _ (c : goal.In-At) (carry owners offsets : List ℕ) where
@@ -65,7 +70,8 @@ branch_at-requires c = (c.requires.0, transfer_known c.args.form c.requires.2)
 pub returns-then-not-branch_at : goal.returns-then-not-branch_at
 returns-then-not-branch_at c carry owners offsets =
     let p = program_of (over c carry owners offsets) in
-    let e = said_none (branch c.args.form (stands_at (over c carry owners offsets) c.args.at.0)) (sym (c.branch_at.ensures carry owners offsets) ∙ c.if-not-branch_at.true) in
+    let e = said_none (branch c.args.form (stands_at (over c carry owners offsets) c.args.at.0))
+    (sym (c.branch_at.ensures carry owners offsets) ∙ c.if-not-branch_at.true) in
     (λ to. inverted_no_branch c.args.form to p c.args.at.0 e, trampoline_no_branch c.args.form p c.args.at.0 e)
 
 pub returns-in_default : goal.returns-in_default
@@ -82,8 +88,11 @@ returns-in_default-landing_after c carry owners offsets =
     let t = here_2 c carry owners offsets in
     let j = jump_2 c carry owners offsets in
     let n = (jumps_2 c carry owners offsets).next_is in
-    let e = landing_none t j c.in_default-landing_after.is (c.landing_after.ensures carry owners offsets) in
-    (λ to. inverted_no_label c.args.form to (program_of t) c.args.at.0 j n e, trampoline_no_target c.args.form (program_of t) c.args.at.0 j n e)
+    let e = landing_none t j c.in_default-landing_after.is (c.landing_after.ensures carry owners offsets) in (
+      λ to. inverted_no_label c.args.form to (program_of t) c.args.at.0 j n e,
+      trampoline_no_target c.args.form (program_of t) c.args.at.0 j
+          n e,
+    )
 
 pub returns : goal.returns
 returns c carry owners offsets =

@@ -60,9 +60,11 @@ pub returns-then-is_free : goal.returns-then-is_free
 returns-then-is_free c =
     record {
       shaped = stands c;
-      fold = begun_free (program_of (over_2 c)) (trampoline c.args.form) c.args.at.0 _ (stands c).shape (sym c.is_free.ensures ∙ c.if-is_free.true);
+      fold = begun_free (program_of (over_2 c)) (trampoline c.args.form) c.args.at.0 _ (stands c).shape
+          (sym c.is_free.ensures ∙ c.if-is_free.true);
     }
 
 pub returns : goal.returns
 returns c =
-    begun_barred (program_of (over_3 c)) (trampoline c.args.form) c.args.at.0 _ (stands_2 c).shape (sym c.is_free.ensures ∙ c.if-is_free.false)
+    begun_barred (program_of (over_3 c)) (trampoline c.args.form) c.args.at.0 _ (stands_2 c).shape
+    (sym c.is_free.ensures ∙ c.if-is_free.false)

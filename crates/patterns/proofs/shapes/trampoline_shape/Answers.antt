@@ -1,4 +1,5 @@
--- `patterns::shapes::trampoline_shape` meets its contract: each way out is way.before.before.before.before in which the definition has none, or what its fold leaves.
+-- `patterns::shapes::trampoline_shape` meets its contract: each way out is way.before.before.before.before in which the definition has
+-- none, or what its fold leaves.
 use mathlib.Core.Path.{◌≡◌, sym, ap, ◌∙◌}
 use mathlib.Core.Bool.{Bool, ◌&&◌}
 use mathlib.Core.Option.{Option, some}
@@ -72,16 +73,6 @@ module _ (c : goal.In_default-jump_after) where
       opening_found (over c) i c.args.form c.in-At.is
       (c.opening_at.ensures (carry_in c.args.state.now) (owners_in c.args.state.now) (offsets_in c.args.state.now))
 
-  stored : AreBytes c.args.frames.now
-  stored k = (c.shared_slice_known-1.given k).fits
-
-  -- in the branch's context
-  skip_together : context_at program skip ≡ context_at program i
-  skip_together = jump_context (over c) i skip opens.jumps
-
-  t_together : context_at program place_t ≡ context_at program i
-  t_together = landing_context (over c) skip place_t c.requires.0.held name_t opens.lands ∙ skip_together
-
 -- the branch, the unconditional behind it, and T
 module _ (c : goal.In_default-landing_after) where
   abbrev i_2 : ℕ
@@ -104,16 +95,6 @@ module _ (c : goal.In_default-landing_after) where
       opening_found (over_2 c) i_2 c.args.form c.in-At.is
       (c.opening_at.ensures (carry_in c.args.state.now) (owners_in c.args.state.now) (offsets_in c.args.state.now))
 
-  stored_2 : AreBytes c.args.frames.now
-  stored_2 k = (c.shared_slice_known-1.given k).fits
-
-  -- in the branch's context
-  skip_together_2 : context_at program_2 skip_2 ≡ context_at program_2 i_2
-  skip_together_2 = jump_context (over_2 c) i_2 skip_2 opens_2.jumps
-
-  t_together_2 : context_at program_2 place_t_2 ≡ context_at program_2 i_2
-  t_together_2 = landing_context (over_2 c) skip_2 place_t_2 c.requires.0.held name_t_2 opens_2.lands ∙ skip_together_2
-
 -- the branch, the unconditional behind it, and T
 module _ (c : goal.In-At-landing_after) where
   abbrev i_3 : ℕ
@@ -135,16 +116,6 @@ module _ (c : goal.In-At-landing_after) where
   opens_3 =
       opening_found (over_3 c) i_3 c.args.form c.in-At.is
       (c.opening_at.ensures (carry_in c.args.state.now) (owners_in c.args.state.now) (offsets_in c.args.state.now))
-
-  stored_3 : AreBytes c.args.frames.now
-  stored_3 k = (c.shared_slice_known-1.given k).fits
-
-  -- in the branch's context
-  skip_together_3 : context_at program_3 skip_3 ≡ context_at program_3 i_3
-  skip_together_3 = jump_context (over_3 c) i_3 skip_3 opens_3.jumps
-
-  t_together_3 : context_at program_3 place_t_3 ≡ context_at program_3 i_3
-  t_together_3 = landing_context (over_3 c) skip_3 place_t_3 c.requires.0.held name_t_3 opens_3.lands ∙ skip_together_3
 
 -- the branch, the unconditional behind it, and T
 module _ (c : goal.Then-not-names_bare) where
@@ -183,9 +154,6 @@ module _ (c : goal.Else-not-names_bare) where
   abbrev i_5 : ℕ
   i_5 = c.args.at.0
 
-  abbrev program_5 : Program
-  program_5 = program_of (over_5 c)
-
   abbrev skip_5 : ℕ
   skip_5 = c.in-At.skip.0
 
@@ -199,16 +167,6 @@ module _ (c : goal.Else-not-names_bare) where
   opens_5 =
       opening_found (over_5 c) i_5 c.args.form c.in-At.is
       (c.opening_at.ensures (carry_in c.args.state.now) (owners_in c.args.state.now) (offsets_in c.args.state.now))
-
-  stored_5 : AreBytes c.args.frames.now
-  stored_5 k = (c.shared_slice_known-1.given k).fits
-
-  -- in the branch's context
-  skip_together_5 : context_at program_5 skip_5 ≡ context_at program_5 i_5
-  skip_together_5 = jump_context (over_5 c) i_5 skip_5 opens_5.jumps
-
-  t_together_5 : context_at program_5 place_t_5 ≡ context_at program_5 i_5
-  t_together_5 = landing_context (over_5 c) skip_5 place_t_5 c.requires.0.held name_t_5 opens_5.lands ∙ skip_together_5
 
 -- the branch, the unconditional behind it, and T
 module _ (c : goal.Then-not-names_bare-2) where
@@ -299,13 +257,6 @@ module _ (c : goal.Else-references-eq1) where
   stored_8 : AreBytes c.args.frames.now
   stored_8 k = (c.shared_slice_known-1.given k).fits
 
-  -- in the branch's context
-  skip_together_8 : context_at program_8 skip_8 ≡ context_at program_8 i_8
-  skip_together_8 = jump_context (over_8 c) i_8 skip_8 opens_8.jumps
-
-  t_together_8 : context_at program_8 place_t_8 ≡ context_at program_8 i_8
-  t_together_8 = landing_context (over_8 c) skip_8 place_t_8 c.requires.0.held name_t_8 opens_8.lands ∙ skip_together_8
-
 -- the last unconditional
 module _ (c : goal.In_default-landing_after) where
   abbrev last : ℕ
@@ -313,10 +264,8 @@ module _ (c : goal.In_default-landing_after) where
 
   jumps : JumpFound (over_2 c) (place_t_2 c) last
   jumps =
-      jump_found (over_2 c) (place_t_2 c) c.in-At-jump_after.is (c.jump_after.ensures (carry_in c.args.state.now) (owners_in c.args.state.now) (offsets_in c.args.state.now))
-
-  last_together : context_at (program_2 c) last ≡ context_at (program_2 c) (i_2 c)
-  last_together = jump_context (over_2 c) (place_t_2 c) last jumps ∙ t_together_2 c
+      jump_found (over_2 c) (place_t_2 c) c.in-At-jump_after.is (c.jump_after.ensures (carry_in c.args.state.now)
+      (owners_in c.args.state.now) (offsets_in c.args.state.now))
 
 -- the last unconditional
 module _ (c : goal.In-At-landing_after) where
@@ -325,10 +274,8 @@ module _ (c : goal.In-At-landing_after) where
 
   jumps_2 : JumpFound (over_3 c) (place_t_3 c) last_2
   jumps_2 =
-      jump_found (over_3 c) (place_t_3 c) c.in-At-jump_after.is (c.jump_after.ensures (carry_in c.args.state.now) (owners_in c.args.state.now) (offsets_in c.args.state.now))
-
-  last_together_2 : context_at (program_3 c) last_2 ≡ context_at (program_3 c) (i_3 c)
-  last_together_2 = jump_context (over_3 c) (place_t_3 c) last_2 jumps_2 ∙ t_together_3 c
+      jump_found (over_3 c) (place_t_3 c) c.in-At-jump_after.is (c.jump_after.ensures (carry_in c.args.state.now)
+      (owners_in c.args.state.now) (offsets_in c.args.state.now))
 
 -- the last unconditional
 module _ (c : goal.Then-not-names_bare) where
@@ -337,22 +284,8 @@ module _ (c : goal.Then-not-names_bare) where
 
   jumps_3 : JumpFound (over_4 c) (place_t_4 c) last_3
   jumps_3 =
-      jump_found (over_4 c) (place_t_4 c) c.in-At-jump_after.is (c.jump_after.ensures (carry_in c.args.state.now) (owners_in c.args.state.now) (offsets_in c.args.state.now))
-
-  last_together_3 : context_at (program_4 c) last_3 ≡ context_at (program_4 c) (i_4 c)
-  last_together_3 = jump_context (over_4 c) (place_t_4 c) last_3 jumps_3 ∙ t_together_4 c
-
--- the last unconditional
-module _ (c : goal.Else-not-names_bare) where
-  abbrev last_4 : ℕ
-  last_4 = c.in-At-jump_after.last.0
-
-  jumps_4 : JumpFound (over_5 c) (place_t_5 c) last_4
-  jumps_4 =
-      jump_found (over_5 c) (place_t_5 c) c.in-At-jump_after.is (c.jump_after.ensures (carry_in c.args.state.now) (owners_in c.args.state.now) (offsets_in c.args.state.now))
-
-  last_together_4 : context_at (program_5 c) last_4 ≡ context_at (program_5 c) (i_5 c)
-  last_together_4 = jump_context (over_5 c) (place_t_5 c) last_4 jumps_4 ∙ t_together_5 c
+      jump_found (over_4 c) (place_t_4 c) c.in-At-jump_after.is (c.jump_after.ensures (carry_in c.args.state.now)
+      (owners_in c.args.state.now) (offsets_in c.args.state.now))
 
 -- the last unconditional
 module _ (c : goal.Then-not-names_bare-2) where
@@ -361,7 +294,8 @@ module _ (c : goal.Then-not-names_bare-2) where
 
   jumps_5 : JumpFound (over_6 c) (place_t_6 c) last_5
   jumps_5 =
-      jump_found (over_6 c) (place_t_6 c) c.in-At-jump_after.is (c.jump_after.ensures (carry_in c.args.state.now) (owners_in c.args.state.now) (offsets_in c.args.state.now))
+      jump_found (over_6 c) (place_t_6 c) c.in-At-jump_after.is (c.jump_after.ensures (carry_in c.args.state.now)
+      (owners_in c.args.state.now) (offsets_in c.args.state.now))
 
   last_together_5 : context_at (program_6 c) last_5 ≡ context_at (program_6 c) (i_6 c)
   last_together_5 = jump_context (over_6 c) (place_t_6 c) last_5 jumps_5 ∙ t_together_6 c
@@ -373,7 +307,8 @@ module _ (c : goal.Then-references-eq1) where
 
   jumps_6 : JumpFound (over_7 c) (place_t_7 c) last_6
   jumps_6 =
-      jump_found (over_7 c) (place_t_7 c) c.in-At-jump_after.is (c.jump_after.ensures (carry_in c.args.state.now) (owners_in c.args.state.now) (offsets_in c.args.state.now))
+      jump_found (over_7 c) (place_t_7 c) c.in-At-jump_after.is (c.jump_after.ensures (carry_in c.args.state.now)
+      (owners_in c.args.state.now) (offsets_in c.args.state.now))
 
   last_together_6 : context_at (program_7 c) last_6 ≡ context_at (program_7 c) (i_7 c)
   last_together_6 = jump_context (over_7 c) (place_t_7 c) last_6 jumps_6 ∙ t_together_7 c
@@ -385,10 +320,8 @@ module _ (c : goal.Else-references-eq1) where
 
   jumps_7 : JumpFound (over_8 c) (place_t_8 c) last_7
   jumps_7 =
-      jump_found (over_8 c) (place_t_8 c) c.in-At-jump_after.is (c.jump_after.ensures (carry_in c.args.state.now) (owners_in c.args.state.now) (offsets_in c.args.state.now))
-
-  last_together_7 : context_at (program_8 c) last_7 ≡ context_at (program_8 c) (i_8 c)
-  last_together_7 = jump_context (over_8 c) (place_t_8 c) last_7 jumps_7 ∙ t_together_8 c
+      jump_found (over_8 c) (place_t_8 c) c.in-At-jump_after.is (c.jump_after.ensures (carry_in c.args.state.now)
+      (owners_in c.args.state.now) (offsets_in c.args.state.now))
 
 -- S: the whole shape
 module _ (c : goal.In-At-landing_after) where
@@ -403,9 +336,6 @@ module _ (c : goal.In-At-landing_after) where
       landing_found (over_3 c) (last_2 c) c.in-At-landing_after.is
       (c.landing_after.ensures (carry_in c.args.state.now) (owners_in c.args.state.now) (offsets_in c.args.state.now))
 
-  s_together : context_at (program_3 c) place_s ≡ context_at (program_3 c) (i_3 c)
-  s_together = landing_context (over_3 c) (last_2 c) place_s c.requires.0.held name_s lands ∙ last_together_2 c
-
   -- the three tests of names, and that of inner labels
   abbrev to_t : Bool
   to_t = names_bare (name_t_3 c) (instr_at (over_3 c) (i_3 c))
@@ -417,16 +347,23 @@ module _ (c : goal.In-At-landing_after) where
   once = eqb (references (context_at (program_3 c) (place_t_3 c)) (name_t_3 c) (program_3 c)) 1
 
   abbrev standing : Option Shape
-  standing = some (record { last = place_s; folded = drop_all (skip_3 c ∷ place_t_3 c ∷ last_2 c ∷ []) (set (program_3 c) (i_3 c) (aimed c.args.form (instr_at (over_3 c) (i_3 c)) (instr_at (over_3 c) (last_2 c)))) })
+  standing = some (
+      record {
+        last = place_s;
+        folded = drop_all (skip_3 c ∷ place_t_3 c ∷ last_2 c ∷ [])
+            (set (program_3 c) (i_3 c) (aimed c.args.form (instr_at (over_3 c) (i_3 c)) (instr_at (over_3 c) (last_2 c))));
+      })
 
   shape : trampoline_shape c.args.form (program_3 c) (i_3 c) ≡ given (to_t && (to_s && once)) standing
   shape =
-      trampoline_is c.args.form (program_3 c) (i_3 c) (skip_3 c) (opens_3 c).jumps.next_is (place_t_3 c) (opens_3 c).lands.next_is (last_2 c) (jumps_2 c).next_is place_s lands.next_is
+      trampoline_is c.args.form (program_3 c) (i_3 c) (skip_3 c) (opens_3 c).jumps.next_is (place_t_3 c) (opens_3 c).lands.next_is
+      (last_2 c) (jumps_2 c).next_is place_s lands.next_is
       (instr_at (over_3 c) (i_3 c)) (instr_at (over_3 c) (skip_3 c)) (instr_at (over_3 c) (last_2 c)) (name_t_3 c) name_s
       (opens_3 c).is (opens_3 c).jumps.is (opens_3 c).lands.is (jumps_2 c).is lands.is
 
   -- what c transfer carries
-  carries : (j : ℕ) → Moves (over_3 c) j → TargetIn c.args.frames.now (starts_in c.args.state.now) c.args.count (get_or (carry_in c.args.state.now) j 0)
+  carries : (j : ℕ) → Moves (over_3 c) j → TargetIn c.args.frames.now (starts_in c.args.state.now) c.args.count
+      (get_or (carry_in c.args.state.now) j 0)
   carries j m = carried_target (over_3 c) c.requires.0 j m.inside m.kind m.transfer
 
 -- S: the whole shape
@@ -442,9 +379,6 @@ module _ (c : goal.Then-not-names_bare) where
       landing_found (over_4 c) (last_3 c) c.in-At-landing_after.is
       (c.landing_after.ensures (carry_in c.args.state.now) (owners_in c.args.state.now) (offsets_in c.args.state.now))
 
-  s_together_2 : context_at (program_4 c) place_s_2 ≡ context_at (program_4 c) (i_4 c)
-  s_together_2 = landing_context (over_4 c) (last_3 c) place_s_2 c.requires.0.held name_s_2 lands_2 ∙ last_together_3 c
-
   -- the three tests of names, and that of inner labels
   abbrev to_t_2 : Bool
   to_t_2 = names_bare (name_t_4 c) (instr_at (over_4 c) (i_4 c))
@@ -456,55 +390,25 @@ module _ (c : goal.Then-not-names_bare) where
   once_2 = eqb (references (context_at (program_4 c) (place_t_4 c)) (name_t_4 c) (program_4 c)) 1
 
   abbrev standing_2 : Option Shape
-  standing_2 = some (record { last = place_s_2; folded = drop_all (skip_4 c ∷ place_t_4 c ∷ last_3 c ∷ []) (set (program_4 c) (i_4 c) (aimed c.args.form (instr_at (over_4 c) (i_4 c)) (instr_at (over_4 c) (last_3 c)))) })
+  standing_2 = some (
+      record {
+        last = place_s_2;
+        folded = drop_all (skip_4 c ∷ place_t_4 c ∷ last_3 c ∷ [])
+            (set (program_4 c) (i_4 c) (aimed c.args.form (instr_at (over_4 c) (i_4 c)) (instr_at (over_4 c) (last_3 c))));
+      })
 
   shape_2 : trampoline_shape c.args.form (program_4 c) (i_4 c) ≡ given (to_t_2 && (to_s_2 && once_2)) standing_2
   shape_2 =
-      trampoline_is c.args.form (program_4 c) (i_4 c) (skip_4 c) (opens_4 c).jumps.next_is (place_t_4 c) (opens_4 c).lands.next_is (last_3 c) (jumps_3 c).next_is place_s_2 lands_2.next_is
+      trampoline_is c.args.form (program_4 c) (i_4 c) (skip_4 c) (opens_4 c).jumps.next_is (place_t_4 c) (opens_4 c).lands.next_is
+      (last_3 c) (jumps_3 c).next_is place_s_2 lands_2.next_is
       (instr_at (over_4 c) (i_4 c)) (instr_at (over_4 c) (skip_4 c)) (instr_at (over_4 c) (last_3 c)) (name_t_4 c) name_s_2
       (opens_4 c).is (opens_4 c).jumps.is (opens_4 c).lands.is (jumps_3 c).is lands_2.is
 
-  -- what c transfer carries
-  carries_2 : (j : ℕ) → Moves (over_4 c) j → TargetIn c.args.frames.now (starts_in c.args.state.now) c.args.count (get_or (carry_in c.args.state.now) j 0)
-  carries_2 j m = carried_target (over_4 c) c.requires.0 j m.inside m.kind m.transfer
-
 -- S: the whole shape
 module _ (c : goal.Else-not-names_bare) where
-  abbrev place_s_3 : ℕ
-  place_s_3 = c.in-At-landing_after.s.0
-
-  abbrev name_s_3 : ℕ
-  name_s_3 = c.in-At-landing_after.field-1
-
-  lands_3 : LandingFound (over_5 c) (last_4 c) place_s_3 name_s_3
-  lands_3 =
-      landing_found (over_5 c) (last_4 c) c.in-At-landing_after.is
-      (c.landing_after.ensures (carry_in c.args.state.now) (owners_in c.args.state.now) (offsets_in c.args.state.now))
-
-  s_together_3 : context_at (program_5 c) place_s_3 ≡ context_at (program_5 c) (i_5 c)
-  s_together_3 = landing_context (over_5 c) (last_4 c) place_s_3 c.requires.0.held name_s_3 lands_3 ∙ last_together_4 c
-
-  -- the three tests of names, and that of inner labels
-  abbrev to_t_3 : Bool
-  to_t_3 = names_bare (name_t_5 c) (instr_at (over_5 c) (i_5 c))
-
-  abbrev to_s_3 : Bool
-  to_s_3 = names_bare name_s_3 (instr_at (over_5 c) (skip_5 c))
-
-  abbrev once_3 : Bool
-  once_3 = eqb (references (context_at (program_5 c) (place_t_5 c)) (name_t_5 c) (program_5 c)) 1
-
-  abbrev standing_3 : Option Shape
-  standing_3 = some (record { last = place_s_3; folded = drop_all (skip_5 c ∷ place_t_5 c ∷ last_4 c ∷ []) (set (program_5 c) (i_5 c) (aimed c.args.form (instr_at (over_5 c) (i_5 c)) (instr_at (over_5 c) (last_4 c)))) })
-
-  shape_3 : trampoline_shape c.args.form (program_5 c) (i_5 c) ≡ given (to_t_3 && (to_s_3 && once_3)) standing_3
-  shape_3 =
-      trampoline_is c.args.form (program_5 c) (i_5 c) (skip_5 c) (opens_5 c).jumps.next_is (place_t_5 c) (opens_5 c).lands.next_is (last_4 c) (jumps_4 c).next_is place_s_3 lands_3.next_is
-      (instr_at (over_5 c) (i_5 c)) (instr_at (over_5 c) (skip_5 c)) (instr_at (over_5 c) (last_4 c)) (name_t_5 c) name_s_3
-      (opens_5 c).is (opens_5 c).jumps.is (opens_5 c).lands.is (jumps_4 c).is lands_3.is
-
   -- what c transfer carries
-  carries_3 : (j : ℕ) → Moves (over_5 c) j → TargetIn c.args.frames.now (starts_in c.args.state.now) c.args.count (get_or (carry_in c.args.state.now) j 0)
+  carries_3 : (j : ℕ) → Moves (over_5 c) j → TargetIn c.args.frames.now (starts_in c.args.state.now) c.args.count
+      (get_or (carry_in c.args.state.now) j 0)
   carries_3 j m = carried_target (over_5 c) c.requires.0 j m.inside m.kind m.transfer
 
 -- S: the whole shape
@@ -534,17 +438,19 @@ module _ (c : goal.Then-not-names_bare-2) where
   once_4 = eqb (references (context_at (program_6 c) (place_t_6 c)) (name_t_6 c) (program_6 c)) 1
 
   abbrev standing_4 : Option Shape
-  standing_4 = some (record { last = place_s_4; folded = drop_all (skip_6 c ∷ place_t_6 c ∷ last_5 c ∷ []) (set (program_6 c) (i_6 c) (aimed c.args.form (instr_at (over_6 c) (i_6 c)) (instr_at (over_6 c) (last_5 c)))) })
+  standing_4 = some (
+      record {
+        last = place_s_4;
+        folded = drop_all (skip_6 c ∷ place_t_6 c ∷ last_5 c ∷ [])
+            (set (program_6 c) (i_6 c) (aimed c.args.form (instr_at (over_6 c) (i_6 c)) (instr_at (over_6 c) (last_5 c))));
+      })
 
   shape_4 : trampoline_shape c.args.form (program_6 c) (i_6 c) ≡ given (to_t_4 && (to_s_4 && once_4)) standing_4
   shape_4 =
-      trampoline_is c.args.form (program_6 c) (i_6 c) (skip_6 c) (opens_6 c).jumps.next_is (place_t_6 c) (opens_6 c).lands.next_is (last_5 c) (jumps_5 c).next_is place_s_4 lands_4.next_is
+      trampoline_is c.args.form (program_6 c) (i_6 c) (skip_6 c) (opens_6 c).jumps.next_is (place_t_6 c) (opens_6 c).lands.next_is
+      (last_5 c) (jumps_5 c).next_is place_s_4 lands_4.next_is
       (instr_at (over_6 c) (i_6 c)) (instr_at (over_6 c) (skip_6 c)) (instr_at (over_6 c) (last_5 c)) (name_t_6 c) name_s_4
       (opens_6 c).is (opens_6 c).jumps.is (opens_6 c).lands.is (jumps_5 c).is lands_4.is
-
-  -- what c transfer carries
-  carries_4 : (j : ℕ) → Moves (over_6 c) j → TargetIn c.args.frames.now (starts_in c.args.state.now) c.args.count (get_or (carry_in c.args.state.now) j 0)
-  carries_4 j m = carried_target (over_6 c) c.requires.0 j m.inside m.kind m.transfer
 
 -- S: the whole shape
 module _ (c : goal.Then-references-eq1) where
@@ -573,17 +479,19 @@ module _ (c : goal.Then-references-eq1) where
   once_5 = eqb (references (context_at (program_7 c) (place_t_7 c)) (name_t_7 c) (program_7 c)) 1
 
   abbrev standing_5 : Option Shape
-  standing_5 = some (record { last = place_s_5; folded = drop_all (skip_7 c ∷ place_t_7 c ∷ last_6 c ∷ []) (set (program_7 c) (i_7 c) (aimed c.args.form (instr_at (over_7 c) (i_7 c)) (instr_at (over_7 c) (last_6 c)))) })
+  standing_5 = some (
+      record {
+        last = place_s_5;
+        folded = drop_all (skip_7 c ∷ place_t_7 c ∷ last_6 c ∷ [])
+            (set (program_7 c) (i_7 c) (aimed c.args.form (instr_at (over_7 c) (i_7 c)) (instr_at (over_7 c) (last_6 c))));
+      })
 
   shape_5 : trampoline_shape c.args.form (program_7 c) (i_7 c) ≡ given (to_t_5 && (to_s_5 && once_5)) standing_5
   shape_5 =
-      trampoline_is c.args.form (program_7 c) (i_7 c) (skip_7 c) (opens_7 c).jumps.next_is (place_t_7 c) (opens_7 c).lands.next_is (last_6 c) (jumps_6 c).next_is place_s_5 lands_5.next_is
+      trampoline_is c.args.form (program_7 c) (i_7 c) (skip_7 c) (opens_7 c).jumps.next_is (place_t_7 c) (opens_7 c).lands.next_is
+      (last_6 c) (jumps_6 c).next_is place_s_5 lands_5.next_is
       (instr_at (over_7 c) (i_7 c)) (instr_at (over_7 c) (skip_7 c)) (instr_at (over_7 c) (last_6 c)) (name_t_7 c) name_s_5
       (opens_7 c).is (opens_7 c).jumps.is (opens_7 c).lands.is (jumps_6 c).is lands_5.is
-
-  -- what c transfer carries
-  carries_5 : (j : ℕ) → Moves (over_7 c) j → TargetIn c.args.frames.now (starts_in c.args.state.now) c.args.count (get_or (carry_in c.args.state.now) j 0)
-  carries_5 j m = carried_target (over_7 c) c.requires.0 j m.inside m.kind m.transfer
 
 -- S: the whole shape
 module _ (c : goal.Else-references-eq1) where
@@ -598,9 +506,6 @@ module _ (c : goal.Else-references-eq1) where
       landing_found (over_8 c) (last_7 c) c.in-At-landing_after.is
       (c.landing_after.ensures (carry_in c.args.state.now) (owners_in c.args.state.now) (offsets_in c.args.state.now))
 
-  s_together_6 : context_at (program_8 c) place_s_6 ≡ context_at (program_8 c) (i_8 c)
-  s_together_6 = landing_context (over_8 c) (last_7 c) place_s_6 c.requires.0.held name_s_6 lands_6 ∙ last_together_7 c
-
   -- the three tests of names, and that of inner labels
   abbrev to_t_6 : Bool
   to_t_6 = names_bare (name_t_8 c) (instr_at (over_8 c) (i_8 c))
@@ -612,17 +517,19 @@ module _ (c : goal.Else-references-eq1) where
   once_6 = eqb (references (context_at (program_8 c) (place_t_8 c)) (name_t_8 c) (program_8 c)) 1
 
   abbrev standing_6 : Option Shape
-  standing_6 = some (record { last = place_s_6; folded = drop_all (skip_8 c ∷ place_t_8 c ∷ last_7 c ∷ []) (set (program_8 c) (i_8 c) (aimed c.args.form (instr_at (over_8 c) (i_8 c)) (instr_at (over_8 c) (last_7 c)))) })
+  standing_6 = some (
+      record {
+        last = place_s_6;
+        folded = drop_all (skip_8 c ∷ place_t_8 c ∷ last_7 c ∷ [])
+            (set (program_8 c) (i_8 c) (aimed c.args.form (instr_at (over_8 c) (i_8 c)) (instr_at (over_8 c) (last_7 c))));
+      })
 
   shape_6 : trampoline_shape c.args.form (program_8 c) (i_8 c) ≡ given (to_t_6 && (to_s_6 && once_6)) standing_6
   shape_6 =
-      trampoline_is c.args.form (program_8 c) (i_8 c) (skip_8 c) (opens_8 c).jumps.next_is (place_t_8 c) (opens_8 c).lands.next_is (last_7 c) (jumps_7 c).next_is place_s_6 lands_6.next_is
+      trampoline_is c.args.form (program_8 c) (i_8 c) (skip_8 c) (opens_8 c).jumps.next_is (place_t_8 c) (opens_8 c).lands.next_is
+      (last_7 c) (jumps_7 c).next_is place_s_6 lands_6.next_is
       (instr_at (over_8 c) (i_8 c)) (instr_at (over_8 c) (skip_8 c)) (instr_at (over_8 c) (last_7 c)) (name_t_8 c) name_s_6
       (opens_8 c).is (opens_8 c).jumps.is (opens_8 c).lands.is (jumps_7 c).is lands_6.is
-
-  -- what c transfer carries
-  carries_6 : (j : ℕ) → Moves (over_8 c) j → TargetIn c.args.frames.now (starts_in c.args.state.now) c.args.count (get_or (carry_in c.args.state.now) j 0)
-  carries_6 j m = carried_target (over_8 c) c.requires.0 j m.inside m.kind m.transfer
 
 tested_t : (c : goal.Then-not-names_bare) → c.names_bare.result ≡ to_t_2 c
 tested_t c =
@@ -657,32 +564,39 @@ tested_s_2 c =
     (forms_in c.args.state.now) (offsets_in c.args.state.now) c.requires.0 m.kind m.transfer
 
 -- the links to T are its references
-counted : (c : goal.Then-references-eq1) → c.references.result ≡ references (context_at (program_7 c) (place_t_7 c)) (name_t_7 c) (program_7 c)
+counted : (c : goal.Then-references-eq1) → c.references.result ≡ references (context_at (program_7 c) (place_t_7 c)) (name_t_7 c)
+    (program_7 c)
 counted c =
     let t = over_7 c in
     let k = context_at (program_7 c) (place_t_7 c) in
     c.references.ensures (means t k (name_t_7 c)) (offsets_in c.args.state.now)
-    (refers_to t c.requires.0 (stored_7 c) c.args.links.now c.requires.1 (place_t_7 c) (name_t_7 c) (opens_7 c).lands.inside (opens_7 c).lands.is)
+    (refers_to t c.requires.0 (stored_7 c) c.args.links.now c.requires.1 (place_t_7 c) (name_t_7 c) (opens_7 c).lands.inside
+    (opens_7 c).lands.is)
     ∙ sym (references_by t k (name_t_7 c))
 
 -- the links to T are its references
-counted_2 : (c : goal.Else-references-eq1) → c.references.result ≡ references (context_at (program_8 c) (place_t_8 c)) (name_t_8 c) (program_8 c)
+counted_2 : (c : goal.Else-references-eq1) → c.references.result ≡ references (context_at (program_8 c) (place_t_8 c)) (name_t_8 c)
+    (program_8 c)
 counted_2 c =
     let t = over_8 c in
     let k = context_at (program_8 c) (place_t_8 c) in
     c.references.ensures (means t k (name_t_8 c)) (offsets_in c.args.state.now)
-    (refers_to t c.requires.0 (stored_8 c) c.args.links.now c.requires.1 (place_t_8 c) (name_t_8 c) (opens_8 c).lands.inside (opens_8 c).lands.is)
+    (refers_to t c.requires.0 (stored_8 c) c.args.links.now c.requires.1 (place_t_8 c) (name_t_8 c) (opens_8 c).lands.inside
+    (opens_8 c).lands.is)
     ∙ sym (references_by t k (name_t_8 c))
 
 pub returns-in_default-jump_after : goal.returns-in_default-jump_after
 returns-in_default-jump_after c =
     trampoline_no_last c.args.form (program c) (i c) (skip c) (opens c).jumps.next_is (place_t c) (opens c).lands.next_is
-    (jump_none (over c) (place_t c) c.in_default-jump_after.is (c.jump_after.ensures (carry_in c.args.state.now) (owners_in c.args.state.now) (offsets_in c.args.state.now)))
+    (jump_none (over c) (place_t c) c.in_default-jump_after.is (c.jump_after.ensures (carry_in c.args.state.now)
+    (owners_in c.args.state.now) (offsets_in c.args.state.now)))
 
 pub returns-in_default-landing_after : goal.returns-in_default-landing_after
 returns-in_default-landing_after c =
-    trampoline_no_label c.args.form (program_2 c) (i_2 c) (skip_2 c) (opens_2 c).jumps.next_is (place_t_2 c) (opens_2 c).lands.next_is (last c) (jumps c).next_is
-    (landing_none (over_2 c) (last c) c.in_default-landing_after.is (c.landing_after.ensures (carry_in c.args.state.now) (owners_in c.args.state.now) (offsets_in c.args.state.now)))
+    trampoline_no_label c.args.form (program_2 c) (i_2 c) (skip_2 c) (opens_2 c).jumps.next_is (place_t_2 c) (opens_2 c).lands.next_is
+    (last c) (jumps c).next_is
+    (landing_none (over_2 c) (last c) c.in_default-landing_after.is (c.landing_after.ensures (carry_in c.args.state.now)
+    (owners_in c.args.state.now) (offsets_in c.args.state.now)))
 
 pub names_bare-requires : goal.names_bare-requires
 names_bare-requires c = (c.requires.0.held, c.requires.2, carries c (i_3 c) (opens_3 c).branches, c.requires.1.beside.full)
@@ -723,9 +637,11 @@ returns-then-references-eq1 c =
           shape_5 c
           ∙ given_true _ (standing_5 c)
           (and_both (to_t_5 c) _ (sym (tested_t_2 c) ∙ c.if-not-names_bare.false)
-          (and_both (to_s_5 c) (once_5 c) (sym (tested_s_2 c) ∙ c.if-not-names_bare-2.false) (eq-eqb _ 1 (sym (counted c) ∙ c.if-references-eq1.true))));
+          (and_both (to_s_5 c) (once_5 c) (sym (tested_s_2 c) ∙ c.if-not-names_bare-2.false)
+          (eq-eqb _ 1 (sym (counted c) ∙ c.if-references-eq1.true))));
     }
 
 pub returns : goal.returns
 returns c =
-    shape_6 c ∙ given_false _ (standing_6 c) (second_false (to_t_6 c) _ (second_false (to_s_6 c) (once_6 c) (ne_eqb _ 1 (λ e. c.if-references-eq1.false (counted_2 c ∙ e)))))
+    shape_6 c ∙ given_false _ (standing_6 c)
+    (second_false (to_t_6 c) _ (second_false (to_s_6 c) (once_6 c) (ne_eqb _ 1 (λ e. c.if-references-eq1.false (counted_2 c ∙ e)))))

@@ -19,13 +19,16 @@ use Rattle.slots.specs.State.{starts_in, forms_in}
 use Rattle.patterns.proofs.targets.form_at.Goals as goal
 
 abbrev over : (c : goal.Then-count-i) (carry owners offsets : List ℕ) → Slots
-over c carry owners offsets = slots c.args.frames.now (starts_in c.args.state.now) c.args.count (forms_in c.args.state.now) carry owners offsets
+over c carry owners offsets = slots c.args.frames.now (starts_in c.args.state.now) c.args.count (forms_in c.args.state.now) carry owners
+    offsets
 
 abbrev over_2 : (c : goal.In_default) (carry owners offsets : List ℕ) → Slots
-over_2 c carry owners offsets = slots c.args.frames.now (starts_in c.args.state.now) c.args.count (forms_in c.args.state.now) carry owners offsets
+over_2 c carry owners offsets = slots c.args.frames.now (starts_in c.args.state.now) c.args.count (forms_in c.args.state.now) carry owners
+    offsets
 
 abbrev over_3 : (c : goal.In-Form) (carry owners offsets : List ℕ) → Slots
-over_3 c carry owners offsets = slots c.args.frames.now (starts_in c.args.state.now) c.args.count (forms_in c.args.state.now) carry owners offsets
+over_3 c carry owners offsets = slots c.args.frames.now (starts_in c.args.state.now) c.args.count (forms_in c.args.state.now) carry owners
+    offsets
 
 -- gone, or what is no instruction
 other : (t : Slots) (i : ℕ) (r : Slot) → Stands t i r → OneOf (0 ∷ 2 ∷ []) (tag_of slot_type r) → kind_in r ≡ 1 → ⊥
@@ -50,11 +53,6 @@ module _ (c : goal.In_default) (carry owners offsets : List ℕ) where
   none : OneOf (0 ∷ 2 ∷ []) (tag_of slot_type c.slot_at.result) → form_in (stands_at here place) ≡ gone_form
   none k = in_slot ∙ not_instr (slot_at here place) (λ e. other here place c.slot_at.result stands k (sym stands.kind ∙ e))
 
-  formed : (f : ℕ) → c.slot_at.result ≡ Form f → form_in (stands_at here place) ≡ f
-  formed f e =
-      in_slot ∙ slot_form here c.requires place c.if-count-i.false (form_stands here place c.slot_at.result stands f e)
-      ∙ sym (stands.form f e)
-
 -- behind the slot
 module _ (c : goal.In-Form) (carry owners offsets : List ℕ) where
   abbrev here_2 : Slots
@@ -68,9 +66,6 @@ module _ (c : goal.In-Form) (carry owners offsets : List ℕ) where
 
   in_slot_2 : form_in (stands_at here_2 place_2) ≡ form_in (slot_at here_2 place_2)
   in_slot_2 = ap form_in (at_program here_2 place_2 c.if-count-i.false)
-
-  none_2 : OneOf (0 ∷ 2 ∷ []) (tag_of slot_type c.slot_at.result) → form_in (stands_at here_2 place_2) ≡ gone_form
-  none_2 k = in_slot_2 ∙ not_instr (slot_at here_2 place_2) (λ e. other here_2 place_2 c.slot_at.result stands_2 k (sym stands_2.kind ∙ e))
 
   formed_2 : (f : ℕ) → c.slot_at.result ≡ Form f → form_in (stands_at here_2 place_2) ≡ f
   formed_2 f e =

@@ -24,19 +24,24 @@ use Rattle.patterns.proofs.Instructions.{no_label, low_label, high_label}
 use Rattle.patterns.proofs.targets.local_label_at.Goals as goal
 
 abbrev over : (c : goal.Then-count-i) (carry owners offsets : List ℕ) → Slots
-over c carry owners offsets = slots c.args.frames.now (starts_in c.args.state.now) c.args.count (forms_in c.args.state.now) carry owners offsets
+over c carry owners offsets = slots c.args.frames.now (starts_in c.args.state.now) c.args.count (forms_in c.args.state.now) carry owners
+    offsets
 
 abbrev over_2 : (c : goal.In_default) (carry owners offsets : List ℕ) → Slots
-over_2 c carry owners offsets = slots c.args.frames.now (starts_in c.args.state.now) c.args.count (forms_in c.args.state.now) carry owners offsets
+over_2 c carry owners offsets = slots c.args.frames.now (starts_in c.args.state.now) c.args.count (forms_in c.args.state.now) carry owners
+    offsets
 
 abbrev over_3 : (c : goal.In_default-statement) (carry owners offsets : List ℕ) → Slots
-over_3 c carry owners offsets = slots c.args.frames.now (starts_in c.args.state.now) c.args.count (forms_in c.args.state.now) carry owners offsets
+over_3 c carry owners offsets = slots c.args.frames.now (starts_in c.args.state.now) c.args.count (forms_in c.args.state.now) carry owners
+    offsets
 
 abbrev over_4 : (c : goal.Then-name-lt32768) (carry owners offsets : List ℕ) → Slots
-over_4 c carry owners offsets = slots c.args.frames.now (starts_in c.args.state.now) c.args.count (forms_in c.args.state.now) carry owners offsets
+over_4 c carry owners offsets = slots c.args.frames.now (starts_in c.args.state.now) c.args.count (forms_in c.args.state.now) carry owners
+    offsets
 
 abbrev over_5 : (c : goal.Else-name-lt32768) (carry owners offsets : List ℕ) → Slots
-over_5 c carry owners offsets = slots c.args.frames.now (starts_in c.args.state.now) c.args.count (forms_in c.args.state.now) carry owners offsets
+over_5 c carry owners offsets = slots c.args.frames.now (starts_in c.args.state.now) c.args.count (forms_in c.args.state.now) carry owners
+    offsets
 
 -- behind the slot
 module _ (c : goal.In_default) (carry owners offsets : List ℕ) where
@@ -55,11 +60,6 @@ module _ (c : goal.In_default) (carry owners offsets : List ℕ) where
       ap (λ x. label_as (local_label x)) stands
       ∙ no_label (slot_at here place) (λ e. n (sym (c.slot_at.ensures carry owners offsets).kind ∙ e))
 
-  -- the name, as the slot has it
-  named : (n : ℕ) → c.slot_at.result ≡ Holds (Label n) → stands_at here place ≡ label n
-  unfolding stmt_of
-  named n e = stands ∙ ((c.slot_at.ensures carry owners offsets).holds (Label n) e).means
-
 -- behind the slot
 module _ (c : goal.In_default-statement) (carry owners offsets : List ℕ) where
   abbrev here_2 : Slots
@@ -77,11 +77,6 @@ module _ (c : goal.In_default-statement) (carry owners offsets : List ℕ) where
       ap (λ x. label_as (local_label x)) stands_2
       ∙ no_label (slot_at here_2 place_2) (λ e. n (sym (c.slot_at.ensures carry owners offsets).kind ∙ e))
 
-  -- the name, as the slot has it
-  named_2 : (n : ℕ) → c.slot_at.result ≡ Holds (Label n) → stands_at here_2 place_2 ≡ label n
-  unfolding stmt_of
-  named_2 n e = stands_2 ∙ ((c.slot_at.ensures carry owners offsets).holds (Label n) e).means
-
 -- behind the slot
 module _ (c : goal.Then-name-lt32768) (carry owners offsets : List ℕ) where
   abbrev here_3 : Slots
@@ -92,12 +87,6 @@ module _ (c : goal.Then-name-lt32768) (carry owners offsets : List ℕ) where
 
   stands_3 : stands_at here_3 place_3 ≡ slot_at here_3 place_3
   stands_3 = at_program here_3 place_3 c.if-count-i.false
-
-  -- what is no label by its variant is none
-  none_3 : (kind_in c.slot_at.result ≡ 2 → ⊥) → label_as (local_label (stands_at here_3 place_3)) ≡ Nothing
-  none_3 n =
-      ap (λ x. label_as (local_label x)) stands_3
-      ∙ no_label (slot_at here_3 place_3) (λ e. n (sym (c.slot_at.ensures carry owners offsets).kind ∙ e))
 
   -- the name, as the slot has it
   named_3 : (n : ℕ) → c.slot_at.result ≡ Holds (Label n) → stands_at here_3 place_3 ≡ label n
@@ -114,12 +103,6 @@ module _ (c : goal.Else-name-lt32768) (carry owners offsets : List ℕ) where
 
   stands_4 : stands_at here_4 place_4 ≡ slot_at here_4 place_4
   stands_4 = at_program here_4 place_4 c.if-count-i.false
-
-  -- what is no label by its variant is none
-  none_4 : (kind_in c.slot_at.result ≡ 2 → ⊥) → label_as (local_label (stands_at here_4 place_4)) ≡ Nothing
-  none_4 n =
-      ap (λ x. label_as (local_label x)) stands_4
-      ∙ no_label (slot_at here_4 place_4) (λ e. n (sym (c.slot_at.ensures carry owners offsets).kind ∙ e))
 
   -- the name, as the slot has it
   named_4 : (n : ℕ) → c.slot_at.result ≡ Holds (Label n) → stands_at here_4 place_4 ≡ label n
@@ -141,7 +124,8 @@ is_label_2 : (c : goal.Else-name-lt32768) →
 is_label_2 c = c.in-Holds.is ∙ ap Holds c.in-Label.is
 
 pub returns-then-count-i : goal.returns-then-count-i
-returns-then-count-i c carry owners offsets = sym (ap (λ x. label_as (local_label x)) (past_program (over c carry owners offsets) c.args.at.0 c.if-count-i.true) ∙ no_label _ (λ e. omega arith))
+returns-then-count-i c carry owners offsets = sym (ap (λ x. label_as (local_label x)) (past_program (over c carry owners offsets)
+    c.args.at.0 c.if-count-i.true) ∙ no_label _ (λ e. omega arith))
 
 pub returns-in_default : goal.returns-in_default
 returns-in_default c carry owners offsets =
@@ -150,7 +134,8 @@ returns-in_default c carry owners offsets =
 
 pub returns-in_default-statement : goal.returns-in_default-statement
 returns-in_default-statement c carry owners offsets =
-    sym (none_2 c carry owners offsets (λ e. other c.in-Holds.statement (opened c.in_default-statement.in_default-statement-own.keys2) (sym (ap kind_in c.in-Holds.is) ∙ e)))
+    sym (none_2 c carry owners offsets (λ e. other c.in-Holds.statement (opened c.in_default-statement.in_default-statement-own.keys2)
+    (sym (ap kind_in c.in-Holds.is) ∙ e)))
 
 pub returns-then-name-lt32768 : goal.returns-then-name-lt32768
 returns-then-name-lt32768 c carry owners offsets =

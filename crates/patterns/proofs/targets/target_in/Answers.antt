@@ -53,7 +53,8 @@ begins : (c : goal.After-argument_at-a) →
     c.argument_at-a.result ≡ argument_at s (operands_at (get_or s 1 0)) 2 (last s)
 begins c =
     let s = frame_2 c in
-    c.argument_at-a.ensures s (c.requires.0.noted c.args.at.0 c.requires.1.inside) c.requires.1.instruction (omega (arith, counted_2 c, some_2 c))
+    c.argument_at-a.ensures s (c.requires.0.noted c.args.at.0 c.requires.1.inside) c.requires.1.instruction
+    (omega (arith, counted_2 c, some_2 c))
     ∙ ap (λ (n : ℕ). argument_at s (operands_at (get_or s 1 0)) 2 (n - 1)) (counted_2 c)
 
 -- where the target begins
@@ -62,7 +63,8 @@ begins_2 : (c : goal.After-result-1) →
     c.argument_at-a.result ≡ argument_at s (operands_at (get_or s 1 0)) 2 (last s)
 begins_2 c =
     let s = frame_3 c in
-    c.argument_at-a.ensures s (c.requires.0.noted c.args.at.0 c.requires.1.inside) c.requires.1.instruction (omega (arith, counted_3 c, some_3 c))
+    c.argument_at-a.ensures s (c.requires.0.noted c.args.at.0 c.requires.1.inside) c.requires.1.instruction
+    (omega (arith, counted_3 c, some_3 c))
     ∙ ap (λ (n : ℕ). argument_at s (operands_at (get_or s 1 0)) 2 (n - 1)) (counted_3 c)
 
 inside : (c : goal.After-argument_at-a) → c.argument_at-a.result < length c.frame_at-frame.result.now

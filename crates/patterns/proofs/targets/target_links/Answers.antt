@@ -55,7 +55,8 @@ begins : (c : goal.After-argument_at-a) →
     c.argument_at-a.result ≡ argument_at s (operands_at (get_or s 1 0)) 2 (last s)
 begins c =
     let s = frame_2 c in
-    c.argument_at-a.ensures s (c.requires.0.noted c.args.at.0 c.requires.1.inside) c.requires.1.instruction (omega (arith, counted_2 c, some_2 c))
+    c.argument_at-a.ensures s (c.requires.0.noted c.args.at.0 c.requires.1.inside) c.requires.1.instruction
+    (omega (arith, counted_2 c, some_2 c))
     ∙ ap (λ (n : ℕ). argument_at s (operands_at (get_or s 1 0)) 2 (n - 1)) (counted_2 c)
 
 -- where the target begins
@@ -64,7 +65,8 @@ begins_2 : (c : goal.After-result-1) →
     c.argument_at-a.result ≡ argument_at s (operands_at (get_or s 1 0)) 2 (last s)
 begins_2 c =
     let s = frame_3 c in
-    c.argument_at-a.ensures s (c.requires.0.noted c.args.at.0 c.requires.1.inside) c.requires.1.instruction (omega (arith, counted_3 c, some_3 c))
+    c.argument_at-a.ensures s (c.requires.0.noted c.args.at.0 c.requires.1.inside) c.requires.1.instruction
+    (omega (arith, counted_3 c, some_3 c))
     ∙ ap (λ (n : ℕ). argument_at s (operands_at (get_or s 1 0)) 2 (n - 1)) (counted_3 c)
 
 inside : (c : goal.After-argument_at-a) → c.argument_at-a.result < length c.links_at-beside.result.now
@@ -74,12 +76,14 @@ inside c =
       begins c,
       target_inside _ _ _ c.requires.0 c.args.at.0 c.requires.1,
       ap length c.links_at-beside.ensures,
-      length_beside c.args.frames.now (starts_in c.args.state.now) c.args.count c.requires.0 c.args.links.now c.requires.2 c.args.at.0 c.requires.1.inside,
+      length_beside c.args.frames.now (starts_in c.args.state.now) c.args.count c.requires.0 c.args.links.now c.requires.2 c.args.at.0
+          c.requires.1.inside,
     )
 
 pub links_at-beside-requires : goal.links_at-beside-requires
 links_at-beside-requires c =
-    spans c.args.frames.now (starts_in c.args.state.now) c.args.count c.requires.0 c.args.links.now c.requires.2 c.args.at.0 c.requires.1.inside
+    spans c.args.frames.now (starts_in c.args.state.now) c.args.count c.requires.0 c.args.links.now c.requires.2 c.args.at.0
+    c.requires.1.inside
 
 pub bounds-frame-1 : goal.bounds-frame-1
 bounds-frame-1 c =
@@ -96,7 +100,8 @@ pub offset_bounds-beside-a : goal.offset_bounds-beside-a
 offset_bounds-beside-a c =
     let few : length (frame_at c.args.links.now (starts_in c.args.state.now) c.args.at.0) ≤ 28672 = omega (
       arith,
-      length_beside c.args.frames.now (starts_in c.args.state.now) c.args.count c.requires.0 c.args.links.now c.requires.2 c.args.at.0 c.requires.1.inside,
+      length_beside c.args.frames.now (starts_in c.args.state.now) c.args.count c.requires.0 c.args.links.now c.requires.2 c.args.at.0
+          c.requires.1.inside,
       length_frame c.args.frames.now (starts_in c.args.state.now) c.args.count c.requires.0 c.args.at.0 c.requires.1.inside,
       (bounds c.args.frames.now (starts_in c.args.state.now) c.args.count c.requires.0 c.args.at.0 c.requires.1.inside).within,
     ) in

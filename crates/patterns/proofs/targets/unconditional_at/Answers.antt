@@ -10,4 +10,5 @@ use Rattle.patterns.proofs.targets.unconditional_at.Goals as goal
 pub returns : goal.returns
 returns c carry owners offsets =
     let t = slots c.args.frames.now (starts_in c.args.state.now) c.args.count (forms_in c.args.state.now) carry owners offsets in
-    c.is_unconditional.ensures ∙ ap (λ f. is_unconditional f) (c.form_at.ensures carry owners offsets) ∙ sym (unconditional_form (stands_at t c.args.at.0))
+    c.is_unconditional.ensures ∙ ap (λ f. is_unconditional f) (c.form_at.ensures carry owners offsets)
+    ∙ sym (unconditional_form (stands_at t c.args.at.0))
