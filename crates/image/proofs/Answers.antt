@@ -22,7 +22,8 @@ unfolding ◌>>=◌
 bind_id (ok a) = refl
 bind_id (no r) = refl
 
-pub bind_bind : {A B C : Type 0} (x : Judged A) (f : A → B) (g : B → C) → (x >>= (λ a. ok (f a))) >>= (λ b. ok (g b)) ≡ x >>= (λ a. ok (g (f a)))
+pub bind_bind : {A B C : Type 0} (x : Judged A) (f : A → B) (g : B → C) → (x >>= (λ a. ok (f a))) >>= (λ b. ok (g b))
+    ≡ x >>= (λ a. ok (g (f a)))
 unfolding ◌>>=◌
 bind_bind (ok a) f g = refl
 bind_bind (no r) f g = refl

@@ -33,9 +33,6 @@ module _ (c : goal.In-Bytes) where
   stands : Stands here.slots place c.slot_at.result
   stands = c.slot_at.ensures (carry_in c.args.state.now) (owners_in c.args.state.now) (offsets_in c.args.state.now)
 
-  passes : plain (kind_of (slot_at here.slots place)) ≡ true → Passes ≡ checked_as (encode_at here place)
-  passes o = sym (ap checked_as (plain_zeros here place o))
-
 module _ (c : goal.In-Words) where
   abbrev here_2 : Tables
   here_2 =
@@ -47,9 +44,6 @@ module _ (c : goal.In-Words) where
 
   stands_2 : Stands here_2.slots place_2 c.slot_at.result
   stands_2 = c.slot_at.ensures (carry_in c.args.state.now) (owners_in c.args.state.now) (offsets_in c.args.state.now)
-
-  passes_2 : plain (kind_of (slot_at here_2.slots place_2)) ≡ true → Passes ≡ checked_as (encode_at here_2 place_2)
-  passes_2 o = sym (ap checked_as (plain_zeros here_2 place_2 o))
 
 module _ (c : goal.In-Gone) where
   abbrev here_3 : Tables
@@ -78,9 +72,6 @@ module _ (c : goal.After-check_items) where
   stands_4 : Stands here_4.slots place_4 c.slot_at.result
   stands_4 = c.slot_at.ensures (carry_in c.args.state.now) (owners_in c.args.state.now) (offsets_in c.args.state.now)
 
-  passes_4 : plain (kind_of (slot_at here_4.slots place_4)) ≡ true → Passes ≡ checked_as (encode_at here_4 place_4)
-  passes_4 o = sym (ap checked_as (plain_zeros here_4 place_4 o))
-
 module _ (c : goal.After-check_items-in-Words) where
   abbrev here_5 : Tables
   here_5 =
@@ -92,9 +83,6 @@ module _ (c : goal.After-check_items-in-Words) where
 
   stands_5 : Stands here_5.slots place_5 c.slot_at.result
   stands_5 = c.slot_at.ensures (carry_in c.args.state.now) (owners_in c.args.state.now) (offsets_in c.args.state.now)
-
-  passes_5 : plain (kind_of (slot_at here_5.slots place_5)) ≡ true → Passes ≡ checked_as (encode_at here_5 place_5)
-  passes_5 o = sym (ap checked_as (plain_zeros here_5 place_5 o))
 
 module _ (c : goal.In-Instr) where
   abbrev here_6 : Tables
@@ -175,15 +163,10 @@ module _ (c : goal.In-Instr) where
   is_5 : c.slot_at.result ≡ Holds found_5
   is_5 = c.in-Holds.is
 
-  data_here_5 : (what : Data) (n : ℕ) (a : Arg) → found_5 ≡ of_code what n a
-      → DataSlot (here_6 c) (place_6 c) what n c.frame_at-frame.result.now c.links_at-beside.result.now
-  data_here_5 what n a e =
-      data_slot (here_6 c) c.requires.0 (place_6 c) c.requires.1 c.slot_at.result (stands_6 c) n a what
-      (is_5 ∙ ap Holds e) _ _ c.frame_at-frame.ensures c.links_at-beside.ensures
-
 pub links_at-beside-requires : goal.links_at-beside-requires
 links_at-beside-requires c =
-    spans c.args.frames.now (starts_in c.args.state.now) c.args.count c.requires.0.sound.held c.args.links.now c.requires.0.says.full c.args.at.0 c.requires.1
+    spans c.args.frames.now (starts_in c.args.state.now) c.args.count c.requires.0.sound.held c.args.links.now c.requires.0.says.full
+    c.args.at.0 c.requires.1
 
 pub check_items-requires : goal.check_items-requires
 check_items-requires c =

@@ -26,26 +26,8 @@ use Rattle.slots.specs.State.{forms_in, carry_in}
 use Rattle.image.proofs.codes.encode_at.Goals as goal
 
 module _ (s : goal.After-size) where
-  abbrev here : Tables
-  here =
-      tables_of s.args.frames.now s.args.state.now s.args.count
-      s.args.links.now s.args.values.now s.args.positions.now
-
   abbrev place : ℕ
   place = s.args.at.0
-
-  abbrev form : ℕ
-  form = get_or (forms_in s.args.state.now) place 0
-
-  low : place < 1024
-  low = omega (arith, s.requires.1, s.requires.0.sound.held.few)
-
-  same_count : length (args_of (slot_at here.slots place)) ≡ length (operands_at form)
-  same_count = count_args here.slots s.requires.0.sound.held place s.requires.1 s.requires.2 (s.requires.0.sound.forms place s.requires.1 s.requires.2)
-
-  -- the form is one of the seventy
-  known : form < 70
-  known = (s.requires.0.sound.forms place s.requires.1 s.requires.2).known
 
 module _ (s : goal.After-after-n) where
   abbrev here_2 : Tables
@@ -59,16 +41,6 @@ module _ (s : goal.After-after-n) where
   abbrev form_2 : ℕ
   form_2 = get_or (forms_in s.args.state.now) place_2 0
 
-  low_2 : place_2 < 1024
-  low_2 = omega (arith, s.requires.1, s.requires.0.sound.held.few)
-
-  same_count_2 : length (args_of (slot_at here_2.slots place_2)) ≡ length (operands_at form_2)
-  same_count_2 = count_args here_2.slots s.requires.0.sound.held place_2 s.requires.1 s.requires.2 (s.requires.0.sound.forms place_2 s.requires.1 s.requires.2)
-
-  -- the form is one of the seventy
-  known_2 : form_2 < 70
-  known_2 = (s.requires.0.sound.forms place_2 s.requires.1 s.requires.2).known
-
 module _ (s : goal.In-loop-j) where
   abbrev here_3 : Tables
   here_3 =
@@ -80,16 +52,6 @@ module _ (s : goal.In-loop-j) where
 
   abbrev form_3 : ℕ
   form_3 = get_or (forms_in s.args.state.now) place_3 0
-
-  low_3 : place_3 < 1024
-  low_3 = omega (arith, s.requires.1, s.requires.0.sound.held.few)
-
-  same_count_3 : length (args_of (slot_at here_3.slots place_3)) ≡ length (operands_at form_3)
-  same_count_3 = count_args here_3.slots s.requires.0.sound.held place_3 s.requires.1 s.requires.2 (s.requires.0.sound.forms place_3 s.requires.1 s.requires.2)
-
-  -- the form is one of the seventy
-  known_3 : form_3 < 70
-  known_3 = (s.requires.0.sound.forms place_3 s.requires.1 s.requires.2).known
 
 module _ (s : goal.In-Is) where
   abbrev here_4 : Tables
@@ -103,15 +65,9 @@ module _ (s : goal.In-Is) where
   abbrev form_4 : ℕ
   form_4 = get_or (forms_in s.args.state.now) place_4 0
 
-  low_4 : place_4 < 1024
-  low_4 = omega (arith, s.requires.1, s.requires.0.sound.held.few)
-
   same_count_4 : length (args_of (slot_at here_4.slots place_4)) ≡ length (operands_at form_4)
-  same_count_4 = count_args here_4.slots s.requires.0.sound.held place_4 s.requires.1 s.requires.2 (s.requires.0.sound.forms place_4 s.requires.1 s.requires.2)
-
-  -- the form is one of the seventy
-  known_4 : form_4 < 70
-  known_4 = (s.requires.0.sound.forms place_4 s.requires.1 s.requires.2).known
+  same_count_4 = count_args here_4.slots s.requires.0.sound.held place_4 s.requires.1 s.requires.2
+      (s.requires.0.sound.forms place_4 s.requires.1 s.requires.2)
 
 module _ (s : goal.In-Refused) where
   abbrev here_5 : Tables
@@ -125,15 +81,9 @@ module _ (s : goal.In-Refused) where
   abbrev form_5 : ℕ
   form_5 = get_or (forms_in s.args.state.now) place_5 0
 
-  low_5 : place_5 < 1024
-  low_5 = omega (arith, s.requires.1, s.requires.0.sound.held.few)
-
   same_count_5 : length (args_of (slot_at here_5.slots place_5)) ≡ length (operands_at form_5)
-  same_count_5 = count_args here_5.slots s.requires.0.sound.held place_5 s.requires.1 s.requires.2 (s.requires.0.sound.forms place_5 s.requires.1 s.requires.2)
-
-  -- the form is one of the seventy
-  known_5 : form_5 < 70
-  known_5 = (s.requires.0.sound.forms place_5 s.requires.1 s.requires.2).known
+  same_count_5 = count_args here_5.slots s.requires.0.sound.held place_5 s.requires.1 s.requires.2
+      (s.requires.0.sound.forms place_5 s.requires.1 s.requires.2)
 
 module _ (s : goal.After-encode) where
   abbrev here_6 : Tables
@@ -147,15 +97,9 @@ module _ (s : goal.After-encode) where
   abbrev form_6 : ℕ
   form_6 = get_or (forms_in s.args.state.now) place_6 0
 
-  low_6 : place_6 < 1024
-  low_6 = omega (arith, s.requires.1, s.requires.0.sound.held.few)
-
   same_count_6 : length (args_of (slot_at here_6.slots place_6)) ≡ length (operands_at form_6)
-  same_count_6 = count_args here_6.slots s.requires.0.sound.held place_6 s.requires.1 s.requires.2 (s.requires.0.sound.forms place_6 s.requires.1 s.requires.2)
-
-  -- the form is one of the seventy
-  known_6 : form_6 < 70
-  known_6 = (s.requires.0.sound.forms place_6 s.requires.1 s.requires.2).known
+  same_count_6 = count_args here_6.slots s.requires.0.sound.held place_6 s.requires.1 s.requires.2
+      (s.requires.0.sound.forms place_6 s.requires.1 s.requires.2)
 
 -- the address after the instruction
 ends_at : (c : goal.After-after-n) →
@@ -227,15 +171,20 @@ loop-j-init c =
       omega arith,
       refl,
       λ m l. none m,
-      left_start d.entries p (place_2 c) (context_at p (place_2 c)) c.after-n.result.0 (form_2 c) (get_or (carry_in c.args.state.now) (place_2 c) 0) q
-          (aimed_at d.slots (form_2 c) (get_or (carry_in c.args.state.now) (place_2 c) 0) (args_of (written d.slots (place_2 c)))) (slot_at d.slots (place_2 c)) (0 ∷ 0 ∷ 0 ∷ [])
+      left_start d.entries p (place_2 c) (context_at p (place_2 c)) c.after-n.result.0 (form_2 c) (get_or (carry_in c.args.state.now)
+          (place_2 c) 0) q
+          (aimed_at d.slots (form_2 c) (get_or (carry_in c.args.state.now) (place_2 c) 0) (args_of (written d.slots (place_2 c))))
+          (slot_at d.slots (place_2 c)) (0 ∷ 0 ∷ 0 ∷ [])
           (slot_is d.slots c.requires.0.sound.held (place_2 c) c.requires.1 c.requires.2)
           (ends_at c ∙ ap (λ n. n + size_at (form_2 c)) (c.requires.0.position (place_2 c) (omega (arith, c.requires.1)))),
     )
 
 pub field_at-requires : goal.field_at-requires
 field_at-requires c =
-    record { fact = (c.requires.0, c.requires.1, c.requires.2); j_in_bounds = (some c, omega (arith, ends_at_2 c, end_low (here_3 c) c.requires.0 (place_3 c) c.requires.1 c.requires.2)) }
+    record {
+      fact = (c.requires.0, c.requires.1, c.requires.2);
+      j_in_bounds = (some c, omega (arith, ends_at_2 c, end_low (here_3 c) c.requires.0 (place_3 c) c.requires.1 c.requires.2));
+    }
 
 pub offset_bounds-fields-j : goal.offset_bounds-fields-j
 offset_bounds-fields-j c = record { fits = omega (arith, inside c) }
@@ -249,11 +198,13 @@ returns-in-Refused c =
     let d = here_5 c in
     let p = program d in
     let n = c.after-n.result.0 in
-    let x = field_of d.entries p (place_5 c) (context_at p (place_5 c)) n l.j (get_or (operands_at (form_5 c)) l.j Reg) (operand_at d.slots (place_5 c) l.j) in
+    let x = field_of d.entries p (place_5 c) (context_at p (place_5 c)) n l.j (get_or (operands_at (form_5 c)) l.j Reg)
+    (operand_at d.slots (place_5 c) l.j) in
     sym
     (ap encoded_as
     (l.invariant.3
-    ∙ left_no d.entries p (place_5 c) (context_at p (place_5 c)) n (form_5 c) (args_of (slot_at d.slots (place_5 c))) (same_count_5 c) l.j l.fields c.in-Refused.r
+    ∙ left_no d.entries p (place_5 c) (context_at p (place_5 c)) n (form_5 c) (args_of (slot_at d.slots (place_5 c))) (same_count_5 c) l.j
+    l.fields c.in-Refused.r
     (some_3 c) (field_no x c.field_at.ensures c.in-Refused.is)))
 
 pub loop-j-preserved : goal.loop-j-preserved
@@ -263,13 +214,15 @@ loop-j-preserved c =
     let p = program d in
     let n = c.after-n.result.0 in
     let v = c.in-Is.v in
-    let x = field_of d.entries p (place_4 c) (context_at p (place_4 c)) n l.j (get_or (operands_at (form_4 c)) l.j Reg) (operand_at d.slots (place_4 c) l.j) in
+    let x = field_of d.entries p (place_4 c) (context_at p (place_4 c)) n l.j (get_or (operands_at (form_4 c)) l.j Reg)
+    (operand_at d.slots (place_4 c) l.j) in
     let left = left_of d.entries p (place_4 c) (context_at p (place_4 c)) n (form_4 c) (args_of (slot_at d.slots (place_4 c))) in (
       omega (arith, some_2 c),
       length-set l.fields l.j v ∙ l.invariant.1,
       λ m h. get_or-set_other l.fields l.j m v 0 (λ e. omega arith) ∙ l.invariant.2 m (omega arith),
       l.invariant.3
-          ∙ left_ok d.entries p (place_4 c) (context_at p (place_4 c)) n (form_4 c) (args_of (slot_at d.slots (place_4 c))) (same_count_4 c) l.j l.fields v
+          ∙ left_ok d.entries p (place_4 c) (context_at p (place_4 c)) n (form_4 c) (args_of (slot_at d.slots (place_4 c)))
+          (same_count_4 c) l.j l.fields v
           (some_2 c) (omega (arith, inside c, l.invariant.1)) (field_ok x c.field_at.ensures c.in-Is.is)
           ∙ ap (λ m. left m (set l.fields l.j v)) (sym (add-one l.j)),
     )
@@ -288,5 +241,6 @@ returns c =
     ∙ sym
     (ap encoded_as
     (l.invariant.3
-    ∙ left_end d.entries p (place_6 c) (context_at p (place_6 c)) c.after-n.result.0 (form_6 c) (args_of (slot_at d.slots (place_6 c))) (same_count_6 c) l.j l.fields
+    ∙ left_end d.entries p (place_6 c) (context_at p (place_6 c)) c.after-n.result.0 (form_6 c) (args_of (slot_at d.slots (place_6 c)))
+    (same_count_6 c) l.j l.fields
     all (omega (arith, few_operands (form_6 c), l.invariant.0, l.invariant.1)) l.invariant.2))

@@ -17,7 +17,8 @@ invariant-loop-j l =
     let d = tables_of l.frames l.state l.count l.links l.values l.positions in
     let form = get_or (forms_in l.state) l.at.0 0 in
     (l.j ≤ length (operands_at form)) × (length l.fields ≡ 3) × ((m : ℕ) → l.j ≤ m → get_or l.fields m 0 ≡ 0)
-    × (encode_at d l.at.0 ≡ left_of d.entries (program d) l.at.0 (context_at (program d) l.at.0) l.n.0 form (args_of (slot_at d.slots l.at.0)) l.j l.fields)
+    × (encode_at d l.at.0 ≡ left_of d.entries (program d) l.at.0 (context_at (program d) l.at.0) l.n.0 form
+    (args_of (slot_at d.slots l.at.0)) l.j l.fields)
 
 abbrev pub decreases-loop-j : goal.decreases-loop-j
 decreases-loop-j l = length (operands_at (get_or (forms_in l.state) l.at.0 0)) - l.j

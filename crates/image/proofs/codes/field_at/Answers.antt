@@ -62,21 +62,27 @@ kind_is_2 c =
 
 -- the worth, as the program has it
 worth_is : (c : goal.After-field_of) (o : Outcome) → c.argument_worth.result ≡ o →
-    worth_of (here c).entries (program (here c)) (context_at (program (here c)) c.args.at.0) (operand_at (here c).slots c.args.at.0 c.args.j) ≡ o
+    worth_of (here c).entries (program (here c)) (context_at (program (here c)) c.args.at.0) (operand_at (here c).slots c.args.at.0
+    c.args.j) ≡ o
 worth_is c o q =
-    sym (worth_at_lem (here c) c.requires.fact.0 c.args.at.0 c.requires.fact.1 c.requires.fact.2 c.args.j c.requires.j_in_bounds.0) ∙ sym c.argument_worth.ensures ∙ q
+    sym (worth_at_lem (here c) c.requires.fact.0 c.args.at.0 c.requires.fact.1 c.requires.fact.2 c.args.j c.requires.j_in_bounds.0)
+    ∙ sym c.argument_worth.ensures ∙ q
 
 -- the worth, as the program has it
 worth_is_2 : (c : goal.In-Unknown) (o : Outcome) → c.argument_worth.result ≡ o →
-    worth_of (here_2 c).entries (program (here_2 c)) (context_at (program (here_2 c)) c.args.at.0) (operand_at (here_2 c).slots c.args.at.0 c.args.j) ≡ o
+    worth_of (here_2 c).entries (program (here_2 c)) (context_at (program (here_2 c)) c.args.at.0) (operand_at (here_2 c).slots c.args.at.0
+    c.args.j) ≡ o
 worth_is_2 c o q =
-    sym (worth_at_lem (here_2 c) c.requires.fact.0 c.args.at.0 c.requires.fact.1 c.requires.fact.2 c.args.j c.requires.j_in_bounds.0) ∙ sym c.argument_worth.ensures ∙ q
+    sym (worth_at_lem (here_2 c) c.requires.fact.0 c.args.at.0 c.requires.fact.1 c.requires.fact.2 c.args.j c.requires.j_in_bounds.0)
+    ∙ sym c.argument_worth.ensures ∙ q
 
 -- the worth, as the program has it
 worth_is_3 : (c : goal.In-Nothing-argument_worth) (o : Outcome) → c.argument_worth.result ≡ o →
-    worth_of (here_3 c).entries (program (here_3 c)) (context_at (program (here_3 c)) c.args.at.0) (operand_at (here_3 c).slots c.args.at.0 c.args.j) ≡ o
+    worth_of (here_3 c).entries (program (here_3 c)) (context_at (program (here_3 c)) c.args.at.0) (operand_at (here_3 c).slots c.args.at.0
+    c.args.j) ≡ o
 worth_is_3 c o q =
-    sym (worth_at_lem (here_3 c) c.requires.fact.0 c.args.at.0 c.requires.fact.1 c.requires.fact.2 c.args.j c.requires.j_in_bounds.0) ∙ sym c.argument_worth.ensures ∙ q
+    sym (worth_at_lem (here_3 c) c.requires.fact.0 c.args.at.0 c.requires.fact.1 c.requires.fact.2 c.args.j c.requires.j_in_bounds.0)
+    ∙ sym c.argument_worth.ensures ∙ q
 
 -- a value that was passed on is read back from its bits
 as_passed : (c : goal.After-field_of) → at32 c.in-Is-argument_worth.v ≡ c.in-Is-argument_worth.v
@@ -94,22 +100,26 @@ returns-in-Is-argument_worth c =
     c.field_of.ensures
     ∙ ap (λ y. field_as (field i c.args.j n kind (held kind y))) same
     ∙ ap (λ y. field_as (field i c.args.j n kind y))
-    (value_held d.slots c.requires.fact.0.sound i c.requires.fact.1 c.requires.fact.2 c.args.j c.requires.j_in_bounds.0 d.entries d.positions (get_or d.contexts i 0) z kind is
+    (value_held d.slots c.requires.fact.0.sound i c.requires.fact.1 c.requires.fact.2 c.args.j c.requires.j_in_bounds.0 d.entries
+    d.positions (get_or d.contexts i 0) z kind is
     (sym c.argument_worth.ensures ∙ c.in-Is-argument_worth.is))
     ∙ ap (λ y. field_as (field i c.args.j n y z)) is
-    ∙ ap field_as (sym (field_value d.entries (program d) i (context_at (program d) i) n c.args.j (get_or (kinds c) c.args.j Reg) (operand_at d.slots i c.args.j) z (worth_is c (Is z) c.in-Is-argument_worth.is)))
+    ∙ ap field_as (sym (field_value d.entries (program d) i (context_at (program d) i) n c.args.j (get_or (kinds c) c.args.j Reg)
+    (operand_at d.slots i c.args.j) z (worth_is c (Is z) c.in-Is-argument_worth.is)))
 
 pub returns-in-Unknown : goal.returns-in-Unknown
 returns-in-Unknown c =
     let d = here_2 c in
     let i = c.args.at.0 in
-    ap field_as (sym (field_unknown d.entries (program d) i (context_at (program d) i) c.args.n.0 c.args.j (get_or (kinds_2 c) c.args.j Reg) (operand_at d.slots i c.args.j) (worth_is_2 c Unknown c.in-Unknown.is)))
+    ap field_as (sym (field_unknown d.entries (program d) i (context_at (program d) i) c.args.n.0 c.args.j
+    (get_or (kinds_2 c) c.args.j Reg) (operand_at d.slots i c.args.j) (worth_is_2 c Unknown c.in-Unknown.is)))
 
 pub returns-in-Nothing-argument_worth : goal.returns-in-Nothing-argument_worth
 returns-in-Nothing-argument_worth c =
     let d = here_3 c in
     let i = c.args.at.0 in
-    ap field_as (sym (field_nothing d.entries (program d) i (context_at (program d) i) c.args.n.0 c.args.j (get_or (kinds_3 c) c.args.j Reg) (operand_at d.slots i c.args.j) (worth_is_3 c Nothing c.in-Nothing-argument_worth.is)))
+    ap field_as (sym (field_nothing d.entries (program d) i (context_at (program d) i) c.args.n.0 c.args.j
+    (get_or (kinds_3 c) c.args.j Reg) (operand_at d.slots i c.args.j) (worth_is_3 c Nothing c.in-Nothing-argument_worth.is)))
 
 -- there is an argument j
 pub returns-in-Nothing : goal.returns-in-Nothing

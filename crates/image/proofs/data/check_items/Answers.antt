@@ -30,9 +30,6 @@ module _ (s : goal.In-Refused) where
   abbrev one : (names : List Entry) (k j : ℕ) → Judged ℕ
   one names k j = item_of names bound s.args.at.0 k j (get_or all j (num (pos 0)))
 
-  abbrev left : (names : List Entry) (k : ℕ) (write : ℕ → List ℕ) (j : ℕ) → Judged (List ℕ)
-  left names k write j = items names bound write s.args.at.0 k j (drop j all)
-
   count_is : length all ≡ get_or frame 1 0
   count_is = (data_in s.args.at.0 frame s.requires.0).items.count
 
@@ -65,12 +62,6 @@ module _ (s : goal.After-loop-j) where
   abbrev bound_3 : ℕ
   bound_3 = bound_of s.args.what
 
-  abbrev one_3 : (names : List Entry) (k j : ℕ) → Judged ℕ
-  one_3 names k j = item_of names bound_3 s.args.at.0 k j (get_or all_3 j (num (pos 0)))
-
-  abbrev left_3 : (names : List Entry) (k : ℕ) (write : ℕ → List ℕ) (j : ℕ) → Judged (List ℕ)
-  left_3 names k write j = items names bound_3 write s.args.at.0 k j (drop j all_3)
-
   count_is_3 : length all_3 ≡ get_or frame_3 1 0
   count_is_3 = (data_in s.args.at.0 frame_3 s.requires.0).items.count
 
@@ -89,7 +80,8 @@ returns-in-Refused c names k said write =
     (l.invariant.1 names k said write
     ∙ ap checked_as
     (items_more names (bound c) c.args.at.0 k write (all c) l.j (some c)
-    ∙ bind_no (one c names k l.j) _ c.in-Refused.r (field_no (one c names k l.j) (c.item_field.ensures.value names k said) c.in-Refused.is)))
+    ∙ bind_no (one c names k l.j) _ c.in-Refused.r (field_no (one c names k l.j) (c.item_field.ensures.value names k said)
+    c.in-Refused.is)))
 
 pub loop-j-preserved : goal.loop-j-preserved
 loop-j-preserved c =
@@ -99,7 +91,8 @@ loop-j-preserved c =
           l.invariant.1 names k said write
           ∙ ap checked_as
           (items_more names (bound_2 c) c.args.at.0 k write (all_2 c) l.j (some_2 c)
-          ∙ bind_ok (one_2 c names k l.j) _ c.in-Is.field-0 (field_ok (one_2 c names k l.j) (c.item_field.ensures.value names k said) c.in-Is.is))
+          ∙ bind_ok (one_2 c names k l.j) _ c.in-Is.field-0 (field_ok (one_2 c names k l.j) (c.item_field.ensures.value names k said)
+          c.in-Is.is))
           ∙ checked_then (left_2 c names k write (suc l.j)) (λ bs. write c.in-Is.field-0 ++ bs)
           ∙ ap (λ m. checked_as (left_2 c names k write m)) (sym (add-one l.j)),
     )

@@ -29,18 +29,12 @@ module _ (s : goal.After-item_in-a) where
   abbrev item : Expr
   item = get_or (items_in s.args.at.0 frame) s.args.j (num (pos 0))
 
-  abbrev bound : ℕ
-  bound = bound_of s.args.what
-
 module _ (s : goal.After-linked_worth-arg-1) where
   abbrev frame_2 : List ℕ
   frame_2 = s.args.frame.now
 
   abbrev item_2 : Expr
   item_2 = get_or (items_in s.args.at.0 frame_2) s.args.j (num (pos 0))
-
-  abbrev bound_2 : ℕ
-  bound_2 = bound_of s.args.what
 
 module _ (s : goal.After-item_range) where
   abbrev frame_3 : List ℕ
@@ -75,12 +69,22 @@ module _ (s : goal.In-Nothing) where
 -- the item begins within the frame
 inside : (c : goal.After-item_in-a) → c.item_in-a.result < length (frame c)
 inside c =
-    omega (arith, c.item_in-a.ensures, reads_inside (frame c) (item_at (frame c) 2 c.args.j) (item c) ((data_in c.args.at.0 (frame c) c.requires.0).items.each c.args.j c.requires.1))
+    omega (
+      arith,
+      c.item_in-a.ensures,
+      reads_inside (frame c) (item_at (frame c) 2 c.args.j) (item c)
+          ((data_in c.args.at.0 (frame c) c.requires.0).items.each c.args.j c.requires.1),
+    )
 
 -- the item begins within the frame
 inside_2 : (c : goal.After-linked_worth-arg-1) → c.item_in-a.result < length (frame_2 c)
 inside_2 c =
-    omega (arith, c.item_in-a.ensures, reads_inside (frame_2 c) (item_at (frame_2 c) 2 c.args.j) (item_2 c) ((data_in c.args.at.0 (frame_2 c) c.requires.0).items.each c.args.j c.requires.1))
+    omega (
+      arith,
+      c.item_in-a.ensures,
+      reads_inside (frame_2 c) (item_at (frame_2 c) 2 c.args.j) (item_2 c)
+          ((data_in c.args.at.0 (frame_2 c) c.requires.0).items.each c.args.j c.requires.1),
+    )
 
 -- the names that the links say
 abbrev Said : (s : goal.After-item_range) → (names : List Entry) (k : ℕ) → Type 0
@@ -101,7 +105,8 @@ worth_is c o q names k l =
     let r = (data_in c.args.at.0 (frame_3 c) c.requires.0).items.each c.args.j c.requires.1 in
     let reads : read_expr _ ≡ got (item_3 c) r.width =
     ap read_expr (rest_is c.item_in-a.result (frame_3 c)) ∙ ap (λ m. read_expr (drop m (frame_3 c))) c.item_in-a.ensures ∙ r.reads in
-    sym (c.linked_worth.ensures (λ m. lookup names (key_of k m)) (part_linked (λ m. lookup names (key_of k m)) (frame_3 c) c.args.links.now c.args.values.now c.args.count c.item_in-a.result l)
+    sym (c.linked_worth.ensures (λ m. lookup names (key_of k m)) (part_linked (λ m. lookup names (key_of k m)) (frame_3 c) c.args.links.now
+    c.args.values.now c.args.count c.item_in-a.result l)
     (item_3 c) r.width reads) ∙ q
 
 -- the worth that the evaluation gives
@@ -111,7 +116,8 @@ worth_is_2 c o q names k l =
     let r = (data_in c.args.at.0 (frame_4 c) c.requires.0).items.each c.args.j c.requires.1 in
     let reads : read_expr _ ≡ got (item_4 c) r.width =
     ap read_expr (rest_is c.item_in-a.result (frame_4 c)) ∙ ap (λ m. read_expr (drop m (frame_4 c))) c.item_in-a.ensures ∙ r.reads in
-    sym (c.linked_worth.ensures (λ m. lookup names (key_of k m)) (part_linked (λ m. lookup names (key_of k m)) (frame_4 c) c.args.links.now c.args.values.now c.args.count c.item_in-a.result l)
+    sym (c.linked_worth.ensures (λ m. lookup names (key_of k m)) (part_linked (λ m. lookup names (key_of k m)) (frame_4 c) c.args.links.now
+    c.args.values.now c.args.count c.item_in-a.result l)
     (item_4 c) r.width reads) ∙ q
 
 -- the worth that the evaluation gives
@@ -121,7 +127,8 @@ worth_is_3 c o q names k l =
     let r = (data_in c.args.at.0 (frame_5 c) c.requires.0).items.each c.args.j c.requires.1 in
     let reads : read_expr _ ≡ got (item_5 c) r.width =
     ap read_expr (rest_is c.item_in-a.result (frame_5 c)) ∙ ap (λ m. read_expr (drop m (frame_5 c))) c.item_in-a.ensures ∙ r.reads in
-    sym (c.linked_worth.ensures (λ m. lookup names (key_of k m)) (part_linked (λ m. lookup names (key_of k m)) (frame_5 c) c.args.links.now c.args.values.now c.args.count c.item_in-a.result l)
+    sym (c.linked_worth.ensures (λ m. lookup names (key_of k m)) (part_linked (λ m. lookup names (key_of k m)) (frame_5 c) c.args.links.now
+    c.args.values.now c.args.count c.item_in-a.result l)
     (item_5 c) r.width reads) ∙ q
 
 -- a value that was passed on is read back from its bits
@@ -145,12 +152,25 @@ slice_bounds-linked_worth-start-2 c = omega (arith, inside_2 c, c.requires.3)
 
 pub returns-in-Is : goal.returns-in-Is
 returns-in-Is c =
-    let ranges = c.item_range.ensures ∙ ap (λ z. field_as (ranged c.args.at.0 c.args.j (bound_3 c) z)) (as_passed c) in record { small = ranged_small c.args.at.0 c.args.j (bound_3 c) c.in-Is.v c.item_range.result ranges; value = λ names k l. ranges ∙ sym (ap field_as (item_value names (bound_3 c) c.args.at.0 k c.args.j (item_3 c) c.in-Is.v (worth_is c (Is c.in-Is.v) c.in-Is.is names k l))) }
+    let ranges = c.item_range.ensures ∙ ap (λ z. field_as (ranged c.args.at.0 c.args.j (bound_3 c) z)) (as_passed c) in
+    record {
+      small = ranged_small c.args.at.0 c.args.j (bound_3 c) c.in-Is.v c.item_range.result ranges;
+      value = λ names k l. ranges ∙ sym (ap field_as (item_value names (bound_3 c) c.args.at.0 k c.args.j (item_3 c) c.in-Is.v
+          (worth_is c (Is c.in-Is.v) c.in-Is.is names k l)));
+    }
 
 pub returns-in-Unknown : goal.returns-in-Unknown
 returns-in-Unknown c =
-    record { small = tt; value = λ names k l. sym (ap field_as (item_unknown names (bound_4 c) c.args.at.0 k c.args.j (item_4 c) (worth_is_2 c Unknown c.in-Unknown.is names k l))) }
+    record {
+      small = tt;
+      value = λ names k l. sym (ap field_as (item_unknown names (bound_4 c) c.args.at.0 k c.args.j (item_4 c)
+          (worth_is_2 c Unknown c.in-Unknown.is names k l)));
+    }
 
 pub returns-in-Nothing : goal.returns-in-Nothing
 returns-in-Nothing c =
-    record { small = tt; value = λ names k l. sym (ap field_as (item_nothing names (bound_5 c) c.args.at.0 k c.args.j (item_5 c) (worth_is_3 c Nothing c.in-Nothing.is names k l))) }
+    record {
+      small = tt;
+      value = λ names k l. sym (ap field_as (item_nothing names (bound_5 c) c.args.at.0 k c.args.j (item_5 c)
+          (worth_is_3 c Nothing c.in-Nothing.is names k l)));
+    }

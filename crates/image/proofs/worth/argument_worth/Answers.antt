@@ -110,13 +110,15 @@ carried_linked s q =
 
 -- as many links as bytes
 beside : (s : goal.After-links_at-beside) → length (frame_at s.args.links.now (starts_in s.args.state.now) s.args.at.0) ≡ length (frame_2 s)
-beside s = length_beside s.args.frames.now (starts_in s.args.state.now) s.args.count s.requires.0.sound.held s.args.links.now s.requires.0.says.full s.args.at.0 s.requires.1
+beside s = length_beside s.args.frames.now (starts_in s.args.state.now) s.args.count s.requires.0.sound.held s.args.links.now
+    s.requires.0.says.full s.args.at.0 s.requires.1
 
 pub returns-then-is_target : goal.returns-then-is_target
 returns-then-is_target c =
     let target = target_of (here c) in
     let q = target_if c true c.if-is_target.true in
-    c.target_worth.ensures (seen c) (context c) (rw c.carry_at-c.ensures (carried_linked c q)) (forms_in c.args.state.now) (carry_in c.args.state.now)
+    c.target_worth.ensures (seen c) (context c) (rw c.carry_at-c.ensures (carried_linked c q)) (forms_in c.args.state.now)
+    (carry_in c.args.state.now)
     ∙ ap (λ n. worth_in (seen c) c.args.positions.now (context c) (target n)) c.carry_at-c.ensures
     ∙ sym
     (ap (worth_in (seen c) c.args.positions.now (context c))
@@ -124,7 +126,8 @@ returns-then-is_target c =
 
 pub links_at-beside-requires : goal.links_at-beside-requires
 links_at-beside-requires c =
-    spans c.args.frames.now (starts_in c.args.state.now) c.args.count c.requires.0.sound.held c.args.links.now c.requires.0.says.full c.args.at.0 c.requires.1
+    spans c.args.frames.now (starts_in c.args.state.now) c.args.count c.requires.0.sound.held c.args.links.now c.requires.0.says.full
+    c.args.at.0 c.requires.1
 
 pub own_worth-requires : goal.own_worth-requires
 own_worth-requires c =
@@ -140,10 +143,12 @@ own_worth-requires c =
 
 pub returns : goal.returns
 returns c =
-    let own : Linked (λ m. lookup (seen_2 c) (key_of (context_2 c) m)) (frame_3 c) (frame_at c.args.links.now (starts_in c.args.state.now) c.args.at.0) c.args.values.now c.args.count =
+    let own : Linked (λ m. lookup (seen_2 c) (key_of (context_2 c) m)) (frame_3 c) (frame_at c.args.links.now (starts_in c.args.state.now)
+    c.args.at.0) c.args.values.now c.args.count =
     rw (c.requires.0.context c.args.at.0 c.requires.1) (c.requires.0.says.linked c.args.at.0 c.requires.1) in
     c.own_worth.ensures (seen_2 c) (context_2 c) (rw (c.frame_at-frame.ensures, c.links_at-beside.ensures) own) c.args.positions.now
     ∙ ap (λ l. worth_in (seen_2 c) c.args.positions.now (context_2 c) (operand_in c.args.at.0 l c.args.j)) c.frame_at-frame.ensures
     ∙ sym
     (ap (worth_in (seen_2 c) c.args.positions.now (context_2 c))
-    (operand_own (here_3 c) c.requires.0.sound.held c.args.at.0 c.requires.1 c.requires.2 (agrees_3 c) c.args.j (target_if_2 c false c.if-is_target.false)))
+    (operand_own (here_3 c) c.requires.0.sound.held c.args.at.0 c.requires.1 c.requires.2 (agrees_3 c) c.args.j
+    (target_if_2 c false c.if-is_target.false)))

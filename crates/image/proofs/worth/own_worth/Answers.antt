@@ -99,6 +99,7 @@ returns c names k l positions =
     let r = own_reads c.args.at.0 f c.requires.0 c.args.j c.requires.1 no in
     let at : read_expr _ ≡ got (expr_at f (arg_at (begin f c.args.j))) r.width =
     ap read_expr (rest_is n f) ∙ ap (λ m. read_expr (drop m f)) (found_5 c) ∙ r.reads in
-    c.linked_worth.ensures (λ m. lookup names (key_of k m)) (part_linked (λ m. lookup names (key_of k m)) f c.args.links.now c.args.values.now c.args.count n l)
+    c.linked_worth.ensures (λ m. lookup names (key_of k m)) (part_linked (λ m. lookup names (key_of k m)) f c.args.links.now
+    c.args.values.now c.args.count n l)
     (expr_at f (arg_at (begin f c.args.j))) r.width at
     ∙ sym (ap (worth_in names positions k) (own_value c.args.at.0 f c.requires.0 c.args.j c.requires.1 no))

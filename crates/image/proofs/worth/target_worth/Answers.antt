@@ -18,16 +18,20 @@ use Rattle.slots.specs.State.{starts_in, owners_in, offsets_in}
 use Rattle.image.proofs.worth.target_worth.Goals as goal
 
 abbrev over : (s : goal.After-inner_worth) → (forms carry : List ℕ) → Slots
-over s forms carry = slots s.args.frames.now (starts_in s.args.state.now) s.args.count forms carry (owners_in s.args.state.now) (offsets_in s.args.state.now)
+over s forms carry = slots s.args.frames.now (starts_in s.args.state.now) s.args.count forms carry (owners_in s.args.state.now)
+    (offsets_in s.args.state.now)
 
 abbrev over_2 : (s : goal.After-shared_slice_known-2-1-unread) → (forms carry : List ℕ) → Slots
-over_2 s forms carry = slots s.args.frames.now (starts_in s.args.state.now) s.args.count forms carry (owners_in s.args.state.now) (offsets_in s.args.state.now)
+over_2 s forms carry = slots s.args.frames.now (starts_in s.args.state.now) s.args.count forms carry (owners_in s.args.state.now)
+    (offsets_in s.args.state.now)
 
 abbrev over_3 : (s : goal.After-operand_count-last) → (forms carry : List ℕ) → Slots
-over_3 s forms carry = slots s.args.frames.now (starts_in s.args.state.now) s.args.count forms carry (owners_in s.args.state.now) (offsets_in s.args.state.now)
+over_3 s forms carry = slots s.args.frames.now (starts_in s.args.state.now) s.args.count forms carry (owners_in s.args.state.now)
+    (offsets_in s.args.state.now)
 
 abbrev over_4 : (s : goal.After-own_worth) → (forms carry : List ℕ) → Slots
-over_4 s forms carry = slots s.args.frames.now (starts_in s.args.state.now) s.args.count forms carry (owners_in s.args.state.now) (offsets_in s.args.state.now)
+over_4 s forms carry = slots s.args.frames.now (starts_in s.args.state.now) s.args.count forms carry (owners_in s.args.state.now)
+    (offsets_in s.args.state.now)
 
 -- the same is known with any forms and carried targets
 wrote : (s : goal.After-own_worth) (forms carry : List ℕ) → WroteTarget (over_4 s forms carry) s.args.c.0
@@ -50,13 +54,11 @@ instruction s = wrote_in (over_2 s [] []) s.requires.0.held s.args.c.0 s.require
 instruction_2 : (s : goal.After-operand_count-last) → InstrIn s.args.c.0 (frame_2 s)
 instruction_2 s = wrote_in (over_3 s [] []) s.requires.0.held s.args.c.0 s.requires.0.wrote
 
--- the frame is an instruction that ends in a target
-instruction_3 : (s : goal.After-own_worth) → InstrIn s.args.c.0 (frame_3 s)
-instruction_3 s = wrote_in (over_4 s [] []) s.requires.0.held s.args.c.0 s.requires.0.wrote
-
 -- as many links as bytes
-beside : (s : goal.After-operand_count-last) → length (frame_at s.args.links.now (starts_in s.args.state.now) s.args.c.0) ≡ length (frame_2 s)
-beside s = length_beside s.args.frames.now (starts_in s.args.state.now) s.args.count s.requires.0.held s.args.links.now s.requires.1 s.args.c.0 s.requires.0.wrote.inside
+beside : (s : goal.After-operand_count-last) → length (frame_at s.args.links.now (starts_in s.args.state.now) s.args.c.0) ≡ length
+    (frame_2 s)
+beside s = length_beside s.args.frames.now (starts_in s.args.state.now) s.args.count s.requires.0.held s.args.links.now s.requires.1
+    s.args.c.0 s.requires.0.wrote.inside
 
 some : (c : goal.After-operand_count-last) →
     (c.operand_count-last.result ≡ length (operands_at (get_or (frame_2 c) 1 0))) × (0 < length (operands_at (get_or (frame_2 c) 1 0)))
@@ -77,11 +79,13 @@ returns-then-owner-lt-NO_OWNER c names k l forms carry =
     let o = get_or (owners_in c.args.state.now) c.args.c.0 0 in
     c.inner_worth.ensures
     ∙ ap (λ n. Is (pos (get_or c.args.positions.now n 0 + get_or (offsets_in c.args.state.now) c.args.c.0 0))) c.owner_at-owner.ensures
-    ∙ sym (ap (worth_in names c.args.positions.now k) (target_inner (over c forms carry) c.args.c.0 (omega (arith, c.owner_at-owner.ensures, c.if-owner-lt-NO_OWNER.true))))
+    ∙ sym (ap (worth_in names c.args.positions.now k) (target_inner (over c forms carry) c.args.c.0
+    (omega (arith, c.owner_at-owner.ensures, c.if-owner-lt-NO_OWNER.true))))
 
 pub links_at-beside-requires : goal.links_at-beside-requires
 links_at-beside-requires c =
-    spans c.args.frames.now (starts_in c.args.state.now) c.args.count c.requires.0.held c.args.links.now c.requires.1 c.args.c.0 c.requires.0.wrote.inside
+    spans c.args.frames.now (starts_in c.args.state.now) c.args.count c.requires.0.held c.args.links.now c.requires.1 c.args.c.0
+    c.requires.0.wrote.inside
 
 pub bounds-frame-1 : goal.bounds-frame-1
 bounds-frame-1 c =
@@ -93,7 +97,14 @@ overflow_sub-last c = let h = some c in omega (arith, h.0, h.1)
 pub own_worth-requires : goal.own_worth-requires
 own_worth-requires c =
     let h = some c in
-    rw (c.frame_at-frame.ensures, c.links_at-beside.ensures) (instruction_2 c, omega (arith, h.0, h.1), c.requires.0.held.few, beside c, c.requires.0.wrote.inside, c.requires.0.held.noted c.args.c.0 c.requires.0.wrote.inside)
+    rw (c.frame_at-frame.ensures, c.links_at-beside.ensures) (
+      instruction_2 c,
+      omega (arith, h.0, h.1),
+      c.requires.0.held.few,
+      beside c,
+      c.requires.0.wrote.inside,
+      c.requires.0.held.noted c.args.c.0 c.requires.0.wrote.inside,
+    )
 
 pub returns : goal.returns
 returns c names k l forms carry =
@@ -102,4 +113,5 @@ returns c names k l forms carry =
     ∙ ap (λ m. worth_in names c.args.positions.now k (operand_in c.args.c.0 (frame_3 c) (m - 1))) (some_2 c).0
     ∙ sym
     (ap (worth_in names c.args.positions.now k)
-    (target_last (over_4 c forms carry) c.requires.0.held c.args.c.0 (wrote c forms carry) (omega (arith, c.owner_at-owner.ensures, c.if-owner-lt-NO_OWNER.false))))
+    (target_last (over_4 c forms carry) c.requires.0.held c.args.c.0 (wrote c forms carry)
+    (omega (arith, c.owner_at-owner.ensures, c.if-owner-lt-NO_OWNER.false))))

@@ -13,7 +13,8 @@ inside : (c : goal.In-loop-i) → c.args.q.0 + c.loop-i.i < length c.args.image.
 inside c = omega (arith, c.requires (omega (arith, c.loop-i-test.true)), c.loop-i-test.true)
 
 -- one zero more
-zero_more : (old : List ℕ) (q n i : ℕ) → q + i < length old → i < n → set (paste old q (replicate n 0) i) (q + i) 0 ≡ paste old q (replicate n 0) (i + 1)
+zero_more : (old : List ℕ) (q n i : ℕ) → q + i < length old → i < n → set (paste old q (replicate n 0) i) (q + i) 0 ≡ paste old q
+    (replicate n 0) (i + 1)
 zero_more old q n i l h =
     ap (λ v. set (paste old q (replicate n 0) i) (q + i) v) (sym (get_or-replicate n i 0 0 h))
     ∙ paste-suc old q (replicate n 0) i 0 l (omega (arith, length-replicate {A = ℕ} n 0))

@@ -6,7 +6,8 @@ use lib.Seq.{paste}
 use Rattle.image.proofs.writing.clear.Given as goal
 
 abbrev pub invariant-loop-i : goal.invariant-loop-i
-invariant-loop-i l = (l.i ≤ l.n) × (length l.image ≡ length l.initial.image) × (l.image ≡ paste l.initial.image l.from (replicate l.n 0) l.i)
+invariant-loop-i l = (l.i ≤ l.n) × (length l.image ≡ length l.initial.image) × (l.image ≡ paste l.initial.image l.from (replicate l.n 0)
+    l.i)
 
 abbrev pub decreases-loop-i : goal.decreases-loop-i
 decreases-loop-i l = l.n - l.i

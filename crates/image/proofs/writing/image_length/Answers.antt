@@ -16,19 +16,23 @@ use Rattle.image.proofs.writing.image_length.Goals as goal
 
 abbrev over : (s : goal.After-shared_slice_known-1) → (carry owners offsets links : List ℕ) (values : List ℤ) → Tables
 over s carry owners offsets links values =
-    tables s.args.frames.now (starts_in s.args.state.now) s.args.count (forms_in s.args.state.now) carry owners offsets links values s.args.positions.now
+    tables s.args.frames.now (starts_in s.args.state.now) s.args.count (forms_in s.args.state.now) carry owners offsets links values
+    s.args.positions.now
 
 abbrev over_2 : (s : goal.After-address) → (carry owners offsets links : List ℕ) (values : List ℤ) → Tables
 over_2 s carry owners offsets links values =
-    tables s.args.frames.now (starts_in s.args.state.now) s.args.count (forms_in s.args.state.now) carry owners offsets links values s.args.positions.now
+    tables s.args.frames.now (starts_in s.args.state.now) s.args.count (forms_in s.args.state.now) carry owners offsets links values
+    s.args.positions.now
 
 abbrev over_3 : (s : goal.Else-size_at-gt0) → (carry owners offsets links : List ℕ) (values : List ℤ) → Tables
 over_3 s carry owners offsets links values =
-    tables s.args.frames.now (starts_in s.args.state.now) s.args.count (forms_in s.args.state.now) carry owners offsets links values s.args.positions.now
+    tables s.args.frames.now (starts_in s.args.state.now) s.args.count (forms_in s.args.state.now) carry owners offsets links values
+    s.args.positions.now
 
 abbrev over_4 : (s : goal.After-loop-i) → (carry owners offsets links : List ℕ) (values : List ℤ) → Tables
 over_4 s carry owners offsets links values =
-    tables s.args.frames.now (starts_in s.args.state.now) s.args.count (forms_in s.args.state.now) carry owners offsets links values s.args.positions.now
+    tables s.args.frames.now (starts_in s.args.state.now) s.args.count (forms_in s.args.state.now) carry owners offsets links values
+    s.args.positions.now
 
 -- the slot is one of the program's
 inside : (c : goal.After-address) → c.loop-i.i - 1 < c.args.count
@@ -99,7 +103,8 @@ loop-i-preserved c = (
   omega (arith, inside_2 c),
   λ carry owners offsets links values ready.
       done_more (here_2 c carry owners offsets links values) (slot_2 c) (inside_2 c)
-      (omega (arith, size_is_2 c carry owners offsets links values ready, c.if-size_at-gt0.false)) (done_next_2 c carry owners offsets links values ready),
+      (omega (arith, size_is_2 c carry owners offsets links values ready, c.if-size_at-gt0.false)) (done_next_2 c carry owners offsets
+      links values ready),
 )
 
 pub returns : goal.returns

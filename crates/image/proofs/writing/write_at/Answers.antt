@@ -36,9 +36,6 @@ module _ (c : goal.After-write_code-arg-1) where
   abbrev place : ℕ
   place = c.args.at.0
 
-  abbrev room : List ℕ
-  room = c.args.image.now
-
   abbrev where_at : ℕ
   where_at = get_or c.args.positions.now place 0
 
@@ -57,9 +54,6 @@ module _ (c : goal.After-write_items-arg-1) where
   abbrev place_2 : ℕ
   place_2 = c.args.at.0
 
-  abbrev room_2 : List ℕ
-  room_2 = c.args.image.now
-
   abbrev where_at_2 : ℕ
   where_at_2 = get_or c.args.positions.now place_2 0
 
@@ -77,9 +71,6 @@ module _ (c : goal.After-write_items-arg-in-Words-1) where
 
   abbrev place_3 : ℕ
   place_3 = c.args.at.0
-
-  abbrev room_3 : List ℕ
-  room_3 = c.args.image.now
 
   abbrev where_at_3 : ℕ
   where_at_3 = get_or c.args.positions.now place_3 0
@@ -104,9 +95,6 @@ module _ (c : goal.In-Gone) where
 
   abbrev where_at_4 : ℕ
   where_at_4 = get_or c.args.positions.now place_4 0
-
-  q_is_4 : c.address-q.result.0 ≡ where_at_4
-  q_is_4 = c.address-q.ensures
 
   stands_4 : Stands here_4.slots place_4 c.slot_at.result
   stands_4 = c.slot_at.ensures (carry_in c.args.state.now) (owners_in c.args.state.now) (offsets_in c.args.state.now)
@@ -209,13 +197,15 @@ one_kind_2 c =
 code_is : (c : goal.After-write_code-arg-1) →
     Coded (encode_at (here c) (place c)) c.in-Is.code
 code_is c =
-    coded (encode_at (here c) (place c)) (λ b e. instr_short (here c) c.requires.0 (place c) c.requires.1 (one_kind c) b e) c.encode_at.ensures c.in-Is.is
+    coded (encode_at (here c) (place c)) (λ b e. instr_short (here c) c.requires.0 (place c) c.requires.1 (one_kind c) b e)
+    c.encode_at.ensures c.in-Is.is
 
 -- the code is that of the slot's bytes
 code_is_2 : (c : goal.After-slice_known-in-Form-1) →
     Coded (encode_at (here_5 c) (place_5 c)) c.in-Is.code
 code_is_2 c =
-    coded (encode_at (here_5 c) (place_5 c)) (λ b e. instr_short (here_5 c) c.requires.0 (place_5 c) c.requires.1 (one_kind_2 c) b e) c.encode_at.ensures c.in-Is.is
+    coded (encode_at (here_5 c) (place_5 c)) (λ b e. instr_short (here_5 c) c.requires.0 (place_5 c) c.requires.1 (one_kind_2 c) b e)
+    c.encode_at.ensures c.in-Is.is
 
 -- behind the links: what the statement is
 module _ (c : goal.After-write_items-arg-1) where
@@ -281,12 +271,6 @@ module _ (c : goal.After-slice_known-in-Instr-1) where
   is_5 : c.slot_at.result ≡ Holds found_5
   is_5 = c.in-Holds.is
 
-  data_here_5 : (what : Data) (n : ℕ) (a : Arg) → found_5 ≡ of_code what n a
-      → DataSlot (here_8 c) (place_8 c) what n c.frame_at-frame.result.now c.links_at-beside.result.now
-  data_here_5 what n a e =
-      data_slot (here_8 c) c.requires.0 (place_8 c) c.requires.1 c.slot_at.result (stands_8 c) n a what
-      (is_5 ∙ ap Holds e) _ _ c.frame_at-frame.ensures c.links_at-beside.ensures
-
 count_is : (c : goal.After-slice_known-in-Instr-1) → c.size_at.result ≡ size_of (here_8 c) (place_8 c)
 count_is c =
     let t = c.args.state.now in
@@ -300,7 +284,8 @@ write_code-requires c =
 
 pub links_at-beside-requires : goal.links_at-beside-requires
 links_at-beside-requires c =
-    spans c.args.frames.now (starts_in c.args.state.now) c.args.count c.requires.0.sound.held c.args.links.now c.requires.0.says.full c.args.at.0 c.requires.1
+    spans c.args.frames.now (starts_in c.args.state.now) c.args.count c.requires.0.sound.held c.args.links.now c.requires.0.says.full
+    c.args.at.0 c.requires.1
 
 pub write_items-requires : goal.write_items-requires
 write_items-requires c =
@@ -316,7 +301,8 @@ write_items-requires-in-Words c =
 pub returns-in-Gone : goal.returns-in-Gone
 returns-in-Gone c b e =
     let gone_is = none_stands (here_4 c).slots (place_4 c) c.slot_at.result (stands_4 c) c.in-Gone.is in
-    let none : b ≡ [] = empty_is b (bytes_count (here_4 c) (place_4 c) b e ∙ ap (byte_count (position (program (here_4 c)) (place_4 c))) gone_is) in
+    let none : b ≡ [] = empty_is b (bytes_count (here_4 c) (place_4 c) b e ∙ ap (byte_count (position (program (here_4 c)) (place_4 c)))
+    gone_is) in
     sym (ap (put (room_4 c) (where_at_4 c)) none ∙ put_none (room_4 c) (where_at_4 c))
 
 pub returns-in-Is : goal.returns-in-Is
@@ -341,7 +327,8 @@ pub returns-in-Instr : goal.returns-in-Instr
 returns-in-Instr c b e =
     let other = ((stands_8 c).holds (found_5 c) (is_5 c)).other in
     let kind = kind_stands (here_8 c).slots (place_8 c) c.slot_at.result (stands_8 c) (found_5 c) (is_5 c) in
-    let n : c.size_at.result ≡ size_here (here_8 c) (place_8 c) = count_is c ∙ size_here_lem (here_8 c) c.requires.0 (place_8 c) c.requires.1 in
+    let n : c.size_at.result ≡ size_here (here_8 c) (place_8 c) = count_is c ∙ size_here_lem (here_8 c) c.requires.0 (place_8 c)
+    c.requires.1 in
     let zeros : replicate (size_here (here_8 c) (place_8 c)) 0 ≡ b =
     ok_same (sym (plain_zeros (here_8 c) (place_8 c) (rw kind (plain_tag (found_5 c) other (opened c.in-Instr.in-Instr-own.keys3)))) ∙ e) in
     c.clear.ensures ∙ ap (λ a. put (room_8 c) a (replicate c.size_at.result 0)) (q_is_8 c)

@@ -23,5 +23,6 @@ loop-k-preserved c =
     let old = c.args.image.now in (
       omega arith,
       simp length-set l.invariant.1,
-      rw l.invariant.2 (paste-suc old c.args.q.0 (three c) l.k 0 (inside c).0 (inside c).1 ∙ ap (paste old c.args.q.0 (three c)) (sym (add-one l.k))),
+      rw l.invariant.2 (paste-suc old c.args.q.0 (three c) l.k 0 (inside c).0 (inside c).1 ∙ ap (paste old c.args.q.0 (three c))
+          (sym (add-one l.k))),
     )

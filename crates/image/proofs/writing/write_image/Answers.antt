@@ -24,9 +24,6 @@ module _ (s : goal.After-slice_known-2-1) where
   abbrev size : ℕ
   size = length (image_of here)
 
-  whole : encode_slots here ≡ ok (image_of here)
-  whole = image_is here s.requires.1
-
 module _ (s : goal.After-write_at-arg-1) where
   abbrev here_2 : Tables
   here_2 =
@@ -65,19 +62,18 @@ module _ (s : goal.After-loop-i) where
 
 size_is : (c : goal.After-slice_known-2-1) → c.image_length-n.result ≡ size c
 size_is c =
-    c.image_length-n.ensures (carry_in c.args.state.now) (owners_in c.args.state.now) (offsets_in c.args.state.now) c.args.links.now c.args.values.now c.requires.0 c.requires.1
+    c.image_length-n.ensures (carry_in c.args.state.now) (owners_in c.args.state.now) (offsets_in c.args.state.now) c.args.links.now
+    c.args.values.now c.requires.0 c.requires.1
 
 size_is_2 : (c : goal.After-write_at-arg-1) → c.image_length-n.result ≡ size_2 c
 size_is_2 c =
-    c.image_length-n.ensures (carry_in c.args.state.now) (owners_in c.args.state.now) (offsets_in c.args.state.now) c.args.links.now c.args.values.now c.requires.0 c.requires.1
-
-size_is_3 : (c : goal.After-slice_known-in-loop-i-1) → c.image_length-n.result ≡ size_3 c
-size_is_3 c =
-    c.image_length-n.ensures (carry_in c.args.state.now) (owners_in c.args.state.now) (offsets_in c.args.state.now) c.args.links.now c.args.values.now c.requires.0 c.requires.1
+    c.image_length-n.ensures (carry_in c.args.state.now) (owners_in c.args.state.now) (offsets_in c.args.state.now) c.args.links.now
+    c.args.values.now c.requires.0 c.requires.1
 
 size_is_4 : (c : goal.After-loop-i) → c.image_length-n.result ≡ size_4 c
 size_is_4 c =
-    c.image_length-n.ensures (carry_in c.args.state.now) (owners_in c.args.state.now) (offsets_in c.args.state.now) c.args.links.now c.args.values.now c.requires.0 c.requires.1
+    c.image_length-n.ensures (carry_in c.args.state.now) (owners_in c.args.state.now) (offsets_in c.args.state.now) c.args.links.now
+    c.args.values.now c.requires.0 c.requires.1
 
 -- the cleared room: zeros, and behind them what was there
 module _ (c : goal.After-slice_known-2-1) where
@@ -95,9 +91,6 @@ module _ (c : goal.After-slice_known-2-1) where
   behind_is : drop (size c) cleared ≡ behind
   behind_is = ap (drop (size c)) cleared_is ∙ drop_at (replicate (size c) 0) behind (size c) (length-replicate (size c) 0)
 
-  holds_it : size c ≤ length cleared
-  holds_it = omega (arith, ap length cleared_is, length-append (replicate (size c) 0) behind, length-replicate {A = ℕ} (size c) 0)
-
 -- the cleared room: zeros, and behind them what was there
 module _ (c : goal.After-write_at-arg-1) where
   abbrev cleared_2 : List ℕ
@@ -111,9 +104,6 @@ module _ (c : goal.After-write_at-arg-1) where
       c.clear.ensures ∙ ap (λ n. put c.args.image.now 0 (replicate n 0)) (size_is_2 c)
       ∙ put_first c.args.image.now (size_2 c)
 
-  behind_is_2 : drop (size_2 c) cleared_2 ≡ behind_2
-  behind_is_2 = ap (drop (size_2 c)) cleared_is_2 ∙ drop_at (replicate (size_2 c) 0) behind_2 (size_2 c) (length-replicate (size_2 c) 0)
-
   holds_it_2 : size_2 c ≤ length cleared_2
   holds_it_2 = omega (arith, ap length cleared_is_2, length-append (replicate (size_2 c) 0) behind_2, length-replicate {A = ℕ} (size_2 c) 0)
 
@@ -121,20 +111,6 @@ module _ (c : goal.After-write_at-arg-1) where
 module _ (c : goal.After-slice_known-in-loop-i-1) where
   abbrev cleared_3 : List ℕ
   cleared_3 = c.clear.new.image
-
-  abbrev behind_3 : List ℕ
-  behind_3 = drop (size_3 c) c.args.image.now
-
-  cleared_is_3 : cleared_3 ≡ replicate (size_3 c) 0 ++ behind_3
-  cleared_is_3 =
-      c.clear.ensures ∙ ap (λ n. put c.args.image.now 0 (replicate n 0)) (size_is_3 c)
-      ∙ put_first c.args.image.now (size_3 c)
-
-  behind_is_3 : drop (size_3 c) cleared_3 ≡ behind_3
-  behind_is_3 = ap (drop (size_3 c)) cleared_is_3 ∙ drop_at (replicate (size_3 c) 0) behind_3 (size_3 c) (length-replicate (size_3 c) 0)
-
-  holds_it_3 : size_3 c ≤ length cleared_3
-  holds_it_3 = omega (arith, ap length cleared_is_3, length-append (replicate (size_3 c) 0) behind_3, length-replicate {A = ℕ} (size_3 c) 0)
 
 -- the cleared room: zeros, and behind them what was there
 module _ (c : goal.After-loop-i) where
@@ -152,9 +128,6 @@ module _ (c : goal.After-loop-i) where
   behind_is_4 : drop (size_4 c) cleared_4 ≡ behind_4
   behind_is_4 = ap (drop (size_4 c)) cleared_is_4 ∙ drop_at (replicate (size_4 c) 0) behind_4 (size_4 c) (length-replicate (size_4 c) 0)
 
-  holds_it_4 : size_4 c ≤ length cleared_4
-  holds_it_4 = omega (arith, ap length cleared_is_4, length-append (replicate (size_4 c) 0) behind_4, length-replicate {A = ℕ} (size_4 c) 0)
-
 pub loop-i-init : goal.loop-i-init
 loop-i-init c =
     let n = size c in
@@ -168,7 +141,13 @@ write_at-requires c =
     let below : l.i - 1 < c.args.count = omega (arith, l.invariant.0, c.loop-i-test.true) in (
       c.requires.0,
       below,
-      λ some. omega (arith, slot_fits (here_2 c) c.requires.0 (image_of (here_2 c)) (whole_2 c) (l.i - 1) below some, c.requires.2, l.invariant.1, holds_it_2 c),
+      λ some. omega (
+        arith,
+        slot_fits (here_2 c) c.requires.0 (image_of (here_2 c)) (whole_2 c) (l.i - 1) below some,
+        c.requires.2,
+        l.invariant.1,
+        holds_it_2 c,
+      ),
     )
 
 pub loop-i-preserved : goal.loop-i-preserved

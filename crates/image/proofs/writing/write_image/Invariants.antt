@@ -14,7 +14,8 @@ abbrev pub invariant-loop-i : goal.invariant-loop-i
 invariant-loop-i l =
     let d = tables_of l.frames l.state l.count l.links l.values l.positions in
     let n = length (image_of d) in
-    (l.i ≤ l.count) × (length l.image ≡ length l.initial.image) × ((rest : List ℕ) × (from_slot d l.i ≡ ok rest) × (l.image ≡ room_of n rest (drop n l.initial.image)))
+    (l.i ≤ l.count) × (length l.image ≡ length l.initial.image) × ((rest : List ℕ) × (from_slot d l.i ≡ ok rest)
+    × (l.image ≡ room_of n rest (drop n l.initial.image)))
 
 abbrev pub decreases-loop-i : goal.decreases-loop-i
 decreases-loop-i l = l.i

@@ -1,4 +1,5 @@
--- `writing::write_items` meets its contract. The invariant: the items before j are in place, and the encoding is theirs and that of the rest.
+-- `writing::write_items` meets its contract. The invariant: the items before j are in place, and the encoding is theirs and that of the
+-- rest.
 use mathlib.Core.Path.{◌≡◌, refl, sym, ap, ◌∙◌}
 use mathlib.Core.List.{List, [], ◌++◌, append_assoc, append-nil}
 use Prim.Native.Nat.{ℕ, suc, ◌+◌, ◌*◌, ◌<◌, ◌≤◌}
@@ -49,17 +50,8 @@ module _ (s : goal.After-item_width-width) where
   abbrev all : List Expr
   all = items_in place frame
 
-  abbrev one : (names : List Entry) (k j : ℕ) → Judged ℕ
-  one names k j = item_of names (bound_of what) place k j (get_or all j (num (pos 0)))
-
   abbrev left : (names : List Entry) (k j : ℕ) → Judged (List ℕ)
   left names k j = items names (bound_of what) (write_of what) place k j (drop j all)
-
-  abbrev Said : (names : List Entry) (k : ℕ) → Type 0
-  Said names k = Linked (λ m. lookup names (key_of k m)) frame s.args.links.now s.args.values.now s.args.count
-
-  count_is : length all ≡ get_or frame 1 0
-  count_is = (data_in place frame s.requires.0).items.count
 
 module _ (s : goal.In_default) where
   abbrev frame_2 : List ℕ
@@ -79,9 +71,6 @@ module _ (s : goal.In_default) where
 
   abbrev left_2 : (names : List Entry) (k j : ℕ) → Judged (List ℕ)
   left_2 names k j = items names (bound_of what_2) (write_of what_2) place_2 k j (drop j all_2)
-
-  abbrev Said_2 : (names : List Entry) (k : ℕ) → Type 0
-  Said_2 names k = Linked (λ m. lookup names (key_of k m)) frame_2 s.args.links.now s.args.values.now s.args.count
 
   count_is_2 : length all_2 ≡ get_or frame_2 1 0
   count_is_2 = (data_in place_2 frame_2 s.requires.0).items.count
@@ -124,14 +113,8 @@ module _ (s : goal.After-loop-j) where
   abbrev all_4 : List Expr
   all_4 = items_in place_4 frame_4
 
-  abbrev one_4 : (names : List Entry) (k j : ℕ) → Judged ℕ
-  one_4 names k j = item_of names (bound_of what_4) place_4 k j (get_or all_4 j (num (pos 0)))
-
   abbrev left_4 : (names : List Entry) (k j : ℕ) → Judged (List ℕ)
   left_4 names k j = items names (bound_of what_4) (write_of what_4) place_4 k j (drop j all_4)
-
-  abbrev Said_4 : (names : List Entry) (k : ℕ) → Type 0
-  Said_4 names k = Linked (λ m. lookup names (key_of k m)) frame_4 s.args.links.now s.args.values.now s.args.count
 
   count_is_4 : length all_4 ≡ get_or frame_4 1 0
   count_is_4 = (data_in place_4 frame_4 s.requires.0).items.count
@@ -173,7 +156,8 @@ pub returns-in_default : goal.returns-in_default
 returns-in_default c names k said b e =
     let l = c.loop-j in
     let here = items_more names (bound_of (what_2 c)) (place_2 c) k (write_of (what_2 c)) (all_2 c) l.j (some c) in
-    let refused = here ∙ bind_no (one_2 c names k l.j) _ c.in_default.field-0 (field_no (one_2 c names k l.j) (c.item_field.ensures.value names k said) c.in_default.is) in
+    let refused = here ∙ bind_no (one_2 c names k l.j) _ c.in_default.field-0
+    (field_no (one_2 c names k l.j) (c.item_field.ensures.value names k said) c.in_default.is) in
     no_ok c.in_default.field-0 b (sym (l.invariant.2.3 names k said ∙ bind_no (left_2 c names k l.j) _ c.in_default.field-0 refused) ∙ e)
 
 pub loop-j-preserved : goal.loop-j-preserved
@@ -193,17 +177,29 @@ loop-j-preserved c =
     ∙ ap (λ m. put (put old q front) m more) next
     ∙ put_more old q front room more in
     let size_more : length (front ++ more) ≡ width_of (what_3 c) * (l.j + 1) =
-    length-append front more ∙ ap (λ m. m + length more) size ∙ ap (λ m. width_of (what_3 c) * l.j + m) (write_width (what_3 c) v) ∙ width_more (what_3 c) l.j in
+    length-append front more ∙ ap (λ m. m + length more) size ∙ ap (λ m. width_of (what_3 c) * l.j + m) (write_width (what_3 c) v)
+    ∙ width_more (what_3 c) l.j in
     let room_more : q + length (front ++ more) ≤ length old = omega (arith, fits c, size_more, width_more (what_3 c) l.j) in
-    let here : (names : List Entry) (k : ℕ) → Said_3 c names k → left_3 c names k l.j ≡ left_3 c names k (suc l.j) >>= (λ bs. ok (more ++ bs)) =
-    λ names k said. items_more names (bound_of (what_3 c)) (place_3 c) k (write_of (what_3 c)) (all_3 c) l.j (some_2 c) ∙ bind_ok (one_3 c names k l.j) _ v (value_is c names k said) in
-    let rest : (names : List Entry) (k : ℕ) → Said_3 c names k → left_3 c names k 0 ≡ left_3 c names k (l.j + 1) >>= (λ bs. ok ((front ++ more) ++ bs)) =
+    let here : (names : List Entry) (k : ℕ) → Said_3 c names k → left_3 c names k l.j ≡ left_3 c names k (suc l.j)
+    >>= (λ bs. ok (more ++ bs)) =
+    λ names k said. items_more names (bound_of (what_3 c)) (place_3 c) k (write_of (what_3 c)) (all_3 c) l.j (some_2 c) ∙ bind_ok
+    (one_3 c names k l.j) _ v (value_is c names k said) in
+    let rest : (names : List Entry) (k : ℕ) → Said_3 c names k → left_3 c names k 0 ≡ left_3 c names k (l.j + 1)
+    >>= (λ bs. ok ((front ++ more) ++ bs)) =
     λ names k said. l.invariant.2.3 names k said
     ∙ ap (λ x. x >>= (λ bs. ok (front ++ bs))) (here names k said)
     ∙ bind_bind (left_3 c names k (suc l.j)) (λ bs. more ++ bs) (λ bs. front ++ bs)
     ∙ bind_ext (left_3 c names k (suc l.j)) _ _ (λ bs. ap ok (sym (append_assoc front more bs)))
-    ∙ ap (λ m. left_3 c names k m >>= (λ bs. ok ((front ++ more) ++ bs))) (sym (add-one l.j)) in
-    (omega (arith, c.loop-j-test.true), ap length put_is ∙ length_put old q (front ++ more) room_more, (front ++ more, size_more, put_is, rest))
+    ∙ ap (λ m. left_3 c names k m >>= (λ bs. ok ((front ++ more) ++ bs))) (sym (add-one l.j)) in (
+      omega (arith, c.loop-j-test.true),
+      ap length put_is ∙ length_put old q (front ++ more) room_more,
+      (
+        front ++ more,
+        size_more,
+        put_is,
+        rest,
+      ),
+    )
 
 pub returns : goal.returns
 unfolding ◌>>=◌

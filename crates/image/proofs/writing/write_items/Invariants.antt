@@ -1,4 +1,5 @@
--- `writing::write_items` meets its contract. The invariant: the items before j are in place, and the encoding is theirs and that of the rest.
+-- `writing::write_items` meets its contract. The invariant: the items before j are in place, and the encoding is theirs and that of the
+-- rest.
 use mathlib.Core.Path.{◌≡◌}
 use mathlib.Core.List.{List, ◌++◌}
 use Prim.Native.Nat.{ℕ, ◌-◌, ◌*◌, ◌≤◌}
