@@ -2,17 +2,17 @@
 use mathlib.Core.Path.{◌≡◌, refl, sym, ap, ◌∙◌, subst}
 use mathlib.Core.List.{List, [], ◌∷◌, ◌++◌, append-nil}
 use mathlib.Core.Option.{none}
-use mathlib.Core.Bool.{Bool, true, false, ◌&&◌, ◌||◌, cond}
+use mathlib.Core.Bool.{Bool, true, false, ◌&&◌, cond}
 use Prim.Native.Nat.{ℕ, zero, suc, ◌+◌, ◌-◌, ◌≤◌, ◌<◌}
 use native.Mathlib.Numerals.{add-one}
 use native.Mathlib.Omega.{arith}
 use lib.Dec.{eqb, leb}
-use lib.ListN.{length, drop, take, set, length-set, length-drop, drop_of_length-le}
+use lib.ListN.{length, drop, set, length-set, length-drop, drop_of_length-le}
 use lib.Seq.{drop-drop, take-set-lt}
-use borrow.Author.Tests.{eqb-true, eqb-false, eq-eqb, ne_eqb, le-leb, lt-leb}
+use borrow.Author.Tests.{eqb-true, eqb-false, ne_eqb, le-leb, lt-leb}
 use Rattle.laws.specs.Lists.{each, total}
 use Rattle.laws.proofs.Lists.{each_append, total_append}
-use Rattle.laws.proofs.Tests.{and_both, first_false, second_false, true_false, false_true}
+use Rattle.laws.proofs.Tests.{and_both, first_false, second_false, true_false}
 use Rattle.rules.specs.Expressions.{Expr, bytes_of}
 use Rattle.rules.specs.Forms.{operands_at}
 use Rattle.rules.specs.Programs.{Operand, register, value, in_operand, Stmt, instr}
@@ -25,13 +25,13 @@ use Rattle.leaves.specs.declared.Found.TheVariants as found
 use Rattle.plans.specs.Plans as plans
 use Rattle.plans.specs.Plans.{Plan, done, fork, expression, either, Walks}
 use Rattle.plans.specs.Words.{some?}
-use Rattle.plans.specs.Families.{Mark, hash, at, plain, Way, way, narrow, register_plan, marks, mark_plan, argument, behind, args_plan, family_of}
+use Rattle.plans.specs.Families.{Mark, hash, at, plain, narrow, register_plan, marks, mark_plan, argument, behind, args_plan, family_of}
 use Rattle.laying.specs.Laying.{long, Stands, Added, Termed}
 use Rattle.laying.proofs.Laying.{nothing_stands}
 use Rattle.laying.specs.declared.Told.{Told}
 use Rattle.laying.specs.declared.Told.TheVariants.{Frame, Wrong}
 use Rattle.laying.specs.Speaking.{Spoken}
-use Rattle.laying.proofs.Speaking.{first_byte, fork_byte, fork_wrong, through}
+use Rattle.laying.proofs.Speaking.{first_byte, fork_byte, fork_wrong}
 use Rattle.arguing.specs.declared.Arg.{Arg}
 use Rattle.arguing.specs.declared.Arg.TheVariants.{Ends, Not}
 use Rattle.marks.specs.Narrowing.{mark_by, mark_number, agree, chosen}

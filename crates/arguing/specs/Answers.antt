@@ -4,7 +4,7 @@ use Rattle.laws.specs.Lists.{each, total}
 use Rattle.rules.specs.Forms.{operands_at}
 use Rattle.rules.specs.Programs.{Operand, in_operand, Stmt}
 use Rattle.rules.specs.Output.{operand_bytes}
-use Rattle.grammar.specs.Going.{Read, got, stuck}
+use Rattle.grammar.specs.Going.{Read, stuck}
 use Rattle.leaves.specs.declared.Found.{Found}
 use Rattle.leaves.specs.declared.Found.TheVariants as found
 use Rattle.plans.specs.Plans.{Plan, Walks}
