@@ -29,7 +29,7 @@ next_is : (c : goal.After-expression_width-a) → c.loop-k.a + c.expression_widt
     ≡ item_at c.args.frame.now 2 (c.loop-k.k + 1)
 next_is c =
     let w : c.expression_width-a.result ≡ took_of (read_expr (drop c.loop-k.a c.args.frame.now)) = c.expression_width-a.ensures
-        ∙ ap (λ d. took_of (read_expr d)) (rest_is c.loop-k.a c.args.frame.now) in
+    ∙ ap (λ d. took_of (read_expr d)) (rest_is c.loop-k.a c.args.frame.now) in
     rw (w, c.loop-k.invariant.1, add-one c.loop-k.k) (sym (item_more c.args.frame.now 2 c.loop-k.k))
 
 pub loop-k-init : goal.loop-k-init

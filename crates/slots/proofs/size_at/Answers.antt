@@ -55,7 +55,7 @@ module _ (c : goal.In-Words) (carry owners offsets : List ℕ) where
       let d = holds (Words n a) e 6 refl in
       ap (λ m. 2 * m)
       ((words_says here c.requires.0 place c.requires.1 c.slot_at.result stands n a e).0
-          ∙ sym (items_count 7 words place frame (written here place) d))
+      ∙ sym (items_count 7 words place frame (written here place) d))
       ∙ sym (ap (byte_count q) (as_written (Words n a) e 5 refl ∙ d.is))
 
 -- behind the slot; nothing here depends on carry, owners and offsets
@@ -84,7 +84,7 @@ module _ (c : goal.In-Pad) (carry owners offsets : List ℕ) where
       let s = pad_says here_2 c.requires.0 place_2 c.requires.1 c.slot_at.result stands_2 a m e in
       let d = holds_2 (Pad a m) e 7 refl in
       let low : get_or frame_2 1 0 < 256 = bytes_frame c.args.frames.now (starts_in c.args.state.now)
-          (λ i. omega (arith, c.shared_slice_known-1.given i)) place_2 1 in
+      (λ i. omega (arith, c.shared_slice_known-1.given i)) place_2 1 in
       (omega (arith, low, s.0), omega (arith, d.some, s.1), omega (arith, d.few, s.1))
 
 -- behind the slot; nothing here depends on carry, owners and offsets
@@ -132,7 +132,7 @@ module _ (c : goal.In-Bytes) (carry owners offsets : List ℕ) where
   bytes_count_4 n a e =
       let d = holds_4 (Bytes n a) e 5 refl in
       (bytes_says here_4 c.requires.0 place_4 c.requires.1 c.slot_at.result stands_4 n a e).0 ∙ sym (items_count 6 bytes place_4 frame_4
-          (written here_4 place_4) d)
+      (written here_4 place_4) d)
       ∙ sym (ap (byte_count q_4) (as_written_4 (Bytes n a) e 4 refl ∙ d.is))
 
 -- behind the slot; nothing here depends on carry, owners and offsets
@@ -184,7 +184,7 @@ returns-in-Form c carry owners offsets =
     let i = place_3 c carry owners offsets in
     let one = form_stands t i c.slot_at.result (stands_3 c carry owners offsets) c.in-Form.form c.in-Form.is in
     c.size.ensures ∙ ap size_at ((stands_3 c carry owners offsets).form c.in-Form.form c.in-Form.is)
-        ∙ sym (size_instr (q_3 c carry owners offsets) t i one)
+    ∙ sym (size_instr (q_3 c carry owners offsets) t i one)
 
 pub returns-in-Bytes : goal.returns-in-Bytes
 returns-in-Bytes c carry owners offsets =

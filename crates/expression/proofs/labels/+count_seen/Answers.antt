@@ -63,13 +63,13 @@ first : (t : ℕ) (c : goal.After-struct_known-in-Two-4-1 t) →
     Along (of_5 t c) (drop 1 c.args.s.now) c.count_seen-a-in-Two.result.found c.count_seen-a-in-Two.result.taken
 first t c =
     rest_along (of_5 t c) c.args.s.now 1 c.count_seen-a-in-Two.result.found c.count_seen-a-in-Two.result.taken
-        c.count_seen-a-in-Two.ensures.along
+    c.count_seen-a-in-Two.ensures.along
 
 second : (t : ℕ) (c : goal.After-struct_known-in-Two-4-1 t) →
     Along (of_5 t c) (drop (1 + c.count_seen-a-in-Two.result.taken) c.args.s.now) c.count_seen-b.result.found c.count_seen-b.result.taken
 second t c =
     rest_along (of_5 t c) c.args.s.now (1 + c.count_seen-a-in-Two.result.taken) c.count_seen-b.result.found c.count_seen-b.result.taken
-        c.count_seen-b.ensures.along
+    c.count_seen-b.ensures.along
 
 both : (t : ℕ) (q : goal.After-struct_known-in-Two-4-1 t) →
     let x = q.count_seen-a-in-Two.result in
@@ -94,10 +94,10 @@ unfolding mentions found taken
 returns-in-Number t c =
     let bytes = c.args.s.now in
     rw c.leaf.ensures
-        record {
-          few = cond_both Few (leb 5 (length bytes)) (leaf 5 0) no_names (omega arith) (omega arith);
-          along = number_along (of_2 t c) bytes found taken (leaf 5 0) no_names (sym c.tag_of.ensures ∙ c.in-Number.is) refl refl refl;
-        }
+    record {
+      few = cond_both Few (leb 5 (length bytes)) (leaf 5 0) no_names (omega arith) (omega arith);
+      along = number_along (of_2 t c) bytes found taken (leaf 5 0) no_names (sym c.tag_of.ensures ∙ c.in-Number.is) refl refl refl;
+    }
 
 pub returns-in-Name : goal.returns-in-Name
 unfolding mentions found taken
@@ -106,10 +106,10 @@ returns-in-Name t c =
     let wanted = is_seen (keys_of c.args.names.now c.args.contexts.now c.args.limit) (key_of c.args.context (name_of bytes)) in
     let here : Tally = leaf 3 (cond wanted 1 0) in
     rw c.named.ensures
-        record {
-          few = cond_both Few (leb 3 (length bytes)) here no_names (cond_le wanted 1 0 3 (omega arith) (omega arith)) (omega arith);
-          along = name_along (of_3 t c) bytes found taken here no_names (sym c.tag_of.ensures ∙ c.in-Name.is) refl refl refl;
-        }
+    record {
+      few = cond_both Few (leb 3 (length bytes)) here no_names (cond_le wanted 1 0 3 (omega arith) (omega arith)) (omega arith);
+      along = name_along (of_3 t c) bytes found taken here no_names (sym c.tag_of.ensures ∙ c.in-Name.is) refl refl refl;
+    }
 
 pub returns-in-One : goal.returns-in-One
 unfolding mentions

@@ -55,20 +55,20 @@ returns-then-s-lt1 t c = record { few = omega arith; counted = empty_counted _ _
 pub returns-in-Number : goal.returns-in-Number
 returns-in-Number t c =
     rw c.leaf.ensures
-        record {
-          few = cond_both Few (leb 5 (length c.args.s.now)) (leaf 5 0) no_names (omega arith) (omega arith);
-          counted = number_counted c.args.s.now c.args.links.now c.args.place (sym c.tag_of.ensures ∙ c.in-Number.is);
-        }
+    record {
+      few = cond_both Few (leb 5 (length c.args.s.now)) (leaf 5 0) no_names (omega arith) (omega arith);
+      counted = number_counted c.args.s.now c.args.links.now c.args.place (sym c.tag_of.ensures ∙ c.in-Number.is);
+    }
 
 pub returns-in-Name : goal.returns-in-Name
 returns-in-Name t c =
     let here = eqb (get_or c.args.links.now 0 0) c.args.place in
     rw c.linked.ensures
-        record {
-          few = cond_both Few (leb 3 (length c.args.s.now)) (leaf 3 (cond here 1 0)) no_names
-              (cond_le here 1 0 3 (omega arith) (omega arith)) (omega arith);
-          counted = name_counted c.args.s.now c.args.links.now c.args.place (sym c.tag_of.ensures ∙ c.in-Name.is);
-        }
+    record {
+      few = cond_both Few (leb 3 (length c.args.s.now)) (leaf 3 (cond here 1 0)) no_names
+          (cond_le here 1 0 3 (omega arith) (omega arith)) (omega arith);
+      counted = name_counted c.args.s.now c.args.links.now c.args.place (sym c.tag_of.ensures ∙ c.in-Name.is);
+    }
 
 pub returns-in-One : goal.returns-in-One
 returns-in-One t c =

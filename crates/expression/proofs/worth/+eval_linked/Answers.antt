@@ -17,7 +17,7 @@ only t c = let a = c.args in rest_evaluated a.s.now a.links.now a.values.now a.l
 first : (t : ℕ) (c : goal.After-struct_known-in-Two-2-1 t) →
     let a = c.args in
     Evaluated (drop 1 a.s.now) (drop 1 a.links.now) a.values.now a.limit c.eval_linked-a-in-Two.result.value
-        c.eval_linked-a-in-Two.result.taken
+    c.eval_linked-a-in-Two.result.taken
 first t c = let a = c.args in rest_evaluated a.s.now a.links.now a.values.now a.limit 1 _ _ c.eval_linked-a-in-Two.ensures
 
 both : (t : ℕ) (c : goal.After-struct_known-in-Two-2-1 t) →
@@ -29,7 +29,7 @@ both t c =
     let a = c.args in
     two_evaluated a.s.now a.links.now a.values.now a.limit c.in-Two.o (sym c.tag_of.ensures ∙ c.in-Two.is) c.if-s-lt1.false
     _ _ (first t c) _ _ (rest_evaluated a.s.now a.links.now a.values.now a.limit (1 + c.eval_linked-a-in-Two.result.taken) _ _
-        c.eval_linked-b.ensures)
+    c.eval_linked-b.ensures)
 
 pub returns-then-s-lt1 : goal.returns-then-s-lt1
 returns-then-s-lt1 t c = rw c.none.ensures (empty_evaluated _ _ _ _ (omega arith) Nothing)

@@ -12,13 +12,13 @@ pub returns-in-TooLong : goal.returns-in-TooLong
 returns-in-TooLong c =
     let next = exprs_end (c.args.n - (c.loop-k.k + 1)) c.args.s.now in
     sym (c.loop-k.invariant.2 ∙ exprs_more c.args.n c.loop-k.k c.args.s.now c.loop-k.a (omega arith) ∙ ap (λ (r : Read). and_then r next)
-        (sym c.expr_end.ensures ∙ c.in-TooLong.is))
+    (sym c.expr_end.ensures ∙ c.in-TooLong.is))
 
 pub returns-in-Broken : goal.returns-in-Broken
 returns-in-Broken c =
     let next = exprs_end (c.args.n - (c.loop-k.k + 1)) c.args.s.now in
     sym (c.loop-k.invariant.2 ∙ exprs_more c.args.n c.loop-k.k c.args.s.now c.loop-k.a (omega arith) ∙ ap (λ (r : Read). and_then r next)
-        (sym c.expr_end.ensures ∙ c.in-Broken.is))
+    (sym c.expr_end.ensures ∙ c.in-Broken.is))
 
 pub loop-k-preserved : goal.loop-k-preserved
 loop-k-preserved c =

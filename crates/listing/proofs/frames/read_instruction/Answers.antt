@@ -26,7 +26,7 @@ returns-in-Is c i =
     let places = ap₂ (λ (a b : Arg). instr_of (get_or frame 1 0) (arg_at 2) a b) c.place.ensures c.place-2.ensures in
     c.whole.ensures
     ∙ instruction_read frame (lent frame) c.operand_end-first.result c.operand_end-second.result c.operand_end-third.result x
-        c.if-frame-lt2.false (rest_is 2 frame)
+    c.if-frame-lt2.false (rest_is 2 frame)
     c.operand_end-first.ensures.0 c.operand_end-second.ensures.0 c.operand_end-third.ensures.0 made.0 (made.1 ∙ places) i
 
 pub returns-in-Nothing : goal.returns-in-Nothing

@@ -11,7 +11,7 @@ use Rattle.listing.proofs.hexadecimal.all_digits.Goals as goal
 pub returns-then-not-is_digit : goal.returns-then-not-is_digit
 returns-then-not-is_digit c =
     sym (every_fails is_digit c.args.line.now c.loop-i.i 0 (omega arith) (sym c.is_digit.ensures ∙ not-true c.is_digit.result
-        (ap not c.if-not-is_digit.true)))
+    (ap not c.if-not-is_digit.true)))
 
 pub returns : goal.returns
 returns c = sym (every_all is_digit c.args.line.now 0 (λ i h. c.loop-i.invariant.1 i (omega arith)))

@@ -28,5 +28,5 @@ loop-k-preserved c =
     let byte : c.byte_of.result ≡ get_or (bytes c) c.loop-k.k 0 =
     c.byte_of.ensures ∙ rw (without_at c.args.b u c.loop-k.k) (ap (λ (n : ℕ). get_or u n 0) c.kept_at.ensures.0) in
     let put = paste-suc c.args.frames.now c.args.at (bytes c) c.loop-k.k 0 (omega (arith, c.requires.3, c.requires.4))
-        (omega (arith, many c)) in
+    (omega (arith, many c)) in
     (omega arith, c.loop-k.invariant.1, rw (c.loop-k.invariant.2, byte, add-one) put)

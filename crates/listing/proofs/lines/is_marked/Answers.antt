@@ -25,19 +25,33 @@ pub returns-then-text-ne48 : goal.returns-then-text-ne48
 unfolding is_marked
 returns-then-text-ne48 c =
     let s = c.args.text.now in
-    rw (eq-eqb (get_or s 0 0) 55 c.if-text-ne55.false, eq-eqb (get_or s 1 0) 68 c.if-text-ne68.false, ne_eqb (get_or s 2 0) 48
-        c.if-text-ne48.true)
+    rw (
+      eq-eqb (get_or s 0 0) 55 c.if-text-ne55.false,
+      eq-eqb (get_or s 1 0) 68 c.if-text-ne68.false,
+      ne_eqb (get_or s 2 0) 48
+          c.if-text-ne48.true,
+    )
 
 pub returns-then-text-ne50 : goal.returns-then-text-ne50
 unfolding is_marked
 returns-then-text-ne50 c =
     let s = c.args.text.now in
-    rw (eq-eqb (get_or s 0 0) 55 c.if-text-ne55.false, eq-eqb (get_or s 1 0) 68 c.if-text-ne68.false, eq-eqb (get_or s 2 0) 48
-        c.if-text-ne48.false, ne_eqb (get_or s 3 0) 50 c.if-text-ne50.true)
+    rw (
+      eq-eqb (get_or s 0 0) 55 c.if-text-ne55.false,
+      eq-eqb (get_or s 1 0) 68 c.if-text-ne68.false,
+      eq-eqb (get_or s 2 0) 48
+          c.if-text-ne48.false,
+      ne_eqb (get_or s 3 0) 50 c.if-text-ne50.true,
+    )
 
 pub returns : goal.returns
 unfolding is_marked
 returns c =
     let s = c.args.text.now in
-    rw (eq-eqb (get_or s 0 0) 55 c.if-text-ne55.false, eq-eqb (get_or s 1 0) 68 c.if-text-ne68.false, eq-eqb (get_or s 2 0) 48
-        c.if-text-ne48.false, eq-eqb (get_or s 3 0) 50 c.if-text-ne50.false)
+    rw (
+      eq-eqb (get_or s 0 0) 55 c.if-text-ne55.false,
+      eq-eqb (get_or s 1 0) 68 c.if-text-ne68.false,
+      eq-eqb (get_or s 2 0) 48
+          c.if-text-ne48.false,
+      eq-eqb (get_or s 3 0) 50 c.if-text-ne50.false,
+    )

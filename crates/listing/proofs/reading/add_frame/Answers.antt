@@ -25,6 +25,6 @@ returns c =
     let stored : c.unhex_into.new.frames ≡ paste c.args.frames.now at u k =
     c.unhex_into.ensures ∙ ap₂ (λ (a m : ℕ). paste c.args.frames.now a (without m (unhex line)) (length line / 2 - m)) is b in
     let size : length u ≡ k = length_without (line_bytes w) (unhex line) (omega (arith, length_unhex line, c.requires.long))
-        ∙ ap (λ (n : ℕ). n - line_bytes w) (length_unhex line) in
+    ∙ ap (λ (n : ℕ). n - line_bytes w) (length_unhex line) in
     let there = bytes_there c.args.frames.now u at k size (omega (arith, c.requires.fits, c.requires.frames_size)) in
     record { stored = record { bytes = stored; next = rw (is, b) }; read = λ i. c.frame_at.ensures i ∙ rw (is, b, stored, there) }

@@ -57,36 +57,44 @@ returns-then-line-b c =
     }
 
 pub source_line-requires : goal.source_line-requires
-source_line-requires c =
-    (line_digits (form_of c.args.marked) c.args.text.now c.requires.0 c.line_length-n.ensures c.line_bytes-b.ensures.0 c.wide.ensures
-        c.within_limits.ensures (ap not c.if-not-within_limits.false) c.well_formed-2.ensures (ap not c.if-not-well_formed.false),
-        line_long (form_of c.args.marked) c.args.text.now c.requires.0 c.line_length-n.ensures c.line_bytes-b.ensures.0 c.wide.ensures
-        c.within_limits.ensures (ap not c.if-not-within_limits.false) c.well_formed-2.ensures (ap not c.if-not-well_formed.false)
-        c.if-line-b.false c.requires.1 c.requires.2)
+source_line-requires c = (
+  line_digits (form_of c.args.marked) c.args.text.now c.requires.0 c.line_length-n.ensures c.line_bytes-b.ensures.0 c.wide.ensures
+      c.within_limits.ensures (ap not c.if-not-within_limits.false) c.well_formed-2.ensures (ap not c.if-not-well_formed.false),
+  line_long (form_of c.args.marked) c.args.text.now c.requires.0 c.line_length-n.ensures c.line_bytes-b.ensures.0 c.wide.ensures
+      c.within_limits.ensures (ap not c.if-not-within_limits.false) c.well_formed-2.ensures (ap not c.if-not-well_formed.false)
+      c.if-line-b.false c.requires.1 c.requires.2,
+)
 
 pub bounds-lines-i : goal.bounds-lines-i
 bounds-lines-i c =
-    omega (arith, line_few (form_of c.args.marked) c.args.text.now c.requires.0 c.line_length-n.ensures c.line_bytes-b.ensures.0
-        c.wide.ensures c.within_limits.ensures (ap not c.if-not-within_limits.false) c.well_formed-2.ensures
-        (ap not c.if-not-well_formed.false), c.requires.3)
+    omega (
+      arith,
+      line_few (form_of c.args.marked) c.args.text.now c.requires.0 c.line_length-n.ensures c.line_bytes-b.ensures.0
+          c.wide.ensures c.within_limits.ensures (ap not c.if-not-within_limits.false) c.well_formed-2.ensures
+          (ap not c.if-not-well_formed.false),
+      c.requires.3,
+    )
 
 pub add_frame-requires : goal.add_frame-requires
 add_frame-requires c =
     line_room (form_of c.args.marked) c.args.text.now c.requires.0 c.line_length-n.ensures c.line_bytes-b.ensures.0 c.wide.ensures
-        c.within_limits.ensures (ap not c.if-not-within_limits.false) c.well_formed-2.ensures (ap not c.if-not-well_formed.false)
-        c.if-line-b.false c.requires.1 c.requires.2
+    c.within_limits.ensures (ap not c.if-not-within_limits.false) c.well_formed-2.ensures (ap not c.if-not-well_formed.false)
+    c.if-line-b.false c.requires.1 c.requires.2
 
 pub keep-requires : goal.keep-requires
 keep-requires c =
     let sizes = line_sizes (form_of c.args.marked) c.args.text.now c.requires.0 c.line_length-n.ensures c.line_bytes-b.ensures.0
-        c.wide.ensures c.within_limits.ensures (ap not c.if-not-within_limits.false) c.well_formed-2.ensures
-        (ap not c.if-not-well_formed.false) c.if-line-b.false c.requires.1 c.requires.2 c.add_frame.ensures.stored in
+    c.wide.ensures c.within_limits.ensures (ap not c.if-not-within_limits.false) c.well_formed-2.ensures
+    (ap not c.if-not-well_formed.false) c.if-line-b.false c.requires.1 c.requires.2 c.add_frame.ensures.stored in
     let small = line_places (form_of c.args.marked) c.args.text.now c.requires.0 c.line_length-n.ensures c.line_bytes-b.ensures.0
-        c.wide.ensures c.within_limits.ensures (ap not c.if-not-within_limits.false) c.well_formed-2.ensures
-        (ap not c.if-not-well_formed.false) c.if-line-b.false c.requires.1 c.requires.2 _ c.in-Is.is c.add_frame.ensures.read in
-    (line_few (form_of c.args.marked) c.args.text.now c.requires.0 c.line_length-n.ensures c.line_bytes-b.ensures.0 c.wide.ensures
-        c.within_limits.ensures (ap not c.if-not-within_limits.false) c.well_formed-2.ensures (ap not c.if-not-well_formed.false), sizes.1,
-        small 1, small 2)
+    c.wide.ensures c.within_limits.ensures (ap not c.if-not-within_limits.false) c.well_formed-2.ensures
+    (ap not c.if-not-well_formed.false) c.if-line-b.false c.requires.1 c.requires.2 _ c.in-Is.is c.add_frame.ensures.read in (
+      line_few (form_of c.args.marked) c.args.text.now c.requires.0 c.line_length-n.ensures c.line_bytes-b.ensures.0 c.wide.ensures
+          c.within_limits.ensures (ap not c.if-not-within_limits.false) c.well_formed-2.ensures (ap not c.if-not-well_formed.false),
+      sizes.1,
+      small 1,
+      small 2,
+    )
 
 pub returns-in-Is : goal.returns-in-Is
 returns-in-Is c =
@@ -94,8 +102,8 @@ returns-in-Is c =
     let it = c.in-Is.statement in
     let mid = c.add_frame.new.starts in
     let sizes = line_sizes (form_of c.args.marked) c.args.text.now c.requires.0 c.line_length-n.ensures c.line_bytes-b.ensures.0
-        c.wide.ensures c.within_limits.ensures (ap not c.if-not-within_limits.false) c.well_formed-2.ensures
-        (ap not c.if-not-well_formed.false) c.if-line-b.false c.requires.1 c.requires.2 c.add_frame.ensures.stored in
+    c.wide.ensures c.within_limits.ensures (ap not c.if-not-within_limits.false) c.well_formed-2.ensures
+    (ap not c.if-not-well_formed.false) c.if-line-b.false c.requires.1 c.requires.2 c.add_frame.ensures.stored in
     let kept = c.keep.ensures in record {
       line = line_judged (form_of c.args.marked) c.args.text.now c.requires.0 c.line_length-n.ensures c.line_bytes-b.ensures.0
           c.wide.ensures c.within_limits.ensures (ap not c.if-not-within_limits.false) c.well_formed-2.ensures
@@ -105,15 +113,19 @@ returns-in-Is c =
       source = as_first c.args.text.now c.line_length-n.result c.line_length-n.ensures (λ l. set c.args.lines.now c.args.i
           c.source_line.result ≡ set c.args.lines.now c.args.i (source_line (form_of c.args.marked) (unhex l.chars)))
           (ap (set c.args.lines.now c.args.i) c.source_line.ensures);
-      lengths = (sizes.0, ap length kept ∙ kept_size mid c.args.i it ∙ sizes.1, length-set c.args.lines.now c.args.i c.source_line.result
-          ∙ c.requires.3);
+      lengths = (
+        sizes.0,
+        ap length kept ∙ kept_size mid c.args.i it ∙ sizes.1,
+        length-set c.args.lines.now c.args.i c.source_line.result
+            ∙ c.requires.3,
+      );
     }
 
 pub returns-in-TooLong : goal.returns-in-TooLong
 returns-in-TooLong c =
     let sizes = line_sizes (form_of c.args.marked) c.args.text.now c.requires.0 c.line_length-n.ensures c.line_bytes-b.ensures.0
-        c.wide.ensures c.within_limits.ensures (ap not c.if-not-within_limits.false) c.well_formed-2.ensures
-        (ap not c.if-not-well_formed.false) c.if-line-b.false c.requires.1 c.requires.2 c.add_frame.ensures.stored in
+    c.wide.ensures c.within_limits.ensures (ap not c.if-not-within_limits.false) c.well_formed-2.ensures
+    (ap not c.if-not-well_formed.false) c.if-line-b.false c.requires.1 c.requires.2 c.add_frame.ensures.stored in
     record {
       line = line_judged (form_of c.args.marked) c.args.text.now c.requires.0 c.line_length-n.ensures c.line_bytes-b.ensures.0
           c.wide.ensures c.within_limits.ensures (ap not c.if-not-within_limits.false) c.well_formed-2.ensures
@@ -127,8 +139,8 @@ returns-in-TooLong c =
 pub returns-in-Broken : goal.returns-in-Broken
 returns-in-Broken c =
     let sizes = line_sizes (form_of c.args.marked) c.args.text.now c.requires.0 c.line_length-n.ensures c.line_bytes-b.ensures.0
-        c.wide.ensures c.within_limits.ensures (ap not c.if-not-within_limits.false) c.well_formed-2.ensures
-        (ap not c.if-not-well_formed.false) c.if-line-b.false c.requires.1 c.requires.2 c.add_frame.ensures.stored in
+    c.wide.ensures c.within_limits.ensures (ap not c.if-not-within_limits.false) c.well_formed-2.ensures
+    (ap not c.if-not-well_formed.false) c.if-line-b.false c.requires.1 c.requires.2 c.add_frame.ensures.stored in
     record {
       line = line_judged (form_of c.args.marked) c.args.text.now c.requires.0 c.line_length-n.ensures c.line_bytes-b.ensures.0
           c.wide.ensures c.within_limits.ensures (ap not c.if-not-within_limits.false) c.well_formed-2.ensures

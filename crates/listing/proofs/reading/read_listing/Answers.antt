@@ -43,13 +43,17 @@ loop-rest-preserved c =
     let told = c.in-Stands.is in
     let w = form_of c.new_form-marked.result in
     let next = at_next w c.args.text.now c.loop-rest.rest.now c.loop-rest.frames c.loop-rest.starts c.read_line.new.frames
-        c.read_line.new.starts c.loop-rest.i c.loop-rest.invariant.0 (omega arith) c.read_line.result c.read_line.ensures.line told in
+    c.read_line.new.starts c.loop-rest.i c.loop-rest.invariant.0 (omega arith) c.read_line.result c.read_line.ensures.line told in
     let few = next.held.few in
     let lines = lines_next w c.args.text.now c.loop-rest.rest.now c.loop-rest.lines c.read_line.new.lines c.loop-rest.i
-        c.loop-rest.invariant.1 (omega arith) (omega (arith, few, c.loop-rest.invariant.4)) c.read_line.result c.read_line.ensures.source
-        told in
-    (rw (c.take_line-next.ensures, add-one) next, rw (c.take_line-next.ensures, add-one) lines, c.read_line.ensures.lengths.0,
-        c.read_line.ensures.lengths.1, c.read_line.ensures.lengths.2)
+    c.loop-rest.invariant.1 (omega arith) (omega (arith, few, c.loop-rest.invariant.4)) c.read_line.result c.read_line.ensures.source
+    told in (
+      rw (c.take_line-next.ensures, add-one) next,
+      rw (c.take_line-next.ensures, add-one) lines,
+      c.read_line.ensures.lengths.0,
+      c.read_line.ensures.lengths.1,
+      c.read_line.ensures.lengths.2,
+    )
 
 pub returns : goal.returns
 returns c =

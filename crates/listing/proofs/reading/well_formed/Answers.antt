@@ -12,19 +12,19 @@ pub returns-then-not-all_digits : goal.returns-then-not-all_digits
 unfolding well_formed
 returns-then-not-all_digits c =
     let digits : every (λ b. is_digit b) c.args.line.now ≡ false = sym c.all_digits.ensures ∙ not-true c.all_digits.result
-        (ap not c.if-not-all_digits.true) in
+    (ap not c.if-not-all_digits.true) in
     rw digits
 
 pub returns-then-line-ne0 : goal.returns-then-line-ne0
 unfolding well_formed
 returns-then-line-ne0 c =
     let digits : every (λ b. is_digit b) c.args.line.now ≡ true = sym c.all_digits.ensures ∙ not-false c.all_digits.result
-        (ap not c.if-not-all_digits.false) in
+    (ap not c.if-not-all_digits.false) in
     rw (digits, ne_eqb _ _ c.if-line-ne0.true)
 
 pub returns : goal.returns
 unfolding well_formed
 returns c =
     let digits : every (λ b. is_digit b) c.args.line.now ≡ true = sym c.all_digits.ensures ∙ not-false c.all_digits.result
-        (ap not c.if-not-all_digits.false) in
+    (ap not c.if-not-all_digits.false) in
     rw (digits, eq-eqb _ _ c.if-line-ne0.false)

@@ -59,6 +59,6 @@ returns-in-Is c =
           let t : Slots = slots frames (starts_in c.args.state.now) count (forms_in c.args.state.now) carry owners offsets in
           let one = first_is t h (place c) l 0 kind in
           instr_means t h (place c) l (held c) (sym (form_is c)) (not_gone t (place c) 0 kind) one agree (second c) (third c)
-              (second_is c frames count h l one) (third_is c frames count h l one)
+          (second_is c frames count h l one) (third_is c frames count h l one)
           ∙ ap (λ x. meant_by t (place c) (OfInstr x)) (sym made.1);
     }

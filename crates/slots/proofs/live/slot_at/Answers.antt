@@ -117,7 +117,7 @@ returns-then-frame-eq1 c carry owners offsets =
     record {
       kind = kind_kept t (place_3 c) (kept c)
           ∙ kind_read (place_3 c) (frame_3 c) (written t (place_3 c)) (frame_is t.frames t.starts t.count c.requires.0 (place_3 c)
-              c.requires.1) ∙ one;
+          c.requires.1) ∙ one;
       form = λ g e. (let z : g ≡ c.form_in-form.result = cc in z ∙ form_is c);
       holds = λ x e. apart (Form c.form_in-form.result) (Holds x) e (λ z. omega arith);
     }
@@ -129,7 +129,7 @@ returns c carry owners offsets =
     let means : slot_at t (place_4 c) ≡ meant_by t (place_4 c) c.other_in.result =
     other_means t c.requires.0 (place_4 c) c.requires.1 (kept_2 c) (other c) ∙ ap (meant_by t (place_4 c)) (sym is) in
     let kind : kind_of (slot_at t (place_4 c)) ≡ kind_for c.other_in.result = ap kind_of means ∙ kind_meant t (place_4 c) c.other_in.result
-        in
+    in
     let here : (x : Statement) → Holds c.other_in.result ≡ Holds x → c.other_in.result ≡ x = (λ x e. cc) in
     record {
       kind = kind;
