@@ -3,23 +3,21 @@ use mathlib.Core.Path.{◌≡◌, refl, sym, ap, ◌∙◌}
 use mathlib.Core.Logic.{◌⊎◌, inl, inr}
 use mathlib.Core.List.{List, [], ◌∷◌, ◌++◌}
 use mathlib.Core.Bool.{Bool, true, false, ◌||◌, ◌&&◌, not, cond}
-use Prim.Native.Nat.{ℕ, ◌+◌, ◌≤◌, ◌<◌}
+use Prim.Native.Nat.{ℕ, ◌+◌, ◌<◌}
 use native.Mathlib.Omega.{arith}
-use lib.Dec.{eqb, leb}
+use lib.Dec.{leb}
 use lib.ListN.{length, get_or, drop, get_or-append}
 use lib.Seq.{get_or-drop}
 use borrow.Author.Tests.{eq-eqb, ne_eqb}
 use Rattle.laws.specs.Counts.{tab}
-use Rattle.laws.proofs.Tests.{eq_or_not, lt_or_le}
+use Rattle.laws.proofs.Tests.{eq_or_not}
 use Rattle.laws.proofs.Counts.{length_tab, get_or_tab, tab_ext, map_tab}
 use Rattle.laws.proofs.Stores.{front_drop}
 use Rattle.rules.specs.declared.Settings.{Settings}
 use Rattle.rules.specs.Programs.{Placeℕ, Stmt, gone, instr, on_instr, kind_of, has_kind}
 use Rattle.rules.specs.Output.{spoken, shown}
-use Rattle.listing.specs.Tables.{frame_at, Held}
-use Rattle.slots.specs.Slots.{Slots, gone_form, written, target_of, aimed_at, slot_at, program_of, Sound, WroteTarget}
-use Rattle.slots.proofs.Slots.{slot_gone, kind_read, kind_kept, not_gone}
-use Rattle.slots.proofs.Tables.{frame_is}
+use Rattle.slots.specs.Slots.{Slots, gone_form, written, target_of, aimed_at, slot_at, program_of, Sound}
+use Rattle.slots.proofs.Slots.{slot_gone, not_gone}
 use Rattle.output.specs.Showing.{shown_form, formed, Shown}
 
 -- ---- one statement

@@ -19,7 +19,6 @@ use Rattle.rules.specs.Programs.{Operand, Stmt, gone, instr, label, variable, co
 use Rattle.rules.specs.Listing.{ListingForm, old_form, new_form}
 use Rattle.rules.specs.Output.{plain_target, operand_bytes, frame_of, frame_in, line_of}
 use Rattle.expression.specs.Sound.{AreBytes}
-use Rattle.expression.proofs.RoundTrip.{bytes_drop}
 use Rattle.listing.specs.Tables.{frame_at, Held}
 use Rattle.slots.specs.Slots.{Slots, Sound, WroteTarget, gone_form, no_owner, written, target_of, aimed_at, slot_at, program_of}
 use Rattle.slots.proofs.Frames.{Left, InstrFrame, Frame, of_instr, of_label, of_variable, of_comment, of_org, of_bytes, of_words, of_pad, frame_of_lem}
