@@ -1,26 +1,25 @@
 -- Labels and variables. Assumes nothing.
-use mathlib.Core.Path.{◌≡◌, refl, sym, ap, ◌∙◌, subst}
-use mathlib.Core.List.{List, [], ◌∷◌, ◌++◌}
-use mathlib.Core.Option.{Option, none, some}
-use mathlib.Core.Bool.{Bool, true, false, ◌||◌, cond}
-use Prim.Native.Nat.{ℕ, zero, suc, ◌+◌, ◌≤◌, ◌<◌}
+use mathlib.Core.Path.{◌≡◌, refl, subst}
+use mathlib.Core.List.{List, ◌∷◌, ◌++◌}
+use mathlib.Core.Option.{none}
+use mathlib.Core.Bool.{◌||◌}
+use Prim.Native.Nat.{ℕ, ◌+◌, ◌≤◌}
 use native.Mathlib.Omega.{arith}
 use lib.Dec.{eqb}
 use lib.ListN.{length, drop}
 use borrow.Author.Tests.{ne_eqb}
 use Rattle.rules.specs.Expressions.{Expr, pair, bytes_of}
-use Rattle.rules.specs.Programs.{Stmt, label, variable}
+use Rattle.rules.specs.Programs.{label, variable}
 use Rattle.rules.specs.Output.{frame_of}
 use Rattle.grammar.specs.Reading.{look}
-use Rattle.grammar.specs.Going.{Read, got, stuck, whole, Goes}
 use Rattle.leaves.specs.declared.Found.{Found}
 use Rattle.leaves.specs.declared.Found.TheVariants.{Ends, Stuck}
 use Rattle.plans.specs.Plans as plans
 use Rattle.plans.specs.Plans.{Plan, done, fork, expression, Walks}
 use Rattle.plans.specs.Lines.{after_global}
-use Rattle.laying.specs.Laying.{long, Stands, Added, Termed}
+use Rattle.laying.specs.Laying.{long, Stands, Termed}
 use Rattle.laying.specs.declared.Told.{Told}
-use Rattle.laying.specs.declared.Told.TheVariants.{Frame, Wrong}
+use Rattle.laying.specs.declared.Told.TheVariants.{Wrong}
 use Rattle.laying.specs.Speaking.{Held, Spoken, ends_at}
 use Rattle.laying.proofs.Speaking.{through, done_spoken, fork_byte, fork_wrong}
 
