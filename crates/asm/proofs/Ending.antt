@@ -7,22 +7,20 @@ use native.Mathlib.Omega.{arith}
 use lib.IntN.{ℤ}
 use Rattle.laws.proofs.Tests.{false_true}
 use Rattle.rules.specs.declared.Refusal.{Refusal}
-use Rattle.rules.specs.Answers.{Judged, ok, no, Check, ◌>>=◌, ◌>>◌, judged_or, is_ok}
+use Rattle.rules.specs.Answers.{Judged, ok, no, Check, ◌>>=◌, ◌>>◌, is_ok}
 use Rattle.rules.specs.Programs.{Program}
-use Rattle.rules.specs.Layout.{position}
 use Rattle.rules.specs.Names.{Entry, placed}
 use Rattle.rules.specs.Judging.{no_name_twice, positions_fit, define_all, encode_all, names_of, judge, assembles}
-use Rattle.rules.proofs.Laws.{next_ok}
 use Rattle.slots.specs.Slots.{Slots, program_of, Sound}
 use Rattle.slots.specs.Links.{contexts_read, Beside, Together}
 use Rattle.slots.specs.declared.Checked.{Checked}
-use Rattle.slots.specs.declared.Checked.TheVariants.{Passes, Refused}
+use Rattle.slots.specs.declared.Checked.TheVariants.{Refused}
 use Rattle.env.specs.Answers.{checked_as as env_checked_as}
 use Rattle.env.specs.Settling.{Settled}
 use Rattle.env.proofs.Programs.{length_program}
 use Rattle.slots.specs.declared.Checked.{Checked as Encoded}
 use Rattle.slots.specs.declared.Checked.TheVariants.{Passes as Encodes, Refused as Encoded-as-Refused}
-use Rattle.image.specs.Tables.{Tables, program, Ready}
+use Rattle.image.specs.Tables.{Tables, Ready}
 use Rattle.image.specs.Encoding.{checked_as, encode_slots}
 use Rattle.asm.specs.declared.Verdict.{Verdict}
 use Rattle.asm.specs.declared.Verdict.TheVariants.{Good, Refused as Bad}

@@ -13,7 +13,7 @@ use lib.Seq.{drop-cons}
 use borrow.Author.Tests.{leb-true, ltb-true, le-leb, lt-leb, lt-ltb}
 use Rattle.laws.proofs.Tests.{eq_or_not, lt_or_le, cond_true, cond_false, first_false, and_true, and_left, same_test}
 use Rattle.rules.specs.Answers.{at_place}
-use Rattle.rules.specs.Programs.{Placeℕ, Addressℕ, gone, bytes, words, pad, Program, at, up_to, byte_count, kind_of}
+use Rattle.rules.specs.Programs.{Placeℕ, Addressℕ, gone, bytes, words, Program, at, up_to, byte_count, kind_of}
 use Rattle.rules.specs.Layout.{after, position, size_in, Origin as Source, origin_from}
 use Rattle.instruction.proofs.Numbers.{size_bound}
 use Rattle.rules.specs.Statements.{pair_at}
@@ -24,10 +24,9 @@ use Rattle.slots.proofs.Slots.{size_instr, size_none, slot_data, written_frame, 
 use Rattle.slots.proofs.Tables.{bytes_frame}
 use Rattle.env.proofs.Programs.{length_program, at_program}
 use Rattle.env.proofs.Positions.{position_first, position_more}
-use Rattle.image.specs.Tables.{Tables, program, Ready}
 use Rattle.asm.specs.declared.Origin.TheVariants.{At, Nothing}
 use Rattle.asm.specs.Belonging.{origin_as, OriginIn, FoundAs}
-use Rattle.asm.proofs.OriginsBack.{Rises, origin_stems}
+use Rattle.asm.proofs.OriginsBack.{origin_stems}
 
 -- ---- from place i on
 

@@ -4,7 +4,6 @@ use mathlib.Core.List.{List}
 use Prim.Native.Nat.{ℕ, ◌<◌}
 use native.Mathlib.Omega.{arith}
 use lib.ListN.{length, get_or, drop}
-use Rattle.laws.specs.Counts.{tab}
 use Rattle.laws.proofs.Counts.{length_tab, get_or_tab}
 use Rattle.rules.specs.Programs.{Placeℕ, Stmt, gone, instr, label, variable, comment, org, bytes, words, pad, Instruction, on_instr, at, as_name}
 use Rattle.rules.specs.Names.{enter, context_at}

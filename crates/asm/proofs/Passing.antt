@@ -26,7 +26,7 @@ use Rattle.slots.specs.Links.{name_in, names_read, contexts_read, names_now, Bes
 use Rattle.env.specs.Tables.{name_said, NamesIn, Named, LaidOut, ShownTo, Defined}
 use Rattle.env.proofs.Programs.{length_program, at_program}
 use Rattle.env.proofs.Filled.{get_filled}
-use Rattle.asm.specs.Assembling.{names_judged, Placed, InPlace, Once, Filled, Prepared}
+use Rattle.asm.specs.Assembling.{names_judged, Placed, InPlace, Once, Prepared}
 
 -- ---- what an answer says of its check
 

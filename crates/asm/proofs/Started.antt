@@ -1,23 +1,22 @@
 -- The slots of a listing as read: each place has its own form and its own target, and no target became an inner label. They hold the listing's
 -- statements, and all that is asked of slots is known of them.
 use mathlib.Core.Path.{◌≡◌, refl, sym, ap, ◌∙◌}
-use mathlib.Core.List.{List, [], ◌∷◌, map}
+use mathlib.Core.List.{List, [], ◌∷◌}
 use mathlib.Core.Bool.{Bool, true, false, cond}
-use Prim.Native.Nat.{ℕ, zero, suc, ◌+◌, ◌*◌, ◌%◌, ◌≤◌, ◌<◌}
+use Prim.Native.Nat.{ℕ, zero, suc, ◌+◌, ◌*◌, ◌%◌, ◌<◌}
 use native.Mathlib.Omega.{arith}
-use lib.Dec.{eqb, ltb}
 use lib.ListN.{get_or, length}
-use borrow.Author.Tests.{eq-eqb, ne_eqb, le-ltb}
+use borrow.Author.Tests.{eq-eqb, ne_eqb}
 use Rattle.laws.proofs.Counts.{tab_ext}
-use Rattle.rules.specs.Forms.{is_transfer, operands_at}
-use Rattle.rules.specs.Programs.{Operand, register, Stmt, instr, Instruction, on_instr, args_of, last_of, on_last, kind_of}
+use Rattle.rules.specs.Forms.{is_transfer}
+use Rattle.rules.specs.Programs.{Operand, Stmt, instr, args_of, last_of, on_last, kind_of}
 use Rattle.listing.specs.Tables.{frame_at, input_at, input_of, form_in, Held}
-use Rattle.slots.specs.Slots.{Slots, slots, gone_form, no_owner, written, target_of, aimed_at, slot_at, program_of, is_reg, Agree, WroteTarget, Sound}
+use Rattle.slots.specs.Slots.{Slots, slots, gone_form, no_owner, written, target_of, slot_at, program_of, Sound}
 use Rattle.slots.proofs.Frames.{Frame, InstrFrame, of_instr, of_label, of_variable, of_comment, of_org, of_bytes, of_words, of_pad}
 use Rattle.slots.specs.State.{low_bytes, starts_in}
 use Rattle.slots.proofs.State.{byte_at, byte_same, found_is}
 use Rattle.slots.proofs.Tables.{frame_is}
-use Rattle.slots.proofs.Slots.{slot_instr, slot_other, kind_kept, kind_read, written_frame}
+use Rattle.slots.proofs.Slots.{slot_instr, slot_other, kind_read, written_frame}
 use Rattle.asm.specs.Starting.{Column}
 
 -- ---- the rows that were copied

@@ -2,7 +2,7 @@
 use Rattle.std.specs.Prelude.{◌≡◌, ◌<◌}
 use Rattle.std.proofs.Math.Option.{Option, none, some}
 use Rattle.rules.specs.Answers.{at_place}
-use Rattle.rules.specs.Programs.{Placeℕ, Addressℕ, byte_count}
+use Rattle.rules.specs.Programs.{Addressℕ, byte_count}
 use Rattle.rules.specs.Layout.{position, Origin as Source, origin_from}
 use Rattle.slots.specs.Slots.{Slots, slot_at, program_of}
 use Rattle.asm.specs.declared.Origin.{Origin}
