@@ -1,8 +1,8 @@
 -- A comment's bytes, pair by pair. Assumes nothing.
-use mathlib.Core.Path.{◌≡◌, refl, sym, ap, ◌∙◌, subst}
+use mathlib.Core.Path.{◌≡◌, refl, sym, ap, ◌∙◌}
 use mathlib.Core.List.{List, [], ◌∷◌, ◌++◌, append_assoc, append-nil}
-use mathlib.Core.Bool.{Bool, true, false, cond}
-use Prim.Native.Nat.{ℕ, zero, suc, ◌+◌, ◌*◌, ◌-◌, ◌≤◌, ◌<◌}
+use mathlib.Core.Bool.{Bool, true, false}
+use Prim.Native.Nat.{ℕ, suc, ◌+◌, ◌*◌, ◌-◌, ◌≤◌, ◌<◌}
 use native.Mathlib.Omega.{arith}
 use lib.Dec.{leb}
 use borrow.Author.Tests.{le-leb, lt-leb, leb-true, leb-false}
@@ -11,7 +11,7 @@ use lib.ListN.{length, drop, get_or, length-drop, drop_of_length-le}
 use lib.Seq.{drop-cons}
 use native.Mathlib.Numerals.{add-one}
 use Rattle.rules.specs.Listing.{is_digit, digit}
-use Rattle.rules.specs.Programs.{Stmt, comment}
+use Rattle.rules.specs.Programs.{comment}
 use Rattle.rules.specs.Output.{frame_of}
 use Rattle.grammar.specs.Going.{Read, got, stuck, on_got}
 use Rattle.plans.specs.Plans as plans
@@ -19,9 +19,8 @@ use Rattle.plans.specs.Plans.{Plan, finish, Walks}
 use Rattle.plans.specs.Finals.{hexes, comments}
 use Rattle.laying.specs.Laying.{Stands, Added}
 use Rattle.laying.proofs.Laying.{nothing_stands}
-use Rattle.laying.specs.declared.Told.{Told}
 use Rattle.laying.specs.declared.Told.TheVariants.{Frame, Wrong}
-use Rattle.laying.specs.Speaking.{Held, Spoken}
+use Rattle.laying.specs.Speaking.{Spoken}
 
 on_same : (o : Read (List ℕ)) → on_got (λ r. [] ++ r) o ≡ o
 on_same (got x r) = refl

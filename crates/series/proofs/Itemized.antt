@@ -1,18 +1,17 @@
 -- Items of data, one by one. Assumes nothing.
 use mathlib.Core.Path.{◌≡◌, refl, sym, ap, ◌∙◌, subst}
-use mathlib.Core.List.{List, [], ◌∷◌, ◌++◌, append_assoc, append-nil}
-use mathlib.Core.Option.{Option, none, some}
-use mathlib.Core.Bool.{Bool, true, false, cond}
+use mathlib.Core.List.{List, [], ◌∷◌, ◌++◌, append-nil}
+use mathlib.Core.Option.{some}
 use Prim.Native.Nat.{ℕ, zero, suc, ◌+◌, ◌-◌, ◌≤◌, ◌<◌}
 use native.Mathlib.Omega.{arith}
 use lib.Dec.{eqb}
-use lib.ListN.{length, drop, take, set, length-append, length-set, length-drop, drop_of_length-le}
+use lib.ListN.{length, drop, set, length-append, length-set, length-drop, drop_of_length-le}
 use lib.Seq.{take-set-lt}
 use borrow.Author.Tests.{ne_eqb}
 use Rattle.laws.specs.Lists.{each, total}
 use Rattle.laws.proofs.Lists.{each_append, total_append}
 use Rattle.rules.specs.Expressions.{Expr, bytes_of}
-use Rattle.rules.specs.Programs.{Stmt, bytes, words, over_exprs}
+use Rattle.rules.specs.Programs.{Stmt, bytes, words}
 use Rattle.rules.specs.Output.{frame_of}
 use Rattle.grammar.specs.Reading.{look}
 use Rattle.grammar.specs.Going.{Read, got, stuck, whole, Goes}
@@ -26,7 +25,7 @@ use Rattle.laying.proofs.Laying.{nothing_stands}
 use Rattle.laying.specs.declared.Told.{Told}
 use Rattle.laying.specs.declared.Told.TheVariants.{Frame, Wrong}
 use Rattle.laying.specs.Speaking.{Spoken, item_bytes, ItemsEnd, Listed}
-use Rattle.laying.proofs.Speaking.{first_byte, fork_byte}
+use Rattle.laying.proofs.Speaking.{fork_byte}
 
 -- ---- the count
 

@@ -1,14 +1,9 @@
 use mathlib.Core.Path.{sym, ap, ◌∙◌}
 use native.Mathlib.Omega.{arith}
-use Prim.Native.Nat.{◌+◌, ◌*◌, ◌-◌, ◌<◌}
+use Prim.Native.Nat.{◌+◌, ◌*◌, ◌<◌}
 use lib.ListN.{length, get_or}
 use Rattle.rules.specs.Listing.{digit}
 use Rattle.series.proofs.Hexes.{none_paired, empty_comment, pair_first, pair_cut, pair_second, pair_next, pairs_end}
-use Rattle.series.proofs.comments.comment_line.Reads as reads
-use Rattle.series.proofs.comments.comment_line.Lts as lts
-use Rattle.laying.proofs.put.Reads as put_reads
-use Rattle.series.proofs.comments.hex.Reads as hex_reads
-use Rattle.series.proofs.comments.is_hex.Reads as is_hex_reads
 use Rattle.series.proofs.comments.comment_line.Goals as goal
 
 -- src/comments.rt:38:9

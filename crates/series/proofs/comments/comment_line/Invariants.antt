@@ -2,11 +2,6 @@ use mathlib.Core.Path.{◌≡◌}
 use Prim.Native.Nat.{◌-◌, ◌≤◌}
 use lib.ListN.{length}
 use Rattle.series.proofs.Hexes.{Paired}
-use Rattle.series.proofs.comments.comment_line.Reads as reads
-use Rattle.series.proofs.comments.comment_line.Lts as lts
-use Rattle.laying.proofs.put.Reads as put_reads
-use Rattle.series.proofs.comments.hex.Reads as hex_reads
-use Rattle.series.proofs.comments.is_hex.Reads as is_hex_reads
 use Rattle.series.proofs.comments.comment_line.Given as goal
 
 abbrev pub invariant-loop-i : goal.invariant-loop-i

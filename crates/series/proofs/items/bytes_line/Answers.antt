@@ -1,8 +1,5 @@
 use Rattle.rules.specs.Programs.{bytes}
 use Rattle.series.proofs.Itemized.{bytes_spoken}
-use Rattle.series.proofs.items.bytes_line.Reads as reads
-use Rattle.series.proofs.items.bytes_line.Lts as lts
-use Rattle.series.proofs.items.items.Reads as items_reads
 use Rattle.series.proofs.items.bytes_line.Goals as goal
 
 -- src/items.rt:58:1

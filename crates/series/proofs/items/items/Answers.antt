@@ -1,15 +1,9 @@
 use mathlib.Core.Path.{sym, ap, ◌∙◌}
 use native.Mathlib.Omega.{arith}
-use Prim.Native.Nat.{◌-◌, ◌<◌}
+use Prim.Native.Nat.{◌<◌}
 use Rattle.grammar.specs.Reading.{look}
 use Rattle.leaves.proofs.Leafs.{rest_is}
 use Rattle.series.proofs.Itemized.{none_yet, item_stuck, item_last, item_other, item_full, item_next, term_room}
-use Rattle.series.proofs.items.items.Reads as reads
-use Rattle.series.proofs.items.items.Lts as lts
-use Rattle.laying.proofs.put.Reads as put_reads
-use Rattle.laying.proofs.term.Reads as term_reads
-use Rattle.leaves.proofs.lexing.look.Reads as look_reads
-use Rattle.series.proofs.items.count.Reads as count_reads
 use Rattle.series.proofs.items.items.Goals as goal
 
 -- src/items.rt:34:5

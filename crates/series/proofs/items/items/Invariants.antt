@@ -5,12 +5,6 @@ use lib.ListN.{length}
 use Rattle.rules.specs.Expressions.{Expr}
 use Rattle.rules.specs.Programs.{Stmt}
 use Rattle.series.proofs.Itemized.{SoFar}
-use Rattle.series.proofs.items.items.Reads as reads
-use Rattle.series.proofs.items.items.Lts as lts
-use Rattle.laying.proofs.put.Reads as put_reads
-use Rattle.laying.proofs.term.Reads as term_reads
-use Rattle.leaves.proofs.lexing.look.Reads as look_reads
-use Rattle.series.proofs.items.count.Reads as count_reads
 use Rattle.series.proofs.items.items.Given as goal
 
 abbrev pub invariant-loop-n : goal.invariant-loop-n

@@ -1,8 +1,5 @@
 use Rattle.rules.specs.Programs.{words}
 use Rattle.series.proofs.Itemized.{words_spoken}
-use Rattle.series.proofs.items.words_line.Reads as reads
-use Rattle.series.proofs.items.words_line.Lts as lts
-use Rattle.series.proofs.items.items.Reads as items_reads
 use Rattle.series.proofs.items.words_line.Goals as goal
 
 -- src/items.rt:65:1
