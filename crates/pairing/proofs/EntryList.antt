@@ -15,7 +15,8 @@ entries_count [] = refl
 entries_count (b ∷ []) = refl
 entries_count (high ∷ low ∷ s) = omega (arith, entries_count s)
 
-pub entry_whole : (s : List ℕ) (k : ℕ) → 2 * k + 1 < length s → get_or (entries_of s) k 0 ≡ get_or s (2 * k) 0 * 256 + get_or s (2 * k + 1) 0
+pub entry_whole : (s : List ℕ) (k : ℕ) → 2 * k + 1 < length s → get_or (entries_of s) k 0 ≡ get_or s (2 * k) 0 * 256 + get_or s (2 * k + 1)
+    0
 unfolding entries_of
 entry_whole [] k h = absurd (omega arith)
 entry_whole (b ∷ []) k h = absurd (omega arith)
@@ -40,7 +41,8 @@ module _ (n m low : ℕ) (is : List ℕ) (k : ℕ) where
   unfolding good_from
   good_more h e = rw (drop-cons is k 0 h, e)
 
-  pub good_stop : k < length is → leb low (get_or is k 0) && (ltb (get_or is k 0) n && ltb k m) ≡ false → good_from n m low k (drop k is) ≡ 0
+  pub good_stop : k < length is → leb low (get_or is k 0) && (ltb (get_or is k 0) n && ltb k m) ≡ false → good_from n m low k (drop k is)
+      ≡ 0
   unfolding good_from
   good_stop h e = rw (drop-cons is k 0 h, e)
 

@@ -28,7 +28,8 @@ module _ (p : List ℕ) (k i j : ℕ) (h : k < 1024) (size : length p ≡ 2048) 
 
   it : pair_at stored k ≡ record { first = i; second = j }
   it =
-      let a : get_or stored k 0 ≡ i = get_or-set_other (set p k i) (1024 + k) k j 0 (λ q. omega arith) ∙ get_or-set_same p k i 0 (omega arith) in
+      let a : get_or stored k 0 ≡ i = get_or-set_other (set p k i) (1024 + k) k j 0 (λ q. omega arith) ∙ get_or-set_same p k i 0
+      (omega arith) in
       let b : get_or stored (1024 + k) 0 ≡ j = get_or-set_same (set p k i) (1024 + k) j 0 (omega (arith, length-set p k i)) in
       rw (a, b)
 

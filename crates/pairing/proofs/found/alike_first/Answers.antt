@@ -14,9 +14,6 @@ module _ (s : goal.Then-m-k) where
   abbrev b : Frames
   b = frames_of s.args.second.now
 
-  size_a : length a ≡ s.args.n
-  size_a = frames_count s.args.first.now ∙ sym s.requires.0.count
-
   size_b : length b ≡ s.args.m
   size_b = frames_count s.args.second.now ∙ sym s.requires.1.count
 
@@ -55,9 +52,6 @@ module _ (s : goal.After-loop-k) where
 
   size_a_4 : length a_4 ≡ s.args.n
   size_a_4 = frames_count s.args.first.now ∙ sym s.requires.0.count
-
-  size_b_4 : length b_4 ≡ s.args.m
-  size_b_4 = frames_count s.args.second.now ∙ sym s.requires.1.count
 
 pub returns-then-m-k : goal.returns-then-m-k
 returns-then-m-k c =

@@ -7,7 +7,8 @@ use Rattle.pairing.proofs.found.alike_first.Given as goal
 
 abbrev pub invariant-loop-k : goal.invariant-loop-k
 invariant-loop-k l =
-    (l.k ≤ l.n) × (l.k ≤ l.m) × (l.k + common (drop l.k (frames_of l.first)) (drop l.k (frames_of l.second)) ≡ common (frames_of l.first) (frames_of l.second))
+    (l.k ≤ l.n) × (l.k ≤ l.m) × (l.k + common (drop l.k (frames_of l.first)) (drop l.k (frames_of l.second)) ≡ common (frames_of l.first)
+    (frames_of l.second))
 
 abbrev pub decreases-loop-k : goal.decreases-loop-k
 decreases-loop-k l = l.n - l.k

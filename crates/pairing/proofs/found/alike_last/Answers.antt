@@ -21,14 +21,8 @@ module _ (s : goal.Then-m-b) where
   abbrev rb : Frames
   rb = behind s.args.second.now s.args.b
 
-  size_a : length (frames_of s.args.first.now) ≡ s.args.n
-  size_a = frames_count s.args.first.now ∙ sym s.requires.0.count
-
   size_b : length (frames_of s.args.second.now) ≡ s.args.m
   size_b = frames_count s.args.second.now ∙ sym s.requires.1.count
-
-  left_a : length ra ≡ s.args.n - s.args.b
-  left_a = last_count (frames_of s.args.first.now) s.args.b ∙ rw size_a
 
   left_b : length rb ≡ s.args.m - s.args.b
   left_b = last_count (frames_of s.args.second.now) s.args.b ∙ rw size_b
@@ -79,10 +73,6 @@ module _ (s : goal.Else-not-same_frame) where
   left_b_3 : length rb_3 ≡ s.args.m - s.args.b
   left_b_3 = last_count (frames_of s.args.second.now) s.args.b ∙ rw size_b_3
 
-  -- b is the beginning
-  done_3 : (k : ℕ) → k ≡ common ra_3 rb_3 → k ≡ ending (frames_of s.args.first.now) (frames_of s.args.second.now)
-  done_3 k e = rw (← s.requires.2) e
-
 module _ (s : goal.After-loop-k) where
   abbrev ra_4 : Frames
   ra_4 = behind s.args.first.now s.args.b
@@ -93,14 +83,8 @@ module _ (s : goal.After-loop-k) where
   size_a_4 : length (frames_of s.args.first.now) ≡ s.args.n
   size_a_4 = frames_count s.args.first.now ∙ sym s.requires.0.count
 
-  size_b_4 : length (frames_of s.args.second.now) ≡ s.args.m
-  size_b_4 = frames_count s.args.second.now ∙ sym s.requires.1.count
-
   left_a_4 : length ra_4 ≡ s.args.n - s.args.b
   left_a_4 = last_count (frames_of s.args.first.now) s.args.b ∙ rw size_a_4
-
-  left_b_4 : length rb_4 ≡ s.args.m - s.args.b
-  left_b_4 = last_count (frames_of s.args.second.now) s.args.b ∙ rw size_b_4
 
   -- b is the beginning
   done_4 : (k : ℕ) → k ≡ common ra_4 rb_4 → k ≡ ending (frames_of s.args.first.now) (frames_of s.args.second.now)

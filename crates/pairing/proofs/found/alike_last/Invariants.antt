@@ -12,7 +12,8 @@ behind text b = reverse (drop b (frames_of text))
 
 abbrev pub invariant-loop-k : goal.invariant-loop-k
 invariant-loop-k l =
-    (l.b + l.k ≤ l.n) × (l.b + l.k ≤ l.m) × (l.k + common (drop l.k (behind l.first l.b)) (drop l.k (behind l.second l.b)) ≡ common (behind l.first l.b)
+    (l.b + l.k ≤ l.n) × (l.b + l.k ≤ l.m) × (l.k + common (drop l.k (behind l.first l.b)) (drop l.k (behind l.second l.b)) ≡ common
+    (behind l.first l.b)
     (behind l.second l.b))
 
 abbrev pub decreases-loop-k : goal.decreases-loop-k

@@ -8,7 +8,8 @@ use Rattle.pairing.specs.Tables.{pairs_in}
 use Rattle.pairing.proofs.found.put_run.Given as goal
 
 abbrev pub invariant-loop-k : goal.invariant-loop-k
-invariant-loop-k l = (l.k ≤ l.n) × (length l.pairs ≡ 2048) × (pairs_in l.pairs (l.at + l.k) ≡ pairs_in l.initial.pairs l.at ++ run_of l.k l.i l.j)
+invariant-loop-k l = (l.k ≤ l.n) × (length l.pairs ≡ 2048) × (pairs_in l.pairs (l.at + l.k) ≡ pairs_in l.initial.pairs l.at ++ run_of l.k
+    l.i l.j)
 
 abbrev pub decreases-loop-k : goal.decreases-loop-k
 decreases-loop-k l = l.n - l.k
