@@ -32,7 +32,8 @@ apply_removed a zero i ds l = let z : i + 0 ≡ i = omega arith in rw z
 apply_removed a (suc n) i ds l =
     let z : i + suc n ≡ suc i + n = omega arith in
     ap (λ (x : Frames). taking (get_or a i []) x (λ rest. apply (removed_from a n (suc i) ++ ds) rest)) (drop-cons a i [] (omega arith))
-    ∙ taking_own (get_or a i []) (drop (suc i) a) (λ rest. apply (removed_from a n (suc i) ++ ds) rest) ∙ rw z (apply_removed a n (suc i) ds (omega arith))
+    ∙ taking_own (get_or a i []) (drop (suc i) a) (λ rest. apply (removed_from a n (suc i) ++ ds) rest)
+    ∙ rw z (apply_removed a n (suc i) ds (omega arith))
 
 -- a run of added ones is put in
 apply_added : (b : Frames) (n j : ℕ) (ds : List Change) (xs ys : Frames) → j + n ≤ length b → apply ds xs ≡ some ys
@@ -50,7 +51,8 @@ apply_paired i j x y ds xs ys e = on (same x y) refl
   where
     on : (t : Bool) → same x y ≡ t → apply (cond t (kept i j y) (changed i j x y) ∷ ds) (x ∷ xs) ≡ some (y ∷ ys)
     on true h =
-        ap (λ (z : Frame). taking y (z ∷ xs) (λ rest. onto y (apply ds rest))) (same_true x y h) ∙ taking_own y xs (λ rest. onto y (apply ds rest)) ∙ onto_some y (apply ds xs) ys e
+        ap (λ (z : Frame). taking y (z ∷ xs) (λ rest. onto y (apply ds rest))) (same_true x y h) ∙ taking_own y xs
+        (λ rest. onto y (apply ds rest)) ∙ onto_some y (apply ds xs) ys e
     on false h = taking_own x xs (λ rest. onto y (apply ds rest)) ∙ onto_some y (apply ds xs) ys e
 
 apply_none : apply [] [] ≡ some []
@@ -80,7 +82,8 @@ from_places a b i j (p ∷ ps) h =
     let pr : Change = paired m n (get_or a m []) (get_or b n []) in
     let x : i + (m - i) ≡ m = omega (arith, h.0) in
     let here : drop (i + (m - i)) a ≡ get_or a m [] ∷ drop (suc m) a = ap (λ (k : ℕ). drop k a) x ∙ drop-cons a m [] h.1 in
-    let next = apply_paired m n (get_or a m []) (get_or b n []) rest (drop (suc m) a) (drop (suc n) b) (from_places a b (suc m) (suc n) ps h.4) in
+    let next = apply_paired m n (get_or a m []) (get_or b n []) rest (drop (suc m) a) (drop (suc n) b) (from_places a b (suc m) (suc n) ps
+    h.4) in
     let whole : get_or b n [] ∷ drop (suc n) b ≡ drop (n - j) (drop j b) = sym (drop-cons b n [] h.3) ∙ sym (behind b j n h.2) in
     apply_removed a (m - i) i (added_from b (n - j) j ++ (pr ∷ rest)) (omega (arith, h.0, h.1))
     ∙ apply_added b (n - j) j (pr ∷ rest) (drop (i + (m - i)) a) (get_or b n [] ∷ drop (suc n) b) (omega (arith, h.2, h.3))

@@ -84,7 +84,8 @@ module _ (first second : List ℕ) (pairing : Option (List ℕ)) (d : List ℕ) 
   first_refused r e = rw e (record { answer = refl; room = refl })
 
   module _ (p : Program) (e : read_listing first ≡ ok p) where
-    pub other_form : same_form (form_in (lines_of first)) (form_in (lines_of second)) ≡ false → Leaves whole (OfSecond (Broken (at_place 0))) d d
+    pub other_form : same_form (form_in (lines_of first)) (form_in (lines_of second)) ≡ false → Leaves whole
+        (OfSecond (Broken (at_place 0))) d d
     unfolding differences read_second require
     other_form g = rw (e, g) (record { answer = refl; room = refl })
 

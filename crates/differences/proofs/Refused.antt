@@ -69,7 +69,8 @@ module _ (first second : List ℕ) (pairing : Option (List ℕ)) (room : ℕ) wh
       t : List ℕ
       t = whole_text first second pairing
 
-      on_room : (b : BothRead first second) → good_in first second pairing ≡ length (entries_in pairing) → (c : Bool) → leb (length t) room ≡ c
+      on_room : (b : BothRead first second) → good_in first second pairing ≡ length (entries_in pairing) → (c : Bool) → leb (length t) room
+          ≡ c
           → Cause first second pairing room (after of_both (require c (Room (length b.program)) (ok t)) text)
       on_room b g true l = (b, g, refl, leb-true (length t) room l)
       on_room b g false l = (b, inr (g, refl, leb-false (length t) room l))
@@ -85,7 +86,8 @@ module _ (first second : List ℕ) (pairing : Option (List ℕ)) (room : ℕ) wh
           let apart = eqb-false (good_in first second pairing) (length (entries_in pairing)) e in
           (b, inl (below few apart, refl))
         where
-          below : good_in first second pairing ≤ length (entries_in pairing) → (good_in first second pairing ≡ length (entries_in pairing) → ⊥)
+          below : good_in first second pairing ≤ length (entries_in pairing) → (good_in first second pairing ≡ length (entries_in pairing)
+              → ⊥)
               → good_in first second pairing < length (entries_in pairing)
           below few apart = omega (arith, few, apart)
 
@@ -93,7 +95,14 @@ module _ (first second : List ℕ) (pairing : Option (List ℕ)) (room : ℕ) wh
           → Cause first second pairing room
           (after of_second y (λ q. after of_both (compared (frames_of first) (frames_of second) pairing (length p) room) text))
       on_second p e f (ok q) d =
-          on_pairs (record { program = p; reads = e; program' = q; reads' = d; one_form = f }) (eqb (good_in first second pairing) (length (entries_in pairing)))
+          on_pairs (
+          record {
+            program = p;
+            reads = e;
+            program' = q;
+            reads' = d;
+            one_form = f;
+          }) (eqb (good_in first second pairing) (length (entries_in pairing)))
           refl
       on_second p e f (no r) d = ((p, e), inr (f, d))
 
@@ -176,7 +185,8 @@ most old_form = omega arith
 most new_form = omega arith
 
 -- 57,344 characters, and seven for each of 1,024 statements
-listing_few : (s : List ℕ) (p : Program) → read_listing s ≡ ok p → total weight (entries_from (frames_of s) (length (frames_of s)) 0) ≤ 64512
+listing_few : (s : List ℕ) (p : Program) → read_listing s ≡ ok p → total weight (entries_from (frames_of s) (length (frames_of s)) 0)
+    ≤ 64512
 unfolding read_listing frames_of
 listing_few s p e =
     let ls = statement_lines (lines_of s) in
@@ -191,7 +201,8 @@ listing_few s p e =
     )
 
 module _ (first second : List ℕ) (pairing : Option (List ℕ)) (room : ℕ) where
-  whole_few : BothRead first second → good_in first second pairing ≡ length (entries_in pairing) → length (whole_text first second pairing) ≤ 129024
+  whole_few : BothRead first second → good_in first second pairing ≡ length (entries_in pairing) → length (whole_text first second pairing)
+      ≤ 129024
   whole_few b g =
       let a = frames_of first in
       let c = frames_of second in
@@ -236,4 +247,5 @@ module _ (first second : List ℕ) (pairing : Option (List ℕ)) (room : ℕ) wh
       on (of_first r) c z = clash (cc)
       on (of_second r) c z = clash (cc)
       on (of_both r) c z =
-          ⊎_elim (λ h. let y = h.1 in let same : k ≡ good_in first second pairing = cc in omega (arith, same, few c.0)) (λ h. let y = h.1 in clash (cc)) c.1
+          ⊎_elim (λ h. let y = h.1 in let same : k ≡ good_in first second pairing = cc in omega (arith, same, few c.0))
+          (λ h. let y = h.1 in clash (cc)) c.1

@@ -29,7 +29,8 @@ module _ (text starts : List ℕ) (n : ℕ) (l : Lined text starts n) where
   start_bound zero h = l.begins
   start_bound (suc i) h = omega (arith, (l.lines i (omega arith)).next, (l.written i (omega arith)).short, start_bound i (omega arith))
 
-  run_length' : (kind k i : ℕ) → i + k ≤ n → length (run_text kind (frames_of text) k i) + get_or starts i 0 ≡ get_or starts (i + k) 0 + 6 * k
+  run_length' : (kind k i : ℕ) → i + k ≤ n → length (run_text kind (frames_of text) k i) + get_or starts i 0 ≡ get_or starts (i + k) 0 + 6
+      * k
   unfolding run_text
   run_length' kind zero i h = let z : i + 0 ≡ i = omega arith in rw z (omega arith)
   run_length' kind (suc k) i h =

@@ -50,7 +50,8 @@ between_step a b i j p ps =
     ∙ ap₂ (λ (x y : List ℕ). x ++ y) (removed_text a (p.first - i) i)
     (text_append (added_from b (p.second - j) j) (it ∷ rest) ∙ ap₂ (λ (x y : List ℕ). x ++ y) (added_text b (p.second - j) j) t)
 
-between_none : (a b : Frames) (i j : ℕ) → text_of (between a b i j []) ≡ run_text 0x71 a (length a - i) i ++ run_text 0x72 b (length b - j) j
+between_none : (a b : Frames) (i j : ℕ) → text_of (between a b i j []) ≡ run_text 0x71 a (length a - i) i ++ run_text 0x72 b (length b - j)
+    j
 unfolding between
 between_none a b i j =
     text_append (removed_from a (length a - i) i) (added_from b (length b - j) j)
@@ -70,7 +71,8 @@ module _ (pairs : List ℕ) (count k : ℕ) where
 
   pub next_pair : (a b : Frames) (i j : ℕ) → k < count
       → text_of (between a b i j (drop k (pairs_in pairs count)))
-      ≡ run_text 0x71 a ((pair_at pairs k).first - i) i ++ (run_text 0x72 b ((pair_at pairs k).second - j) j ++ (pair_text a b (pair_at pairs k)
+      ≡ run_text 0x71 a ((pair_at pairs k).first - i) i ++ (run_text 0x72 b ((pair_at pairs k).second - j) j
+      ++ (pair_text a b (pair_at pairs k)
       ++ text_of (between a b (suc (pair_at pairs k).first) (suc (pair_at pairs k).second) (drop (suc k) (pairs_in pairs count)))))
   next_pair a b i j h =
       ap (λ (ps : List Pair). text_of (between a b i j ps)) (there h)

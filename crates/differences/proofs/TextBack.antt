@@ -36,11 +36,13 @@ digit_back d l = eqb-true (digit (hex_digit d)) d (holds_at (λ k. eqb (digit (h
 
 no_feed : (d : ℕ) → d < 16 → eqb (hex_digit d) 10 ≡ false
 unfolding all_to
-no_feed d l = let h = leb-true 48 (hex_digit d) (holds_at (λ k. leb 48 (hex_digit k)) 16 tt d l) in ne_eqb (hex_digit d) 10 (λ z. omega arith)
+no_feed d l = let h = leb-true 48 (hex_digit d) (holds_at (λ k. leb 48 (hex_digit k)) 16 tt d l) in ne_eqb (hex_digit d) 10
+    (λ z. omega arith)
 
 low_digit : (c : ℕ) → is_digit c ≡ true → digit c < 16
 unfolding all_to
-low_digit c h = ltb-true (digit c) 16 (holds_at (λ k. ltb (digit k) 16) 71 tt c (⊎_elim (λ r. omega (arith, r.1)) (λ r. omega (arith, r.1)) (digit_range c h)))
+low_digit c h = ltb-true (digit c) 16 (holds_at (λ k. ltb (digit k) 16) 71 tt c (⊎_elim (λ r. omega (arith, r.1)) (λ r. omega (arith, r.1))
+    (digit_range c h)))
 
 -- ---- a line of bytes, read again
 byte_first : (b : ℕ) (s : List ℕ) → every is_byte (b ∷ s) ≡ true → (b < 256) × (every is_byte s ≡ true)
@@ -63,7 +65,11 @@ ended_line (b ∷ s) t h =
     let k = byte_first b s h in
     rw (no_feed (b / 16) (omega (arith, k.0)), no_feed (b % 16) (omega arith), ended_line s t k.1)
 
-line_back : (s t : List ℕ) → every is_byte s ≡ true → lines_of (line_of s ++ t) ≡ record { chars = each (λ b. hex_byte b) s; ended = true } ∷ lines_of t
+line_back : (s t : List ℕ) → every is_byte s ≡ true → lines_of (line_of s ++ t) ≡
+    record {
+      chars = each (λ b. hex_byte b) s;
+      ended = true;
+    } ∷ lines_of t
 unfolding line_of
 line_back s t h = ap lines_of (append_assoc (each (λ b. hex_byte b) s) (10 ∷ []) t) ∙ ended_line s t h
 
@@ -127,7 +133,8 @@ sayable_is (changed i j old new) h k =
     let b = sound_is j new k in
     rw (high i a.place, low i, high j b.place, low j, lt-ltb (length old) 256 a.short, every_append is_byte old new, a.bytes, b.bytes)
 
-all_sayable : (ds : List Change) → every sound_entry (each (λ d. in_first d) ds) ≡ true → every sound_entry (each (λ d. in_second d) ds) ≡ true
+all_sayable : (ds : List Change) → every sound_entry (each (λ d. in_first d) ds) ≡ true → every sound_entry (each (λ d. in_second d) ds)
+    ≡ true
     → every sayable ds ≡ true
 unfolding every each
 all_sayable [] h k = refl
@@ -160,9 +167,11 @@ entries_sound a h few (suc n) i l =
 
 pub count_frames : (text : List ℕ) → length (frames_of text) ≡ length (chars_of text)
 unfolding frames_of chars_of
-count_frames text = length_map (λ l. unhex l.chars) (statement_lines (lines_of text)) ∙ sym (length_map (λ l. l.chars) (statement_lines (lines_of text)))
+count_frames text = length_map (λ l. unhex l.chars) (statement_lines (lines_of text))
+    ∙ sym (length_map (λ l. l.chars) (statement_lines (lines_of text)))
 
-listing_sound : (text : List ℕ) (p : Program) → read_listing text ≡ ok p → every sound_entry (entries_from (frames_of text) (length (frames_of text)) 0) ≡ true
+listing_sound : (text : List ℕ) (p : Program) → read_listing text ≡ ok p → every sound_entry
+    (entries_from (frames_of text) (length (frames_of text)) 0) ≡ true
 listing_sound text p e =
     let a = accepted_lines text p e in
     let n = count_frames text in
@@ -183,4 +192,5 @@ pub text_back : (first second : List ℕ) (p q : Program) → read_listing first
     → SaysBoth (frames_of first) (frames_of second) ds → changes_in (text_of ds) ≡ ds
 text_back first second p q e f ds both =
     changes_back ds
-    (all_sayable ds (ap (every sound_entry) both.first ∙ listing_sound first p e) (ap (every sound_entry) both.second ∙ listing_sound second q f))
+    (all_sayable ds (ap (every sound_entry) both.first ∙ listing_sound first p e) (ap (every sound_entry) both.second ∙ listing_sound
+    second q f))

@@ -48,11 +48,13 @@ module _ (first second pairs : List ℕ) (count i j k : ℕ) where
   abbrev left_behind : List ℕ
   left_behind = left first second pairs count (p + 1) (q + 1) (k + 1)
 
-  pub left_turn : k < count → removed_here ++ (added_here ++ (pair_line first second p q ++ left_behind)) ≡ left first second pairs count i j k
+  pub left_turn : k < count → removed_here ++ (added_here ++ (pair_line first second p q ++ left_behind)) ≡ left first second pairs count i
+      j k
   left_turn h =
       ap (λ (f : Frame). removed_here ++ (added_here ++ (line_of (bytes_of (paired p q f (unhex (line_in second q)))) ++ left_behind)))
       (sym (frame_at first p))
-      ∙ ap (λ (f : Frame). removed_here ++ (added_here ++ (line_of (bytes_of (paired p q (get_or (frames_of first) p []) f)) ++ left_behind)))
+      ∙ ap (λ (f : Frame). removed_here ++ (added_here ++ (line_of (bytes_of (paired p q (get_or (frames_of first) p []) f))
+      ++ left_behind)))
       (sym (frame_at second q))
       ∙ rw (add-one p, add-one q, add-one k) (sym (next_pair pairs count k (frames_of first) (frames_of second) i j h))
 
@@ -68,7 +70,8 @@ module _ (first second pairs : List ℕ) (count i j k : ℕ) where
   )
 
   pub left_none : count ≤ k
-      → run_text 0x71 (frames_of first) (length (frames_of first) - i) i ++ run_text 0x72 (frames_of second) (length (frames_of second) - j) j
+      → run_text 0x71 (frames_of first) (length (frames_of first) - i) i ++ run_text 0x72 (frames_of second)
+      (length (frames_of second) - j) j
       ≡ left first second pairs count i j k
   left_none h = sym (no_pair pairs count k (frames_of first) (frames_of second) i j h)
 

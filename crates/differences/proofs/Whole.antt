@@ -181,7 +181,8 @@ leads_to first second ds p q e f g =
 
 second_read : (first second : List ℕ) (q : Program) → read_second first second ≡ ok q → read_listing second ≡ ok q
 unfolding read_second
-second_read first second q f = (required (same_form (form_in (lines_of first)) (form_in (lines_of second))) (Broken (at_place 0)) (read_listing second) q f).1
+second_read first second q f = (required (same_form (form_in (lines_of first)) (form_in (lines_of second))) (Broken (at_place 0))
+    (read_listing second) q f).1
 
 -- ---- the whole
 after_text : {A : Type 0} (told : Refusal → Differing) (x : Judged A) (f : A → Differing) (t : List ℕ)

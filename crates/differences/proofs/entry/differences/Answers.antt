@@ -35,9 +35,6 @@ module _ (n : goal.After-slice_known-2-1) where
 
 -- and the second, which has the first's form
 module _ (m : goal.After-compare-arg-1) where
-  same_form_lem : same_form (form_in (lines_of m.args.first.now)) (form_in (lines_of m.args.second.now)) ≡ true
-  same_form_lem = sym m.same_form.ensures ∙ m.if-not-same_form.false
-
   second_read : (q : Program) × (read_listing m.args.second.now ≡ ok q) × (m.in-Are-statements_of.m ≡ length q)
   second_read = counted_ok _ _ _ m.in-Are-statements_of.is m.statements_of-2.ensures
 

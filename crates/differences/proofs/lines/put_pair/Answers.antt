@@ -18,7 +18,8 @@ is_kept i =
     (sym i.same_bytes.ensures ∙ i.if-same_bytes.true)
 
 -- which line it is
-is_kept_2 : (i : goal.After-slice_known-then-same_bytes-1) → paired i.args.i i.args.j (unhex i.args.old.now) (unhex i.args.new.now) ≡ kept i.args.i i.args.j
+is_kept_2 : (i : goal.After-slice_known-then-same_bytes-1) → paired i.args.i i.args.j (unhex i.args.old.now) (unhex i.args.new.now)
+    ≡ kept i.args.i i.args.j
     (unhex i.args.new.now)
 is_kept_2 i =
     pair_kept i.args.i i.args.j i.args.old.now i.args.new.now i.requires.0 i.requires.1

@@ -1,7 +1,7 @@
 -- `measure` meets its contract: what is counted, and what the pairs that are left and the rest have, come to the whole. Assumes nothing.
 use mathlib.Core.Path.{◌≡◌, sym, ap, ap₂, ◌∙◌}
 use mathlib.Core.List.{List}
-use Prim.Native.Nat.{ℕ, ◌+◌, ◌-◌, ◌*◌, ◌≤◌, ◌<◌}
+use Prim.Native.Nat.{ℕ, ◌+◌, ◌-◌, ◌*◌, ◌≤◌}
 use native.Mathlib.Omega.{arith}
 use lib.ListN.{length, get_or, drop, length-append}
 use Rattle.rules.specs.Listing.{unhex}
@@ -37,15 +37,6 @@ reach_2 l =
     l.loop-k.invariant.1
 
 -- no listing is left behind
-reach_3 : (l : goal.After-pair_size-size) → let a = l.args in
-    (l.loop-k.i ≤ a.counts.first) × (l.loop-k.j ≤ a.counts.second)
-reach_3 l =
-    let a = l.args in
-    order_within a.counts.first a.counts.second l.loop-k.i l.loop-k.j
-    (drop l.loop-k.k (pairs_in a.pairs.now a.counts.pairs))
-    l.loop-k.invariant.1
-
--- no listing is left behind
 reach_4 : (l : goal.After-loop-k) → let a = l.args in
     (l.loop-k.i ≤ a.counts.first) × (l.loop-k.j ≤ a.counts.second)
 reach_4 l =
@@ -74,9 +65,6 @@ reach_6 l =
 
 -- what is known of a pair that is looked at
 module _ (g : goal.After-q-1) where
-  few : g.loop-k.k < 1024
-  few = omega (arith, g.loop-k-test.true, g.requires.few)
-
   next : let a = g.args in let t = g.loop-k in
       Next a.counts.first a.counts.second t.i t.j (get_or a.pairs.now t.k 0) (get_or a.pairs.now (1024 + t.k) 0)
       (drop (t.k + 1) (pairs_in a.pairs.now a.counts.pairs))
@@ -87,9 +75,6 @@ module _ (g : goal.After-q-1) where
 
 -- what is known of a pair that is looked at
 module _ (g : goal.After-run_size-size) where
-  few_2 : g.loop-k.k < 1024
-  few_2 = omega (arith, g.loop-k-test.true, g.requires.few)
-
   next_2 : let a = g.args in let t = g.loop-k in
       Next a.counts.first a.counts.second t.i t.j (get_or a.pairs.now t.k 0) (get_or a.pairs.now (1024 + t.k) 0)
       (drop (t.k + 1) (pairs_in a.pairs.now a.counts.pairs))
@@ -100,9 +85,6 @@ module _ (g : goal.After-run_size-size) where
 
 -- what is known of a pair that is looked at
 module _ (g : goal.After-run_size-size-in-loop-k) where
-  few_3 : g.loop-k.k < 1024
-  few_3 = omega (arith, g.loop-k-test.true, g.requires.few)
-
   next_3 : let a = g.args in let t = g.loop-k in
       Next a.counts.first a.counts.second t.i t.j (get_or a.pairs.now t.k 0) (get_or a.pairs.now (1024 + t.k) 0)
       (drop (t.k + 1) (pairs_in a.pairs.now a.counts.pairs))
@@ -113,9 +95,6 @@ module _ (g : goal.After-run_size-size-in-loop-k) where
 
 -- what is known of a pair that is looked at
 module _ (g : goal.After-line_at) where
-  few_4 : g.loop-k.k < 1024
-  few_4 = omega (arith, g.loop-k-test.true, g.requires.few)
-
   next_4 : let a = g.args in let t = g.loop-k in
       Next a.counts.first a.counts.second t.i t.j (get_or a.pairs.now t.k 0) (get_or a.pairs.now (1024 + t.k) 0)
       (drop (t.k + 1) (pairs_in a.pairs.now a.counts.pairs))
@@ -126,9 +105,6 @@ module _ (g : goal.After-line_at) where
 
 -- what is known of a pair that is looked at
 module _ (g : goal.After-line_at-in-loop-k) where
-  few_5 : g.loop-k.k < 1024
-  few_5 = omega (arith, g.loop-k-test.true, g.requires.few)
-
   next_5 : let a = g.args in let t = g.loop-k in
       Next a.counts.first a.counts.second t.i t.j (get_or a.pairs.now t.k 0) (get_or a.pairs.now (1024 + t.k) 0)
       (drop (t.k + 1) (pairs_in a.pairs.now a.counts.pairs))
@@ -139,9 +115,6 @@ module _ (g : goal.After-line_at-in-loop-k) where
 
 -- what is known of a pair that is looked at
 module _ (g : goal.After-pair_size-size) where
-  few_6 : g.loop-k.k < 1024
-  few_6 = omega (arith, g.loop-k-test.true, g.requires.few)
-
   next_6 : let a = g.args in let t = g.loop-k in
       Next a.counts.first a.counts.second t.i t.j (get_or a.pairs.now t.k 0) (get_or a.pairs.now (1024 + t.k) 0)
       (drop (t.k + 1) (pairs_in a.pairs.now a.counts.pairs))
@@ -160,43 +133,8 @@ module _ (s : goal.After-q-1) where
       let b = start_bound s.args.first.now s.args.firsts.now s.args.counts.first l to k in
       (h, omega arith, rises_to s.args.first.now s.args.firsts.now s.args.counts.first l i to h k, omega arith)
 
-  second_run : (i to : ℕ) → i ≤ to → to ≤ s.args.counts.second → (i ≤ to) × (to ≤ 1024)
-      × (get_or s.args.seconds.now i 0 ≤ get_or s.args.seconds.now to 0) × (get_or s.args.seconds.now to 0 ≤ 262144)
-  second_run i to h k =
-      let l = s.requires.lined' in
-      let f = l.few in
-      let b = start_bound s.args.second.now s.args.seconds.now s.args.counts.second l to k in
-      (h, omega arith, rises_to s.args.second.now s.args.seconds.now s.args.counts.second l i to h k, omega arith)
-
-  -- and what it comes to
-  first_size : (i to r : ℕ) → i ≤ to → to ≤ s.args.counts.first
-      → r ≡ get_or s.args.firsts.now to 0 - get_or s.args.firsts.now i 0 + 6 * (to - i)
-      → (r ≡ length (run_text 0x71 (frames_of s.args.first.now) (to - i) i)) × (r ≤ 255 * (to - i))
-  first_size i to r h k e =
-      let l = s.requires.lined in
-      let x = run_length s.args.first.now s.args.firsts.now s.args.counts.first l 0x71 i to h k in
-      let y = run_within s.args.first.now s.args.firsts.now s.args.counts.first l i to h k in
-      (e ∙ x, omega arith)
-
-  second_size : (i to r : ℕ) → i ≤ to → to ≤ s.args.counts.second
-      → r ≡ get_or s.args.seconds.now to 0 - get_or s.args.seconds.now i 0 + 6 * (to - i)
-      → (r ≡ length (run_text 0x72 (frames_of s.args.second.now) (to - i) i)) × (r ≤ 255 * (to - i))
-  second_size i to r h k e =
-      let l = s.requires.lined' in
-      let x = run_length s.args.second.now s.args.seconds.now s.args.counts.second l 0x72 i to h k in
-      let y = run_within s.args.second.now s.args.seconds.now s.args.counts.second l i to h k in
-      (e ∙ x, omega arith)
-
 -- what a run asks for
 module _ (s : goal.After-run_size-size) where
-  first_run_2 : (i to : ℕ) → i ≤ to → to ≤ s.args.counts.first → (i ≤ to) × (to ≤ 1024)
-      × (get_or s.args.firsts.now i 0 ≤ get_or s.args.firsts.now to 0) × (get_or s.args.firsts.now to 0 ≤ 262144)
-  first_run_2 i to h k =
-      let l = s.requires.lined in
-      let f = l.few in
-      let b = start_bound s.args.first.now s.args.firsts.now s.args.counts.first l to k in
-      (h, omega arith, rises_to s.args.first.now s.args.firsts.now s.args.counts.first l i to h k, omega arith)
-
   second_run_2 : (i to : ℕ) → i ≤ to → to ≤ s.args.counts.second → (i ≤ to) × (to ≤ 1024)
       × (get_or s.args.seconds.now i 0 ≤ get_or s.args.seconds.now to 0) × (get_or s.args.seconds.now to 0 ≤ 262144)
   second_run_2 i to h k =
@@ -215,33 +153,8 @@ module _ (s : goal.After-run_size-size) where
       let y = run_within s.args.first.now s.args.firsts.now s.args.counts.first l i to h k in
       (e ∙ x, omega arith)
 
-  second_size_2 : (i to r : ℕ) → i ≤ to → to ≤ s.args.counts.second
-      → r ≡ get_or s.args.seconds.now to 0 - get_or s.args.seconds.now i 0 + 6 * (to - i)
-      → (r ≡ length (run_text 0x72 (frames_of s.args.second.now) (to - i) i)) × (r ≤ 255 * (to - i))
-  second_size_2 i to r h k e =
-      let l = s.requires.lined' in
-      let x = run_length s.args.second.now s.args.seconds.now s.args.counts.second l 0x72 i to h k in
-      let y = run_within s.args.second.now s.args.seconds.now s.args.counts.second l i to h k in
-      (e ∙ x, omega arith)
-
 -- what a run asks for
 module _ (s : goal.After-run_size-size-in-loop-k) where
-  first_run_3 : (i to : ℕ) → i ≤ to → to ≤ s.args.counts.first → (i ≤ to) × (to ≤ 1024)
-      × (get_or s.args.firsts.now i 0 ≤ get_or s.args.firsts.now to 0) × (get_or s.args.firsts.now to 0 ≤ 262144)
-  first_run_3 i to h k =
-      let l = s.requires.lined in
-      let f = l.few in
-      let b = start_bound s.args.first.now s.args.firsts.now s.args.counts.first l to k in
-      (h, omega arith, rises_to s.args.first.now s.args.firsts.now s.args.counts.first l i to h k, omega arith)
-
-  second_run_3 : (i to : ℕ) → i ≤ to → to ≤ s.args.counts.second → (i ≤ to) × (to ≤ 1024)
-      × (get_or s.args.seconds.now i 0 ≤ get_or s.args.seconds.now to 0) × (get_or s.args.seconds.now to 0 ≤ 262144)
-  second_run_3 i to h k =
-      let l = s.requires.lined' in
-      let f = l.few in
-      let b = start_bound s.args.second.now s.args.seconds.now s.args.counts.second l to k in
-      (h, omega arith, rises_to s.args.second.now s.args.seconds.now s.args.counts.second l i to h k, omega arith)
-
   -- and what it comes to
   first_size_3 : (i to r : ℕ) → i ≤ to → to ≤ s.args.counts.first
       → r ≡ get_or s.args.firsts.now to 0 - get_or s.args.firsts.now i 0 + 6 * (to - i)
@@ -263,22 +176,6 @@ module _ (s : goal.After-run_size-size-in-loop-k) where
 
 -- what a run asks for
 module _ (s : goal.After-pair_size-size) where
-  first_run_4 : (i to : ℕ) → i ≤ to → to ≤ s.args.counts.first → (i ≤ to) × (to ≤ 1024)
-      × (get_or s.args.firsts.now i 0 ≤ get_or s.args.firsts.now to 0) × (get_or s.args.firsts.now to 0 ≤ 262144)
-  first_run_4 i to h k =
-      let l = s.requires.lined in
-      let f = l.few in
-      let b = start_bound s.args.first.now s.args.firsts.now s.args.counts.first l to k in
-      (h, omega arith, rises_to s.args.first.now s.args.firsts.now s.args.counts.first l i to h k, omega arith)
-
-  second_run_4 : (i to : ℕ) → i ≤ to → to ≤ s.args.counts.second → (i ≤ to) × (to ≤ 1024)
-      × (get_or s.args.seconds.now i 0 ≤ get_or s.args.seconds.now to 0) × (get_or s.args.seconds.now to 0 ≤ 262144)
-  second_run_4 i to h k =
-      let l = s.requires.lined' in
-      let f = l.few in
-      let b = start_bound s.args.second.now s.args.seconds.now s.args.counts.second l to k in
-      (h, omega arith, rises_to s.args.second.now s.args.seconds.now s.args.counts.second l i to h k, omega arith)
-
   -- and what it comes to
   first_size_4 : (i to r : ℕ) → i ≤ to → to ≤ s.args.counts.first
       → r ≡ get_or s.args.firsts.now to 0 - get_or s.args.firsts.now i 0 + 6 * (to - i)
@@ -308,43 +205,8 @@ module _ (s : goal.After-loop-k) where
       let b = start_bound s.args.first.now s.args.firsts.now s.args.counts.first l to k in
       (h, omega arith, rises_to s.args.first.now s.args.firsts.now s.args.counts.first l i to h k, omega arith)
 
-  second_run_5 : (i to : ℕ) → i ≤ to → to ≤ s.args.counts.second → (i ≤ to) × (to ≤ 1024)
-      × (get_or s.args.seconds.now i 0 ≤ get_or s.args.seconds.now to 0) × (get_or s.args.seconds.now to 0 ≤ 262144)
-  second_run_5 i to h k =
-      let l = s.requires.lined' in
-      let f = l.few in
-      let b = start_bound s.args.second.now s.args.seconds.now s.args.counts.second l to k in
-      (h, omega arith, rises_to s.args.second.now s.args.seconds.now s.args.counts.second l i to h k, omega arith)
-
-  -- and what it comes to
-  first_size_5 : (i to r : ℕ) → i ≤ to → to ≤ s.args.counts.first
-      → r ≡ get_or s.args.firsts.now to 0 - get_or s.args.firsts.now i 0 + 6 * (to - i)
-      → (r ≡ length (run_text 0x71 (frames_of s.args.first.now) (to - i) i)) × (r ≤ 255 * (to - i))
-  first_size_5 i to r h k e =
-      let l = s.requires.lined in
-      let x = run_length s.args.first.now s.args.firsts.now s.args.counts.first l 0x71 i to h k in
-      let y = run_within s.args.first.now s.args.firsts.now s.args.counts.first l i to h k in
-      (e ∙ x, omega arith)
-
-  second_size_5 : (i to r : ℕ) → i ≤ to → to ≤ s.args.counts.second
-      → r ≡ get_or s.args.seconds.now to 0 - get_or s.args.seconds.now i 0 + 6 * (to - i)
-      → (r ≡ length (run_text 0x72 (frames_of s.args.second.now) (to - i) i)) × (r ≤ 255 * (to - i))
-  second_size_5 i to r h k e =
-      let l = s.requires.lined' in
-      let x = run_length s.args.second.now s.args.seconds.now s.args.counts.second l 0x72 i to h k in
-      let y = run_within s.args.second.now s.args.seconds.now s.args.counts.second l i to h k in
-      (e ∙ x, omega arith)
-
 -- what a run asks for
 module _ (s : goal.After-run_size) where
-  first_run_6 : (i to : ℕ) → i ≤ to → to ≤ s.args.counts.first → (i ≤ to) × (to ≤ 1024)
-      × (get_or s.args.firsts.now i 0 ≤ get_or s.args.firsts.now to 0) × (get_or s.args.firsts.now to 0 ≤ 262144)
-  first_run_6 i to h k =
-      let l = s.requires.lined in
-      let f = l.few in
-      let b = start_bound s.args.first.now s.args.firsts.now s.args.counts.first l to k in
-      (h, omega arith, rises_to s.args.first.now s.args.firsts.now s.args.counts.first l i to h k, omega arith)
-
   second_run_6 : (i to : ℕ) → i ≤ to → to ≤ s.args.counts.second → (i ≤ to) × (to ≤ 1024)
       × (get_or s.args.seconds.now i 0 ≤ get_or s.args.seconds.now to 0) × (get_or s.args.seconds.now to 0 ≤ 262144)
   second_run_6 i to h k =
@@ -363,33 +225,8 @@ module _ (s : goal.After-run_size) where
       let y = run_within s.args.first.now s.args.firsts.now s.args.counts.first l i to h k in
       (e ∙ x, omega arith)
 
-  second_size_6 : (i to r : ℕ) → i ≤ to → to ≤ s.args.counts.second
-      → r ≡ get_or s.args.seconds.now to 0 - get_or s.args.seconds.now i 0 + 6 * (to - i)
-      → (r ≡ length (run_text 0x72 (frames_of s.args.second.now) (to - i) i)) × (r ≤ 255 * (to - i))
-  second_size_6 i to r h k e =
-      let l = s.requires.lined' in
-      let x = run_length s.args.second.now s.args.seconds.now s.args.counts.second l 0x72 i to h k in
-      let y = run_within s.args.second.now s.args.seconds.now s.args.counts.second l i to h k in
-      (e ∙ x, omega arith)
-
 -- what a run asks for
 module _ (s : goal.After-run_size-2) where
-  first_run_7 : (i to : ℕ) → i ≤ to → to ≤ s.args.counts.first → (i ≤ to) × (to ≤ 1024)
-      × (get_or s.args.firsts.now i 0 ≤ get_or s.args.firsts.now to 0) × (get_or s.args.firsts.now to 0 ≤ 262144)
-  first_run_7 i to h k =
-      let l = s.requires.lined in
-      let f = l.few in
-      let b = start_bound s.args.first.now s.args.firsts.now s.args.counts.first l to k in
-      (h, omega arith, rises_to s.args.first.now s.args.firsts.now s.args.counts.first l i to h k, omega arith)
-
-  second_run_7 : (i to : ℕ) → i ≤ to → to ≤ s.args.counts.second → (i ≤ to) × (to ≤ 1024)
-      × (get_or s.args.seconds.now i 0 ≤ get_or s.args.seconds.now to 0) × (get_or s.args.seconds.now to 0 ≤ 262144)
-  second_run_7 i to h k =
-      let l = s.requires.lined' in
-      let f = l.few in
-      let b = start_bound s.args.second.now s.args.seconds.now s.args.counts.second l to k in
-      (h, omega arith, rises_to s.args.second.now s.args.seconds.now s.args.counts.second l i to h k, omega arith)
-
   -- and what it comes to
   first_size_7 : (i to r : ℕ) → i ≤ to → to ≤ s.args.counts.first
       → r ≡ get_or s.args.firsts.now to 0 - get_or s.args.firsts.now i 0 + 6 * (to - i)
@@ -435,9 +272,6 @@ module _ (c : goal.After-pair_size-size) where
       (c.run_size-size-in-loop-k.result ≡ length (run_text 0x72 (frames_of a.second.now) (q - t.j) t.j)) ×
       (c.run_size-size-in-loop-k.result ≤ 255 * (q - t.j))
   added_is_2 = second_size_4 c _ _ _ (next_6 c).low' (omega (arith, (next_6 c).high')) c.run_size-size-in-loop-k.ensures
-
-  so_far_2 : c.loop-k.size ≤ 524288
-  so_far_2 = omega (arith, c.loop-k.invariant.2, reach_3 c, c.requires.lined.few, c.requires.lined'.few)
 
 -- both lines of the pair
 module _ (c : goal.After-line_at-in-loop-k) where
@@ -489,22 +323,6 @@ module _ (c : goal.After-loop-k) where
   within : (c.loop-k.i ≤ c.args.counts.first) × (c.loop-k.j ≤ c.args.counts.second)
   within = reach_4 c
 
-  done : c.loop-k.size ≤ 524288
-  done = omega (arith, c.loop-k.invariant.2, within, c.requires.lined.few, c.requires.lined'.few)
-
-  rest_removed : (r : ℕ)
-      → r ≡ get_or c.args.firsts.now c.args.counts.first 0 - get_or c.args.firsts.now c.loop-k.i 0 + 6 *
-      (c.args.counts.first - c.loop-k.i)
-      → (r ≡ length (run_text 0x71 (frames_of c.args.first.now) (c.args.counts.first - c.loop-k.i) c.loop-k.i))
-      × (r ≤ 255 * (c.args.counts.first - c.loop-k.i))
-  rest_removed r e = first_size_5 c _ _ r within.0 (omega arith) e
-
-  rest_added : (r : ℕ) → r ≡ get_or c.args.seconds.now c.args.counts.second 0 - get_or c.args.seconds.now
-      c.loop-k.j 0 + 6 * (c.args.counts.second - c.loop-k.j)
-      → (r ≡ length (run_text 0x72 (frames_of c.args.second.now) (c.args.counts.second - c.loop-k.j) c.loop-k.j))
-      × (r ≤ 255 * (c.args.counts.second - c.loop-k.j))
-  rest_added r e = second_size_5 c _ _ r within.1 (omega arith) e
-
 -- what is left behind the last pair
 module _ (c : goal.After-run_size) where
   within_2 : (c.loop-k.i ≤ c.args.counts.first) × (c.loop-k.j ≤ c.args.counts.second)
@@ -519,12 +337,6 @@ module _ (c : goal.After-run_size) where
       → (r ≡ length (run_text 0x71 (frames_of c.args.first.now) (c.args.counts.first - c.loop-k.i) c.loop-k.i))
       × (r ≤ 255 * (c.args.counts.first - c.loop-k.i))
   rest_removed_2 r e = first_size_6 c _ _ r within_2.0 (omega arith) e
-
-  rest_added_2 : (r : ℕ) → r ≡ get_or c.args.seconds.now c.args.counts.second 0 - get_or c.args.seconds.now
-      c.loop-k.j 0 + 6 * (c.args.counts.second - c.loop-k.j)
-      → (r ≡ length (run_text 0x72 (frames_of c.args.second.now) (c.args.counts.second - c.loop-k.j) c.loop-k.j))
-      × (r ≤ 255 * (c.args.counts.second - c.loop-k.j))
-  rest_added_2 r e = second_size_6 c _ _ r within_2.1 (omega arith) e
 
 -- what is left behind the last pair
 module _ (c : goal.After-run_size-2) where
@@ -565,7 +377,16 @@ pub run_size-size-requires-in-loop-k : goal.run_size-size-requires-in-loop-k
 run_size-size-requires-in-loop-k c = second_run_2 c _ _ (next_2 c).low' (omega (arith, (next_2 c).high'))
 
 pub overflow_add-size-in-loop-k : goal.overflow_add-size-in-loop-k
-overflow_add-size-in-loop-k c = omega (arith, so_far c, (removed_is c).1, (added_is c).1, (next_3 c).high, (next_3 c).high', c.requires.lined.few, c.requires.lined'.few)
+overflow_add-size-in-loop-k c = omega (
+  arith,
+  so_far c,
+  (removed_is c).1,
+  (added_is c).1,
+  (next_3 c).high,
+  (next_3 c).high',
+  c.requires.lined.few,
+  c.requires.lined'.few,
+)
 
 pub line_at-requires : goal.line_at-requires
 line_at-requires c = (c.requires.lined, (next_3 c).high)
@@ -606,7 +427,14 @@ pub run_size-requires-2 : goal.run_size-requires-2
 run_size-requires-2 c = second_run_6 c _ _ (within_2 c).1 (omega arith)
 
 pub overflow_add-result-2 : goal.overflow_add-result-2
-overflow_add-result-2 c = omega (arith, done_3 c, (rest_removed_3 c _ c.run_size.ensures).1, (rest_added_3 c _ c.run_size-2.ensures).1, c.requires.lined.few, c.requires.lined'.few)
+overflow_add-result-2 c = omega (
+  arith,
+  done_3 c,
+  (rest_removed_3 c _ c.run_size.ensures).1,
+  (rest_added_3 c _ c.run_size-2.ensures).1,
+  c.requires.lined.few,
+  c.requires.lined'.few,
+)
 
 pub returns : goal.returns
 returns c =

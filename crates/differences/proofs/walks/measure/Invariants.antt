@@ -10,7 +10,8 @@ use Rattle.differences.proofs.walks.measure.Given as goal
 
 abbrev pub invariant-loop-k : goal.invariant-loop-k
 invariant-loop-k l =
-    (l.k ≤ l.counts.pairs) × InOrder l.counts.first l.counts.second l.i l.j (drop l.k (pairs_in l.pairs l.counts.pairs)) × (l.size ≤ 256 * (l.i + l.j))
+    (l.k ≤ l.counts.pairs) × InOrder l.counts.first l.counts.second l.i l.j (drop l.k (pairs_in l.pairs l.counts.pairs))
+    × (l.size ≤ 256 * (l.i + l.j))
     × (l.size + length (left l.first l.second l.pairs l.counts.pairs l.i l.j l.k) ≡ length (text_for l.first l.second l.pairs l.counts))
 
 abbrev pub decreases-loop-k : goal.decreases-loop-k

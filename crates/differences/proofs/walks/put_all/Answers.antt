@@ -1,7 +1,7 @@
 -- `put_all` meets its contract: what is left of the text, stored where the last piece ended, makes the whole. Assumes nothing.
 use mathlib.Core.Path.{◌≡◌, refl, sym, ap, ap₂, ◌∙◌}
 use mathlib.Core.List.{List, ◌++◌}
-use Prim.Native.Nat.{ℕ, ◌+◌, ◌-◌, ◌≤◌, ◌<◌}
+use Prim.Native.Nat.{ℕ, ◌+◌, ◌-◌, ◌≤◌}
 use native.Mathlib.Omega.{arith}
 use lib.ListN.{length, get_or, drop, length-append}
 use Rattle.rules.specs.Listing.{unhex}
@@ -25,9 +25,6 @@ module _ (g : goal.After-put_run-arg-1) where
 
   abbrev q : ℕ
   q = get_or g.args.pairs.now (1024 + g.loop-k.k) 0
-
-  few : g.loop-k.k < 1024
-  few = omega (arith, g.loop-k-test.true, g.requires.0.few)
 
   next : let a = g.args in let t = g.loop-k in
       Next a.counts.first a.counts.second t.i t.j p q (drop (t.k + 1) (pairs_in a.pairs.now a.counts.pairs))
@@ -69,9 +66,6 @@ module _ (g : goal.After-put_run-arg-in-loop-k-1) where
   abbrev q_2 : ℕ
   q_2 = get_or g.args.pairs.now (1024 + g.loop-k.k) 0
 
-  few_2 : g.loop-k.k < 1024
-  few_2 = omega (arith, g.loop-k-test.true, g.requires.0.few)
-
   next_2 : let a = g.args in let t = g.loop-k in
       Next a.counts.first a.counts.second t.i t.j p_2 q_2 (drop (t.k + 1) (pairs_in a.pairs.now a.counts.pairs))
   next_2 =
@@ -112,40 +106,12 @@ module _ (g : goal.After-put_pair-arg-1) where
   abbrev q_3 : ℕ
   q_3 = get_or g.args.pairs.now (1024 + g.loop-k.k) 0
 
-  few_3 : g.loop-k.k < 1024
-  few_3 = omega (arith, g.loop-k-test.true, g.requires.0.few)
-
   next_3 : let a = g.args in let t = g.loop-k in
       Next a.counts.first a.counts.second t.i t.j p_3 q_3 (drop (t.k + 1) (pairs_in a.pairs.now a.counts.pairs))
   next_3 =
       let a = g.args in
       let t = g.loop-k in
       order_turn a.pairs.now a.counts.pairs t.k a.counts.first a.counts.second t.i t.j g.loop-k-test.true t.invariant.1
-
-  abbrev removed_3 : List ℕ
-  removed_3 = run_text 0x71 (frames_of g.args.first.now) (p_3 - g.loop-k.i) g.loop-k.i
-
-  abbrev added_3 : List ℕ
-  added_3 = run_text 0x72 (frames_of g.args.second.now) (q_3 - g.loop-k.j) g.loop-k.j
-
-  abbrev one_3 : List ℕ
-  one_3 = pair_line g.args.first.now g.args.second.now p_3 q_3
-
-  abbrev rest_3 : List ℕ
-  rest_3 = left g.args.first.now g.args.second.now g.args.pairs.now g.args.counts.pairs (p_3 + 1)
-      (q_3 + 1) (g.loop-k.k + 1)
-
-  -- the room that is left holds all of them
-  fits_3 : g.loop-k.at + (length removed_3 + (length added_3 + (length one_3 + length rest_3))) ≤ length g.args.out.now
-  fits_3 =
-      let a = g.args in
-      let t = g.loop-k in
-      omega (
-        arith,
-        left_length a.first.now a.second.now a.pairs.now a.counts.pairs t.i t.j t.k
-            g.loop-k-test.true,
-        t.invariant.3,
-      )
 
 -- what is known of a pair that is looked at
 module _ (g : goal.After-line_at) where
@@ -155,40 +121,12 @@ module _ (g : goal.After-line_at) where
   abbrev q_4 : ℕ
   q_4 = get_or g.args.pairs.now (1024 + g.loop-k.k) 0
 
-  few_4 : g.loop-k.k < 1024
-  few_4 = omega (arith, g.loop-k-test.true, g.requires.0.few)
-
   next_4 : let a = g.args in let t = g.loop-k in
       Next a.counts.first a.counts.second t.i t.j p_4 q_4 (drop (t.k + 1) (pairs_in a.pairs.now a.counts.pairs))
   next_4 =
       let a = g.args in
       let t = g.loop-k in
       order_turn a.pairs.now a.counts.pairs t.k a.counts.first a.counts.second t.i t.j g.loop-k-test.true t.invariant.1
-
-  abbrev removed_4 : List ℕ
-  removed_4 = run_text 0x71 (frames_of g.args.first.now) (p_4 - g.loop-k.i) g.loop-k.i
-
-  abbrev added_4 : List ℕ
-  added_4 = run_text 0x72 (frames_of g.args.second.now) (q_4 - g.loop-k.j) g.loop-k.j
-
-  abbrev one_4 : List ℕ
-  one_4 = pair_line g.args.first.now g.args.second.now p_4 q_4
-
-  abbrev rest_4 : List ℕ
-  rest_4 = left g.args.first.now g.args.second.now g.args.pairs.now g.args.counts.pairs (p_4 + 1)
-      (q_4 + 1) (g.loop-k.k + 1)
-
-  -- the room that is left holds all of them
-  fits_4 : g.loop-k.at + (length removed_4 + (length added_4 + (length one_4 + length rest_4))) ≤ length g.args.out.now
-  fits_4 =
-      let a = g.args in
-      let t = g.loop-k in
-      omega (
-        arith,
-        left_length a.first.now a.second.now a.pairs.now a.counts.pairs t.i t.j t.k
-            g.loop-k-test.true,
-        t.invariant.3,
-      )
 
 -- what is known of a pair that is looked at
 module _ (g : goal.After-line_at-in-loop-k) where
@@ -197,9 +135,6 @@ module _ (g : goal.After-line_at-in-loop-k) where
 
   abbrev q_5 : ℕ
   q_5 = get_or g.args.pairs.now (1024 + g.loop-k.k) 0
-
-  few_5 : g.loop-k.k < 1024
-  few_5 = omega (arith, g.loop-k-test.true, g.requires.0.few)
 
   next_5 : let a = g.args in let t = g.loop-k in
       Next a.counts.first a.counts.second t.i t.j p_5 q_5 (drop (t.k + 1) (pairs_in a.pairs.now a.counts.pairs))
@@ -240,9 +175,6 @@ module _ (g : goal.After-slice_known-in-loop-k-3-1) where
 
   abbrev q_6 : ℕ
   q_6 = get_or g.args.pairs.now (1024 + g.loop-k.k) 0
-
-  few_6 : g.loop-k.k < 1024
-  few_6 = omega (arith, g.loop-k-test.true, g.requires.0.few)
 
   next_6 : let a = g.args in let t = g.loop-k in
       Next a.counts.first a.counts.second t.i t.j p_6 q_6 (drop (t.k + 1) (pairs_in a.pairs.now a.counts.pairs))
@@ -310,12 +242,6 @@ module _ (c : goal.After-line_at-in-loop-k) where
 
 -- both lines of the pair
 module _ (c : goal.After-slice_known-in-loop-k-3-1) where
-  good_old_2 : Written c.line_at.result.now
-  good_old_2 = rw c.line_at.ensures (c.requires.0.lined.written _ (next_6 c).high)
-
-  good_new_2 : Written c.line_at-in-loop-k.result.now
-  good_new_2 = rw c.line_at-in-loop-k.ensures (c.requires.0.lined'.written _ (next_6 c).high')
-
   line_is_2 : line_of (bytes_of (paired (p_6 c) (q_6 c) (unhex c.line_at.result.now) (unhex c.line_at-in-loop-k.result.now))) ≡ one_6 c
   line_is_2 = ap₂ (λ (x y : List ℕ). line_of (bytes_of (paired (p_6 c) (q_6 c) (unhex x) (unhex y)))) c.line_at.ensures
       c.line_at-in-loop-k.ensures
@@ -376,12 +302,6 @@ module _ (c : goal.After-put_run-arg-3-1) where
 
 -- what is left behind the last pair
 module _ (c : goal.After-slice_known-3-1) where
-  within_3 : (c.loop-k.i ≤ c.args.counts.first) × (c.loop-k.j ≤ c.args.counts.second)
-  within_3 =
-      let a = c.args in
-      order_within a.counts.first a.counts.second c.loop-k.i c.loop-k.j
-      (drop c.loop-k.k (pairs_in a.pairs.now a.counts.pairs)) c.loop-k.invariant.1
-
   abbrev end_removed_3 : List ℕ
   end_removed_3 = run_text 0x71 (frames_of c.args.first.now) (c.args.counts.first - c.loop-k.i) c.loop-k.i
 
@@ -467,7 +387,13 @@ pub put_run-at-requires-2 : goal.put_run-at-requires-2
 put_run-at-requires-2 c = (c.requires.0.lined, (within c).0, omega arith, omega (arith, end_fits c, c.loop-k.invariant.2))
 
 pub put_run-requires : goal.put_run-requires
-put_run-requires c = let r = c.put_run-at-2 in (c.requires.0.lined', (within_2 c).1, omega arith, omega (arith, end_fits_2 c, c.loop-k.invariant.2, r.auto.out, r.ensures.1))
+put_run-requires c = let r = c.put_run-at-2 in (
+  c.requires.0.lined',
+  (within_2 c).1,
+  omega arith,
+  omega
+      (arith, end_fits_2 c, c.loop-k.invariant.2, r.auto.out, r.ensures.1),
+)
 
 pub returns : goal.returns
 returns c =

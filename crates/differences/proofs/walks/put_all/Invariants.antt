@@ -11,9 +11,11 @@ use Rattle.differences.proofs.walks.put_all.Given as goal
 
 abbrev pub invariant-loop-k : goal.invariant-loop-k
 invariant-loop-k l =
-    (l.k ≤ l.counts.pairs) × InOrder l.counts.first l.counts.second l.i l.j (drop l.k (pairs_in l.pairs l.counts.pairs)) × (length l.out ≡ length l.initial.out)
+    (l.k ≤ l.counts.pairs) × InOrder l.counts.first l.counts.second l.i l.j (drop l.k (pairs_in l.pairs l.counts.pairs))
+    × (length l.out ≡ length l.initial.out)
     × (l.at + length (left l.first l.second l.pairs l.counts.pairs l.i l.j l.k) ≤ length l.initial.out)
-    × (laid l.out l.at (left l.first l.second l.pairs l.counts.pairs l.i l.j l.k) ≡ laid l.initial.out 0 (text_for l.first l.second l.pairs l.counts))
+    × (laid l.out l.at (left l.first l.second l.pairs l.counts.pairs l.i l.j l.k) ≡ laid l.initial.out 0 (text_for l.first l.second l.pairs
+    l.counts))
 
 abbrev pub decreases-loop-k : goal.decreases-loop-k
 decreases-loop-k l = l.counts.pairs - l.k

@@ -48,9 +48,6 @@ module _ (c : goal.After-line_at) where
   line_is : c.line_at.result.now ≡ line_in text i
   line_is = c.line_at.ensures
 
-  frame_is : unhex c.line_at.result.now ≡ get_or (frames_of text) i []
-  frame_is = ap unhex line_is ∙ sym (frame_at text i)
-
   size : length (left c.args.kind text c.args.to i) ≡ 7 + length c.line_at.result.now + length
       (left c.args.kind text c.args.to (i + 1))
   size = omega (

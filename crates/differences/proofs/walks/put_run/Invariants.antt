@@ -13,7 +13,8 @@ left kind text to i = run_text kind (frames_of text) (to - i) i
 
 abbrev pub invariant-loop-i : goal.invariant-loop-i
 invariant-loop-i l =
-    (l.i ≤ l.to) × (length l.out ≡ length l.initial.out) × (l.a + length (left l.kind l.text l.to l.i) ≡ l.at + length (left l.kind l.text l.to l.from))
+    (l.i ≤ l.to) × (length l.out ≡ length l.initial.out) × (l.a + length (left l.kind l.text l.to l.i) ≡ l.at + length
+    (left l.kind l.text l.to l.from))
     × (laid l.out l.a (left l.kind l.text l.to l.i) ≡ laid l.initial.out l.at (left l.kind l.text l.to l.from))
 
 abbrev pub decreases-loop-i : goal.decreases-loop-i
