@@ -57,13 +57,15 @@ pub minus_starts : (s : List ℕ) → look s ≡ 45 → is_decimal (look (drop 1
     → start s ≡ leaf (on_got (λ v. num (neg_ℤ (pos v))) (digits 2147483648 0 (drop 1 s)))
 unfolding start class_of
 minus_starts [] e d = absurd (omega arith)
-minus_starts (c ∷ t) e d = subst (λ x. start_by (class_of x) x t ≡ leaf (on_got (λ v. num (neg_ℤ (pos v))) (digits 2147483648 0 t))) (sym e) (rw d)
+minus_starts (c ∷ t) e d = subst (λ x. start_by (class_of x) x t ≡ leaf (on_got (λ v. num (neg_ℤ (pos v))) (digits 2147483648 0 t))) (sym e)
+    (rw d)
 
 pub global_starts : (s : List ℕ) → look s ≡ 103 → start s ≡ leaf (on_got (λ n. name n) (fixed 32767 5 0 (drop 1 s)))
 global_starts [] e = absurd (omega arith)
 global_starts (c ∷ t) e = ap (λ x. start (x ∷ t)) e ∙ start_global t
 
-pub local_starts : (s : List ℕ) → look s ≡ 46 → look (drop 1 s) ≡ 108 → start s ≡ leaf (on_got (λ n. name (0x8000 + n)) (fixed 32767 5 0 (drop 2 s)))
+pub local_starts : (s : List ℕ) → look s ≡ 46 → look (drop 1 s) ≡ 108
+    → start s ≡ leaf (on_got (λ n. name (0x8000 + n)) (fixed 32767 5 0 (drop 2 s)))
 local_starts [] e d = absurd (omega arith)
 local_starts (c ∷ []) e d = absurd (omega arith)
 local_starts (c ∷ b ∷ t) e d = ap (λ x. start (x ∷ b ∷ t)) e ∙ ap (λ x. start (46 ∷ x ∷ t)) d ∙ start_local t
@@ -125,7 +127,8 @@ sign_led (c ∷ t) = on (eqb c 32) refl
         by going.digit p = refl
         by going.minus p = at (is_decimal (look t))
           where
-            at : (b : Bool) → sign_code (cond b (leaf (on_got (λ v. num (neg_ℤ (pos v))) (digits 2147483648 0 t))) (sign Negate t)) ≡ sign_code (cond b (nothing t) (sign Negate t))
+            at : (b : Bool) → sign_code (cond b (leaf (on_got (λ v. num (neg_ℤ (pos v))) (digits 2147483648 0 t))) (sign Negate t))
+                ≡ sign_code (cond b (nothing t) (sign Negate t))
             at true = refl
             at false = refl
         by going.global p = refl
@@ -185,7 +188,8 @@ module _ (s : List ℕ) (j : ℕ) (p : look s ≡ 32) (z : sign_code (start s) �
   pub blank_other : (look (drop j s) ≡ 45 → ⊥) → start s ≡ nothing (drop j s)
   blank_other m = space_led s p ∙ ap led (sym d) ∙ led_other (drop j s) m no_sign
 
-pub none_starts : (s : List ℕ) → is_decimal (look s) ≡ false → (look s ≡ 45 → ⊥) → (look s ≡ 103 → ⊥) → (look s ≡ 46 → ⊥) → (look s ≡ 40 → ⊥) → (look s ≡ 32 → ⊥)
+pub none_starts : (s : List ℕ) → is_decimal (look s) ≡ false → (look s ≡ 45 → ⊥) → (look s ≡ 103 → ⊥) → (look s ≡ 46 → ⊥)
+    → (look s ≡ 40 → ⊥) → (look s ≡ 32 → ⊥)
     → sign_code (start s) ≡ 0 → start s ≡ nothing s
 unfolding start
 none_starts [] d m g o b l z = refl
@@ -204,21 +208,23 @@ none_starts (c ∷ t) d m g o b l z = by (class_of c) (class_is c) z
 
 -- ---- answers
 
-module _ (s b a : List ℕ) (at k : ℕ) (f : ℕ → Expr) (rd : Read ℕ) (most : ℕ) (starts : start s ≡ leaf (on_got f rd)) (long : k ≤ length s) where
-  pub leaf_ends : (r : Value) (n v to : ℕ) → r ≡ Is n v → Valued (drop k s) rd most r → Put b a at (bytes_of (f v)) to → Answered alone s b a at (Ends (n + k) to)
-  leaf_ends r n v to e g p =
-      let h = subst (λ x. Valued (drop k s) rd most x) e g in (
-        f v,
-        (
-          leafs (starts ∙ ap (λ x. leaf (on_got f x)) h.0 ∙ ap (λ x. leaf (got (f v) x)) (drop_plus k n s)),
-          (omega (arith, length-drop k s, h.1), p),
-        ),
-      )
+module _ (s b a : List ℕ) (at k : ℕ) (f : ℕ → Expr) (rd : Read ℕ) (most : ℕ) (starts : start s ≡ leaf (on_got f rd)) (long : k ≤ length s)
+  where
+    pub leaf_ends : (r : Value) (n v to : ℕ) → r ≡ Is n v → Valued (drop k s) rd most r → Put b a at (bytes_of (f v)) to
+        → Answered alone s b a at (Ends (n + k) to)
+    leaf_ends r n v to e g p =
+        let h = subst (λ x. Valued (drop k s) rd most x) e g in (
+          f v,
+          (
+            leafs (starts ∙ ap (λ x. leaf (on_got f x)) h.0 ∙ ap (λ x. leaf (got (f v) x)) (drop_plus k n s)),
+            (omega (arith, length-drop k s, h.1), p),
+          ),
+        )
 
-  pub leaf_stuck : (r : Value) (n : ℕ) → r ≡ Not n → Valued (drop k s) rd most r → Answered alone s b a at (Stuck (n + k))
-  leaf_stuck r n e g =
-      let h = subst (λ x. Valued (drop k s) rd most x) e g in
-      (leafs (starts ∙ ap (λ x. leaf (on_got f x)) h.0 ∙ ap (λ x. leaf (stuck x)) (drop_plus k n s)), omega (arith, length-drop k s, h.1))
+    pub leaf_stuck : (r : Value) (n : ℕ) → r ≡ Not n → Valued (drop k s) rd most r → Answered alone s b a at (Stuck (n + k))
+    leaf_stuck r n e g =
+        let h = subst (λ x. Valued (drop k s) rd most x) e g in
+        (leafs (starts ∙ ap (λ x. leaf (on_got f x)) h.0 ∙ ap (λ x. leaf (stuck x)) (drop_plus k n s)), omega (arith, length-drop k s, h.1))
 
 -- what a number's reader says of a part it says of the rest
 pub valued_rest : (k : ℕ) (s : List ℕ) (rd : List ℕ → Read ℕ) (most : ℕ) (r : Value)
@@ -231,7 +237,8 @@ negative_is (suc v) h k = refl
 
 -- ---- operators
 
-pub infix_none : (c : ℕ) → (c ≡ 42 → ⊥) → (c ≡ 47 → ⊥) → (c ≡ 43 → ⊥) → (c ≡ 45 → ⊥) → (c ≡ 38 → ⊥) → (c ≡ 94 → ⊥) → (c ≡ 124 → ⊥) → infix_of c ≡ none
+pub infix_none : (c : ℕ) → (c ≡ 42 → ⊥) → (c ≡ 47 → ⊥) → (c ≡ 43 → ⊥) → (c ≡ 45 → ⊥) → (c ≡ 38 → ⊥) → (c ≡ 94 → ⊥) → (c ≡ 124 → ⊥)
+    → infix_of c ≡ none
 unfolding infix_of
 infix_none c e f g h i j k =
     rw (ne_eqb c 42 e, ne_eqb c 47 f, ne_eqb c 43 g, ne_eqb c 45 h, ne_eqb c 38 i, ne_eqb c 94 j, ne_eqb c 124 k)
@@ -253,7 +260,8 @@ op_none l c k e h = on (infix_of c) e
     on none e = refl
     on (some o) e = absurd (omega (arith, code_some o))
 
-pub op_level : (l c k m : ℕ) → k ≡ code_of (infix_of c) → 1 ≤ k → ((o : Op2) → k ≡ code2 o → m ≡ level_of o) → (b : Bool) → eqb m l ≡ b → cond b k 0 ≡ code_of (op_at l c)
+pub op_level : (l c k m : ℕ) → k ≡ code_of (infix_of c) → 1 ≤ k → ((o : Op2) → k ≡ code2 o → m ≡ level_of o) → (b : Bool) → eqb m l ≡ b
+    → cond b k 0 ≡ code_of (op_at l c)
 op_level l c k m e h f b q = on (infix_of c) e
   where
     at : (o : Op2) → k ≡ code2 o → (b : Bool) → eqb m l ≡ b → cond b k 0 ≡ code_of (cond b (some o) none)

@@ -20,18 +20,27 @@ le_or_lt a b = on (leb a b) refl
     on false e = inr (leb-false a b e)
 
 -- one more byte behind the first n
-pub put_one : (b a x : List ℕ) (at n v : ℕ) → n < length a → take n a ≡ take at b ++ x → take (n + 1) (set a n v) ≡ take at b ++ (x ++ (v ∷ []))
+pub put_one : (b a x : List ℕ) (at n v : ℕ) → n < length a → take n a ≡ take at b ++ x
+    → take (n + 1) (set a n v) ≡ take at b ++ (x ++ (v ∷ []))
 put_one b a x at n v h e =
     ap (λ m. take m (set a n v)) (add-one n) ∙ take-suc-set a n v h ∙ ap (λ y. y ++ (v ∷ [])) e ∙ append_assoc (take at b) x (v ∷ [])
 
 pub too_long : (b a e : List ℕ) (at : ℕ) → length a ≡ 32 → 32 < at + length e → Put b a at e 33
-too_long b a e at s h = record { size = s; within = omega arith; ends = λ k. absurd (omega arith); stands = λ k. absurd (omega arith); over = λ k. h }
+too_long b a e at s h = record {
+  size = s;
+  within = omega arith;
+  ends = λ k. absurd (omega arith);
+  stands =
+      λ k. absurd (omega arith);
+  over = λ k. h;
+}
 
 pub fits : (b a e : List ℕ) (at to : ℕ) → length a ≡ 32 → to ≤ 32 → to ≡ at + length e → take to a ≡ take at b ++ e → Put b a at e to
 fits b a e at to s h k q = record { size = s; within = omega arith; ends = λ z. k; stands = λ z. q; over = λ z. absurd (omega arith) }
 
 -- three and five bytes stored one behind the other
-pub put_three : (b : List ℕ) (at x y z : ℕ) → at + 3 ≤ length b → take (at + 3) (set (set (set b at x) (at + 1) y) (at + 2) z) ≡ take at b ++ (x ∷ y ∷ z ∷ [])
+pub put_three : (b : List ℕ) (at x y z : ℕ) → at + 3 ≤ length b
+    → take (at + 3) (set (set (set b at x) (at + 1) y) (at + 2) z) ≡ take at b ++ (x ∷ y ∷ z ∷ [])
 put_three b at x y z h =
     let b1 = set b at x in
     let b2 = set b1 (at + 1) y in
@@ -84,7 +93,8 @@ moved_start b end =
           drop_of_length-le (take (end + 1) b) h ∙ sym (drop_of_length-le (take end b) k);
     }
 
-pub moved_more : (b a : List ℕ) (end i : ℕ) → i < end → end < length b → Moved b a end (i + 1) → Moved b (set a (i + 1) (get_or a i 0)) end i
+pub moved_more : (b a : List ℕ) (end i : ℕ) → i < end → end < length b → Moved b a end (i + 1)
+    → Moved b (set a (i + 1) (get_or a i 0)) end i
 moved_more b a end i h k m =
     let v = get_or a i 0 in
     let z = set a (i + 1) v in
@@ -108,11 +118,13 @@ moved_more b a end i h k m =
           ∙ drop-cons (set t j v) j 0 lz
           ∙ ap (λ y. y ∷ drop (suc j) (set t j v)) (get_or-set_same t j v 0 (omega arith) ∙ same ∙ sym (get_or-take end b i 0 h))
           ∙ ap (λ y. get_or (take end b) i 0 ∷ y)
-          (drop-set-lt (suc j) t j v (omega arith) ∙ ap (λ n. drop n t) (sym (add-one j)) ∙ m.above ∙ ap (λ n. drop n (take end b)) (add-one i))
+          (drop-set-lt (suc j) t j v (omega arith) ∙ ap (λ n. drop n t) (sym (add-one j)) ∙ m.above
+          ∙ ap (λ n. drop n (take end b)) (add-one i))
           ∙ sym (drop-cons (take end b) i 0 (omega arith));
     }
 
-pub moved_put : (b a : List ℕ) (end at code : ℕ) → at ≤ end → end < length b → Moved b a end at → take (end + 1) (set a at code) ≡ take at b ++ (code ∷ drop at (take end b))
+pub moved_put : (b a : List ℕ) (end at code : ℕ) → at ≤ end → end < length b → Moved b a end at
+    → take (end + 1) (set a at code) ≡ take at b ++ (code ∷ drop at (take end b))
 moved_put b a end at code h k m =
     let t : List ℕ = take (end + 1) a in
     let la : length a ≡ length b = m.size in
@@ -123,7 +135,8 @@ moved_put b a end at code h k m =
     ∙ ap (λ y. take at b ++ (code ∷ y)) (ap (λ n. drop n t) (sym (add-one at)) ∙ m.above)
 
 -- an operator and two operands; for a prefix operator the first is empty
-pub put_two : (b a₀ a₁ a₂ e d : List ℕ) (at to end code r : ℕ) → length b ≡ 32 → Put b a₀ at e to → Put a₀ a₁ to d end → Inserted a₁ a₂ at end code r
+pub put_two : (b a₀ a₁ a₂ e d : List ℕ) (at to end code r : ℕ) → length b ≡ 32 → Put b a₀ at e to → Put a₀ a₁ to d end
+    → Inserted a₁ a₂ at end code r
     → Put b a₂ at (code ∷ (e ++ d)) r
 put_two b a₀ a₁ a₂ e d at to end code r lb p q i =
     record {
@@ -154,9 +167,11 @@ put_two b a₀ a₁ a₂ e d at to end code r lb p q i =
         let u = q.ends (omega arith) in
         let v = p.ends (omega arith) in
         let lt : length (take at b) ≡ at = length-take-le at b (omega arith) in
-        let w : take end a₁ ≡ take at b ++ (e ++ d) = q.stands (omega arith) ∙ ap (λ y. y ++ d) (p.stands (omega arith)) ∙ append_assoc (take at b) e d in
+        let w : take end a₁ ≡ take at b ++ (e ++ d) = q.stands (omega arith) ∙ ap (λ y. y ++ d) (p.stands (omega arith))
+        ∙ append_assoc (take at b) e d in
         i.stands k
-        ∙ ap (λ y. y ++ (code ∷ drop at (take end a₁))) (sym (take-take at end a₁ (omega arith)) ∙ ap (take at) w ∙ take_at (take at b) (e ++ d) at lt)
+        ∙ ap (λ y. y ++ (code ∷ drop at (take end a₁))) (sym (take-take at end a₁ (omega arith)) ∙ ap (take at) w
+        ∙ take_at (take at b) (e ++ d) at lt)
         ∙ ap (λ y. take at b ++ (code ∷ y)) (ap (drop at) w ∙ drop_at (take at b) (e ++ d) at lt)
 
     over : 32 < r → 32 < at + suc (length (e ++ d))

@@ -13,7 +13,8 @@ returns-then-s-i c =
     let s = c.args.s.now in
     let i = c.loop-i.i in
     let k : 5 - i ≡ suc (4 - i) = omega arith in
-    let f : fixed 32767 5 0 s ≡ fixed 32767 (suc (4 - i)) c.loop-i.v (drop i s) = c.loop-i.invariant.1.1.1 ∙ ap (λ x. fixed 32767 x c.loop-i.v (drop i s)) k in
+    let f : fixed 32767 5 0 s ≡ fixed 32767 (suc (4 - i)) c.loop-i.v (drop i s) = c.loop-i.invariant.1.1.1
+    ∙ ap (λ x. fixed 32767 x c.loop-i.v (drop i s)) k in
     (f ∙ fixed_end s 32767 (4 - i) c.loop-i.v i c.if-s-i.true, omega arith)
 
 pub returns-then-not-is_decimal : goal.returns-then-not-is_decimal
@@ -21,7 +22,8 @@ returns-then-not-is_decimal c =
     let s = c.args.s.now in
     let i = c.loop-i.i in
     let k : 5 - i ≡ suc (4 - i) = omega arith in
-    let f : fixed 32767 5 0 s ≡ fixed 32767 (suc (4 - i)) c.loop-i.v (drop i s) = c.loop-i.invariant.1.1.1 ∙ ap (λ x. fixed 32767 x c.loop-i.v (drop i s)) k in
+    let f : fixed 32767 5 0 s ≡ fixed 32767 (suc (4 - i)) c.loop-i.v (drop i s) = c.loop-i.invariant.1.1.1
+    ∙ ap (λ x. fixed 32767 x c.loop-i.v (drop i s)) k in
     (f ∙ fixed_no s 32767 (4 - i) c.loop-i.v i c.if-s-i.false (sym c.is_decimal.ensures ∙ c.if-not-is_decimal.true), omega arith)
 
 pub returns-then-w-tens-gt32767 : goal.returns-then-w-tens-gt32767
@@ -29,10 +31,12 @@ returns-then-w-tens-gt32767 c =
     let s = c.args.s.now in
     let i = c.loop-i.i in
     let k : 5 - i ≡ suc (4 - i) = omega arith in
-    let f : fixed 32767 5 0 s ≡ fixed 32767 (suc (4 - i)) c.loop-i.v (drop i s) = c.loop-i.invariant.1.1.1 ∙ ap (λ x. fixed 32767 x c.loop-i.v (drop i s)) k in
+    let f : fixed 32767 5 0 s ≡ fixed 32767 (suc (4 - i)) c.loop-i.v (drop i s) = c.loop-i.invariant.1.1.1
+    ∙ ap (λ x. fixed 32767 x c.loop-i.v (drop i s)) k in
     let n = 10 * c.loop-i.v + (get_or s i 0 - 48) in
     let e = sym c.is_decimal.ensures ∙ c.if-not-is_decimal.false in
-    let w : (10 * c.loop-i.v + c.digit.result) * c.tens.result ≡ n * tens (4 - i) = ap (λ x. (10 * c.loop-i.v + x) * c.tens.result) c.digit.ensures.0 ∙ ap (λ x. n * x) c.tens.ensures in
+    let w : (10 * c.loop-i.v + c.digit.result) * c.tens.result ≡ n * tens (4 - i) =
+    ap (λ x. (10 * c.loop-i.v + x) * c.tens.result) c.digit.ensures.0 ∙ ap (λ x. n * x) c.tens.ensures in
     (f ∙ fixed_big s 32767 (4 - i) c.loop-i.v i c.if-s-i.false (omega (arith, c.if-w-tens-gt32767.true, w)), omega arith)
 
 pub loop-i-preserved : goal.loop-i-preserved
@@ -40,10 +44,12 @@ loop-i-preserved c =
     let s = c.args.s.now in
     let i = c.loop-i.i in
     let k : 5 - i ≡ suc (4 - i) = omega arith in
-    let f : fixed 32767 5 0 s ≡ fixed 32767 (suc (4 - i)) c.loop-i.v (drop i s) = c.loop-i.invariant.1.1.1 ∙ ap (λ x. fixed 32767 x c.loop-i.v (drop i s)) k in
+    let f : fixed 32767 5 0 s ≡ fixed 32767 (suc (4 - i)) c.loop-i.v (drop i s) = c.loop-i.invariant.1.1.1
+    ∙ ap (λ x. fixed 32767 x c.loop-i.v (drop i s)) k in
     let n = 10 * c.loop-i.v + (get_or s i 0 - 48) in
     let e = sym c.is_decimal.ensures ∙ c.if-not-is_decimal.false in
-    let w : (10 * c.loop-i.v + c.digit.result) * c.tens.result ≡ n * tens (4 - i) = ap (λ x. (10 * c.loop-i.v + x) * c.tens.result) c.digit.ensures.0 ∙ ap (λ x. n * x) c.tens.ensures in
+    let w : (10 * c.loop-i.v + c.digit.result) * c.tens.result ≡ n * tens (4 - i) =
+    ap (λ x. (10 * c.loop-i.v + x) * c.tens.result) c.digit.ensures.0 ∙ ap (λ x. n * x) c.tens.ensures in
     let h : n * tens (4 - i) ≤ 32767 = omega (arith, c.if-w-tens-gt32767.false, w) in
     let x : 10 * c.loop-i.v + c.digit.result ≡ n = ap (λ x. 10 * c.loop-i.v + x) c.digit.ensures.0 in
     let z : 4 - i ≡ 5 - (i + 1) = omega arith in (
@@ -62,8 +68,12 @@ pub returns : goal.returns
 unfolding fixed
 returns c =
     let s = c.args.s.now in
-    let k : c.loop-i.i ≡ 5 = omega arith in
-    (c.loop-i.invariant.1.1.1 ∙ ap (λ x. fixed 32767 (5 - x) c.loop-i.v (drop x s)) k ∙ done c.loop-i.v (drop 5 s), omega arith, omega arith)
+    let k : c.loop-i.i ≡ 5 = omega arith in (
+      c.loop-i.invariant.1.1.1 ∙ ap (λ x. fixed 32767 (5 - x) c.loop-i.v (drop x s)) k
+          ∙ done c.loop-i.v (drop 5 s),
+      omega arith,
+      omega arith,
+    )
   where
     done : (v : ℕ) (t : List ℕ) → fixed 32767 0 v t ≡ got v t
     done v t = refl

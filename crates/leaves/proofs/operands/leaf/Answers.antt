@@ -18,5 +18,8 @@ pub returns : goal.returns
 returns c =
     let s = c.args.s.now in
     let k = c.look-c.ensures in
-    let pre = c.requires in
-    (nones (none_starts s (ap is_decimal (sym k) ∙ sym c.is_decimal.ensures ∙ c.if-is_decimal.false) (λ e. c.if-c-eq45.false (k ∙ e)) (λ e. c.if-c-eq103.false (k ∙ e)) (λ e. c.if-c-eq46.false (k ∙ e)) pre.3 (λ e. c.if-c-eq32.false (k ∙ e)) pre.2), omega arith)
+    let pre = c.requires in (
+      nones (none_starts s (ap is_decimal (sym k) ∙ sym c.is_decimal.ensures ∙ c.if-is_decimal.false) (λ e. c.if-c-eq45.false (k ∙ e))
+          (λ e. c.if-c-eq103.false (k ∙ e)) (λ e. c.if-c-eq46.false (k ∙ e)) pre.3 (λ e. c.if-c-eq32.false (k ∙ e)) pre.2),
+      omega arith,
+    )

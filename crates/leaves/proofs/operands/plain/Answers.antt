@@ -18,7 +18,8 @@ returns-in-Is c =
     let s = a.s.now in
     let k : n + 0 ≡ n = omega arith in
     subst (λ x. Answered alone s a.out.now c.put_number-to.new.out a.at (Ends x c.put_number-to.result)) k
-    (leaf_ends s a.out.now c.put_number-to.new.out a.at 0 (λ v. num (pos v)) (digits 2147483647 0 s) 2147483647 (plain_starts s c.requires.2) (omega arith)
+    (leaf_ends s a.out.now c.put_number-to.new.out a.at 0 (λ v. num (pos v)) (digits 2147483647 0 s) 2147483647
+    (plain_starts s c.requires.2) (omega arith)
     c.digits.result n v c.put_number-to.result c.in-Is.is c.digits.ensures c.put_number-to.ensures)
 
 pub returns-in-Not : goal.returns-in-Not
@@ -28,5 +29,6 @@ returns-in-Not c =
     let s = a.s.now in
     let k : n + 0 ≡ n = omega arith in
     subst (λ x. Answered alone s a.out.now a.out.now a.at (Stuck x)) k
-    (leaf_stuck s a.out.now a.out.now a.at 0 (λ v. num (pos v)) (digits 2147483647 0 s) 2147483647 (plain_starts s c.requires.2) (omega arith)
+    (leaf_stuck s a.out.now a.out.now a.at 0 (λ v. num (pos v)) (digits 2147483647 0 s) 2147483647 (plain_starts s c.requires.2)
+    (omega arith)
     c.digits.result n c.in-Not.is c.digits.ensures)
