@@ -1,19 +1,16 @@
 -- What is read by the plan of lines is a line of the grammar, and where the reader is stuck is 15's column. Assumes nothing.
-use mathlib.Core.Path.{◌≡◌, refl, sym, ap, ◌∙◌, subst}
+use mathlib.Core.Path.{◌≡◌, subst}
 use mathlib.Core.List.{List, []}
-use Prim.Native.Nat.{ℕ, ◌-◌, ◌≤◌, ◌<◌}
+use Prim.Native.Nat.{ℕ, ◌-◌, ◌≤◌}
 use native.Mathlib.Omega.{arith}
 use lib.ListN.{length, drop, length-drop}
-use Rattle.rules.specs.Programs.{Stmt, over_exprs}
-use Rattle.rules.specs.Output.{frame_of}
-use Rattle.grammar.specs.Reading.{Line, WrongAt, Fitting}
+use Rattle.grammar.specs.Reading.{WrongAt}
 use Rattle.plans.specs.Lines.{line_plan}
 use Rattle.plans.proofs.Wholes.{reads_line, column}
-use Rattle.laying.specs.Laying.{long, Stands}
 use Rattle.laying.specs.declared.Told.{Told}
 use Rattle.laying.specs.declared.Told.TheVariants.{Frame, Wrong}
 use Rattle.laying.specs.Speaking.{Spoken}
-use Rattle.people.specs.Reading.{Reads, Answers}
+use Rattle.people.specs.Reading.{Answers}
 
 pub answers : (s a : List ℕ) (r : Told) → Spoken line_plan s 0 a r → Answers s a r
 answers s a (Frame to) (x, (w, h)) =

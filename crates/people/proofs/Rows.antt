@@ -1,32 +1,29 @@
 -- A line by the word that it begins with. Assumes nothing.
-use mathlib.Core.Path.{◌≡◌, refl, sym, ap, ◌∙◌, subst}
+use mathlib.Core.Path.{◌≡◌, sym, ap, ◌∙◌, subst}
 use mathlib.Core.Logic.{◌⊎◌, inl, inr}
 use mathlib.Core.List.{List, [], ◌∷◌, ◌++◌}
-use mathlib.Core.Bool.{Bool, true, false}
-use Prim.Native.Nat.{ℕ, zero, suc, ◌+◌, ◌≤◌, ◌<◌}
+use Prim.Native.Nat.{ℕ, ◌≤◌, ◌<◌}
 use native.Mathlib.Omega.{arith}
 use lib.ListN.{length, drop}
 use lib.Seq.{drop-drop}
 use Rattle.laws.specs.Lists.{each, total}
 use Rattle.instruction.proofs.Entries.{NoneIn}
 use Rattle.rules.specs.Patterns.{codes}
-use Rattle.rules.specs.Forms.{operands_at}
 use Rattle.rules.specs.Programs.{Stmt, instr, comment, bytes, words, pad}
 use Rattle.rules.specs.Output.{frame_of}
-use Rattle.text.specs.Text.{mnemonic}
 use Rattle.grammar.specs.Reading.{look}
-use Rattle.grammar.specs.Going.{Read, got, stuck}
+use Rattle.grammar.specs.Going.{got}
 use Rattle.plans.specs.Plans.{Plan, finish, Walks}
 use Rattle.plans.specs.Words.{Word, opening, closing, In, here, there}
-use Rattle.plans.specs.Families.{args_plan, family_of, mnemonics}
+use Rattle.plans.specs.Families.{mnemonics}
 use Rattle.plans.specs.Finals.{comments}
 use Rattle.plans.specs.Lines.{global_plan, local_plan, org_plan, items_plan, align_plan, dot_words, word_list, line_plan}
 use Rattle.plans.specs.Fronts.{common, spelling, opens, Matches, Far}
 use Rattle.plans.proofs.Fronts.{common_within, line_opens, line_closes, line_misses}
 use Rattle.plans.proofs.Lined.{in_first}
 use Rattle.openings.specs.Numbered.{word_at}
-use Rattle.openings.proofs.Numbered.{number_in, with_arguments, without_arguments}
-use Rattle.laying.specs.Laying.{long, Stands, Added}
+use Rattle.openings.proofs.Numbered.{number_in}
+use Rattle.laying.specs.Laying.{Added}
 use Rattle.laying.proofs.Laying.{nothing_stands}
 use Rattle.laying.specs.declared.Told.{Told}
 use Rattle.laying.specs.declared.Told.TheVariants.{Frame, Wrong}
