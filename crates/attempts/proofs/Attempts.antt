@@ -11,7 +11,7 @@ use lib.Seq.{set-set, set_comm, set-get_or}
 use Rattle.laws.specs.Options.{is_some, option_or}
 use Rattle.laws.proofs.Options.{given_true, given_false}
 use Rattle.laws.proofs.Tests.{false_true, second_false}
-use Rattle.rules.specs.Programs.{Program, gone, instr, args_of, at, kind_of}
+use Rattle.rules.specs.Programs.{Program, gone, instr, args_of, kind_of}
 use Rattle.rules.specs.Layout.{size_in}
 use Rattle.rules.specs.Names.{enter}
 use Rattle.rules.specs.Judging.{assembles}
