@@ -65,3 +65,20 @@ module _ (text starts : List ℕ) (n : ℕ) (l : Lined text starts n) where
   run_within i to h k =
       let z : i + (to - i) ≡ to = omega arith in
       omega (arith, rw z at (run_bound (to - i) i (omega arith)))
+
+-- what a run asks for
+pub asked : (text starts : List ℕ) (n : ℕ) → Lined text starts n → (i to : ℕ) → i ≤ to → to ≤ n → (i ≤ to) × (to ≤ 1024)
+    × (get_or starts i 0 ≤ get_or starts to 0) × (get_or starts to 0 ≤ 262144)
+asked text starts n l i to h k =
+    let f = l.few in
+    let b = start_bound text starts n l to k in
+    (h, omega arith, rises_to text starts n l i to h k, omega arith)
+
+-- and what it comes to
+pub comes_to : (kind : ℕ) (text starts : List ℕ) (n : ℕ) → Lined text starts n → (i to r : ℕ) → i ≤ to → to ≤ n
+    → r ≡ get_or starts to 0 - get_or starts i 0 + 6 * (to - i)
+    → (r ≡ length (run_text kind (frames_of text) (to - i) i)) × (r ≤ 255 * (to - i))
+comes_to kind text starts n l i to r h k e =
+    let x = run_length text starts n l kind i to h k in
+    let y = run_within text starts n l i to h k in
+    (e ∙ x, omega arith)

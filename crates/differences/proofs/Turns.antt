@@ -112,3 +112,9 @@ module _ (d d₁ d₂ d₃ x y z rest : List ℕ) (a b c e : ℕ) (p : d₁ ≡ 
 pub two_pieces : (d d₁ d₂ x y : List ℕ) (a b : ℕ) → d₁ ≡ laid d a x → d₂ ≡ laid d₁ b y → b ≡ a + length x → b + length y ≤ length d
     → d₂ ≡ laid d a (x ++ y)
 two_pieces d d₁ d₂ x y a b p q h room = q ∙ ap (λ (o : List ℕ). laid o b y) p ∙ laid_more d x y a b (omega arith) room
+
+-- what is left behind the last pair is the rest of both
+pub left_ends : (first second pairs : List ℕ) (count n m i j k : ℕ) → length (frames_of first) ≡ n → length (frames_of second) ≡ m
+    → count ≤ k → run_text 0x71 (frames_of first) (n - i) i ++ run_text 0x72 (frames_of second) (m - j) j ≡ left first second pairs count i
+    j k
+left_ends first second pairs count n m i j k e f h = rw (e, f) at (left_none first second pairs count i j k h)

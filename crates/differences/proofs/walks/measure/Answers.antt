@@ -13,7 +13,7 @@ use Rattle.pairing.proofs.Frames.{frames_count}
 use Rattle.differences.specs.Changes.{paired, bytes_of}
 use Rattle.differences.specs.Walks.{run_text}
 use Rattle.differences.proofs.Pieces.{pair_bound}
-use Rattle.differences.proofs.Sizes.{run_length, rises_to, run_within, start_bound}
+use Rattle.differences.proofs.Sizes.{asked, comes_to}
 use Rattle.differences.proofs.Steps.{order_within}
 use Rattle.differences.proofs.Turns.{left_first, left_length, left_none, pair_line, Next, order_turn}
 use Rattle.differences.proofs.walks.measure.Goals as goal
@@ -123,140 +123,17 @@ module _ (g : goal.After-pair_size-size) where
       let t = g.loop-k in
       order_turn a.pairs.now a.counts.pairs t.k a.counts.first a.counts.second t.i t.j g.loop-k-test.true t.invariant.1
 
--- what a run asks for
-module _ (s : goal.After-q-1) where
-  first_run : (i to : ℕ) → i ≤ to → to ≤ s.args.counts.first → (i ≤ to) × (to ≤ 1024)
-      × (get_or s.args.firsts.now i 0 ≤ get_or s.args.firsts.now to 0) × (get_or s.args.firsts.now to 0 ≤ 262144)
-  first_run i to h k =
-      let l = s.requires.lined in
-      let f = l.few in
-      let b = start_bound s.args.first.now s.args.firsts.now s.args.counts.first l to k in
-      (h, omega arith, rises_to s.args.first.now s.args.firsts.now s.args.counts.first l i to h k, omega arith)
-
--- what a run asks for
-module _ (s : goal.After-run_size-size) where
-  second_run_2 : (i to : ℕ) → i ≤ to → to ≤ s.args.counts.second → (i ≤ to) × (to ≤ 1024)
-      × (get_or s.args.seconds.now i 0 ≤ get_or s.args.seconds.now to 0) × (get_or s.args.seconds.now to 0 ≤ 262144)
-  second_run_2 i to h k =
-      let l = s.requires.lined' in
-      let f = l.few in
-      let b = start_bound s.args.second.now s.args.seconds.now s.args.counts.second l to k in
-      (h, omega arith, rises_to s.args.second.now s.args.seconds.now s.args.counts.second l i to h k, omega arith)
-
-  -- and what it comes to
-  first_size_2 : (i to r : ℕ) → i ≤ to → to ≤ s.args.counts.first
-      → r ≡ get_or s.args.firsts.now to 0 - get_or s.args.firsts.now i 0 + 6 * (to - i)
-      → (r ≡ length (run_text 0x71 (frames_of s.args.first.now) (to - i) i)) × (r ≤ 255 * (to - i))
-  first_size_2 i to r h k e =
-      let l = s.requires.lined in
-      let x = run_length s.args.first.now s.args.firsts.now s.args.counts.first l 0x71 i to h k in
-      let y = run_within s.args.first.now s.args.firsts.now s.args.counts.first l i to h k in
-      (e ∙ x, omega arith)
-
--- what a run asks for
-module _ (s : goal.After-run_size-size-in-loop-k) where
-  -- and what it comes to
-  first_size_3 : (i to r : ℕ) → i ≤ to → to ≤ s.args.counts.first
-      → r ≡ get_or s.args.firsts.now to 0 - get_or s.args.firsts.now i 0 + 6 * (to - i)
-      → (r ≡ length (run_text 0x71 (frames_of s.args.first.now) (to - i) i)) × (r ≤ 255 * (to - i))
-  first_size_3 i to r h k e =
-      let l = s.requires.lined in
-      let x = run_length s.args.first.now s.args.firsts.now s.args.counts.first l 0x71 i to h k in
-      let y = run_within s.args.first.now s.args.firsts.now s.args.counts.first l i to h k in
-      (e ∙ x, omega arith)
-
-  second_size_3 : (i to r : ℕ) → i ≤ to → to ≤ s.args.counts.second
-      → r ≡ get_or s.args.seconds.now to 0 - get_or s.args.seconds.now i 0 + 6 * (to - i)
-      → (r ≡ length (run_text 0x72 (frames_of s.args.second.now) (to - i) i)) × (r ≤ 255 * (to - i))
-  second_size_3 i to r h k e =
-      let l = s.requires.lined' in
-      let x = run_length s.args.second.now s.args.seconds.now s.args.counts.second l 0x72 i to h k in
-      let y = run_within s.args.second.now s.args.seconds.now s.args.counts.second l i to h k in
-      (e ∙ x, omega arith)
-
--- what a run asks for
-module _ (s : goal.After-pair_size-size) where
-  -- and what it comes to
-  first_size_4 : (i to r : ℕ) → i ≤ to → to ≤ s.args.counts.first
-      → r ≡ get_or s.args.firsts.now to 0 - get_or s.args.firsts.now i 0 + 6 * (to - i)
-      → (r ≡ length (run_text 0x71 (frames_of s.args.first.now) (to - i) i)) × (r ≤ 255 * (to - i))
-  first_size_4 i to r h k e =
-      let l = s.requires.lined in
-      let x = run_length s.args.first.now s.args.firsts.now s.args.counts.first l 0x71 i to h k in
-      let y = run_within s.args.first.now s.args.firsts.now s.args.counts.first l i to h k in
-      (e ∙ x, omega arith)
-
-  second_size_4 : (i to r : ℕ) → i ≤ to → to ≤ s.args.counts.second
-      → r ≡ get_or s.args.seconds.now to 0 - get_or s.args.seconds.now i 0 + 6 * (to - i)
-      → (r ≡ length (run_text 0x72 (frames_of s.args.second.now) (to - i) i)) × (r ≤ 255 * (to - i))
-  second_size_4 i to r h k e =
-      let l = s.requires.lined' in
-      let x = run_length s.args.second.now s.args.seconds.now s.args.counts.second l 0x72 i to h k in
-      let y = run_within s.args.second.now s.args.seconds.now s.args.counts.second l i to h k in
-      (e ∙ x, omega arith)
-
--- what a run asks for
-module _ (s : goal.After-loop-k) where
-  first_run_5 : (i to : ℕ) → i ≤ to → to ≤ s.args.counts.first → (i ≤ to) × (to ≤ 1024)
-      × (get_or s.args.firsts.now i 0 ≤ get_or s.args.firsts.now to 0) × (get_or s.args.firsts.now to 0 ≤ 262144)
-  first_run_5 i to h k =
-      let l = s.requires.lined in
-      let f = l.few in
-      let b = start_bound s.args.first.now s.args.firsts.now s.args.counts.first l to k in
-      (h, omega arith, rises_to s.args.first.now s.args.firsts.now s.args.counts.first l i to h k, omega arith)
-
--- what a run asks for
-module _ (s : goal.After-run_size) where
-  second_run_6 : (i to : ℕ) → i ≤ to → to ≤ s.args.counts.second → (i ≤ to) × (to ≤ 1024)
-      × (get_or s.args.seconds.now i 0 ≤ get_or s.args.seconds.now to 0) × (get_or s.args.seconds.now to 0 ≤ 262144)
-  second_run_6 i to h k =
-      let l = s.requires.lined' in
-      let f = l.few in
-      let b = start_bound s.args.second.now s.args.seconds.now s.args.counts.second l to k in
-      (h, omega arith, rises_to s.args.second.now s.args.seconds.now s.args.counts.second l i to h k, omega arith)
-
-  -- and what it comes to
-  first_size_6 : (i to r : ℕ) → i ≤ to → to ≤ s.args.counts.first
-      → r ≡ get_or s.args.firsts.now to 0 - get_or s.args.firsts.now i 0 + 6 * (to - i)
-      → (r ≡ length (run_text 0x71 (frames_of s.args.first.now) (to - i) i)) × (r ≤ 255 * (to - i))
-  first_size_6 i to r h k e =
-      let l = s.requires.lined in
-      let x = run_length s.args.first.now s.args.firsts.now s.args.counts.first l 0x71 i to h k in
-      let y = run_within s.args.first.now s.args.firsts.now s.args.counts.first l i to h k in
-      (e ∙ x, omega arith)
-
--- what a run asks for
-module _ (s : goal.After-run_size-2) where
-  -- and what it comes to
-  first_size_7 : (i to r : ℕ) → i ≤ to → to ≤ s.args.counts.first
-      → r ≡ get_or s.args.firsts.now to 0 - get_or s.args.firsts.now i 0 + 6 * (to - i)
-      → (r ≡ length (run_text 0x71 (frames_of s.args.first.now) (to - i) i)) × (r ≤ 255 * (to - i))
-  first_size_7 i to r h k e =
-      let l = s.requires.lined in
-      let x = run_length s.args.first.now s.args.firsts.now s.args.counts.first l 0x71 i to h k in
-      let y = run_within s.args.first.now s.args.firsts.now s.args.counts.first l i to h k in
-      (e ∙ x, omega arith)
-
-  second_size_7 : (i to r : ℕ) → i ≤ to → to ≤ s.args.counts.second
-      → r ≡ get_or s.args.seconds.now to 0 - get_or s.args.seconds.now i 0 + 6 * (to - i)
-      → (r ≡ length (run_text 0x72 (frames_of s.args.second.now) (to - i) i)) × (r ≤ 255 * (to - i))
-  second_size_7 i to r h k e =
-      let l = s.requires.lined' in
-      let x = run_length s.args.second.now s.args.seconds.now s.args.counts.second l 0x72 i to h k in
-      let y = run_within s.args.second.now s.args.seconds.now s.args.counts.second l i to h k in
-      (e ∙ x, omega arith)
-
 -- the three pieces of a pair
 module _ (c : goal.After-run_size-size-in-loop-k) where
   removed_is : let a = c.args in let t = c.loop-k in let p = get_or a.pairs.now t.k 0 in
       (c.run_size-size.result ≡ length (run_text 0x71 (frames_of a.first.now) (p - t.i) t.i)) ×
       (c.run_size-size.result ≤ 255 * (p - t.i))
-  removed_is = first_size_3 c _ _ _ (next_3 c).low (omega (arith, (next_3 c).high)) c.run_size-size.ensures
+  removed_is = comes_to 0x71 _ _ _ c.requires.lined _ _ _ (next_3 c).low (omega (arith, (next_3 c).high)) c.run_size-size.ensures
 
   added_is : let a = c.args in let t = c.loop-k in let q = get_or a.pairs.now (1024 + t.k) 0 in
       (c.run_size-size-in-loop-k.result ≡ length (run_text 0x72 (frames_of a.second.now) (q - t.j) t.j)) ×
       (c.run_size-size-in-loop-k.result ≤ 255 * (q - t.j))
-  added_is = second_size_3 c _ _ _ (next_3 c).low' (omega (arith, (next_3 c).high')) c.run_size-size-in-loop-k.ensures
+  added_is = comes_to 0x72 _ _ _ c.requires.lined' _ _ _ (next_3 c).low' (omega (arith, (next_3 c).high')) c.run_size-size-in-loop-k.ensures
 
   so_far : c.loop-k.size ≤ 524288
   so_far = omega (arith, c.loop-k.invariant.2, reach_2 c, c.requires.lined.few, c.requires.lined'.few)
@@ -266,12 +143,13 @@ module _ (c : goal.After-pair_size-size) where
   removed_is_2 : let a = c.args in let t = c.loop-k in let p = get_or a.pairs.now t.k 0 in
       (c.run_size-size.result ≡ length (run_text 0x71 (frames_of a.first.now) (p - t.i) t.i)) ×
       (c.run_size-size.result ≤ 255 * (p - t.i))
-  removed_is_2 = first_size_4 c _ _ _ (next_6 c).low (omega (arith, (next_6 c).high)) c.run_size-size.ensures
+  removed_is_2 = comes_to 0x71 _ _ _ c.requires.lined _ _ _ (next_6 c).low (omega (arith, (next_6 c).high)) c.run_size-size.ensures
 
   added_is_2 : let a = c.args in let t = c.loop-k in let q = get_or a.pairs.now (1024 + t.k) 0 in
       (c.run_size-size-in-loop-k.result ≡ length (run_text 0x72 (frames_of a.second.now) (q - t.j) t.j)) ×
       (c.run_size-size-in-loop-k.result ≤ 255 * (q - t.j))
-  added_is_2 = second_size_4 c _ _ _ (next_6 c).low' (omega (arith, (next_6 c).high')) c.run_size-size-in-loop-k.ensures
+  added_is_2 = comes_to 0x72 _ _ _ c.requires.lined' _ _ _ (next_6 c).low' (omega (arith, (next_6 c).high'))
+      c.run_size-size-in-loop-k.ensures
 
 -- both lines of the pair
 module _ (c : goal.After-line_at-in-loop-k) where
@@ -336,7 +214,7 @@ module _ (c : goal.After-run_size) where
       (c.args.counts.first - c.loop-k.i)
       → (r ≡ length (run_text 0x71 (frames_of c.args.first.now) (c.args.counts.first - c.loop-k.i) c.loop-k.i))
       × (r ≤ 255 * (c.args.counts.first - c.loop-k.i))
-  rest_removed_2 r e = first_size_6 c _ _ r within_2.0 (omega arith) e
+  rest_removed_2 r e = comes_to 0x71 _ _ _ c.requires.lined _ _ r within_2.0 (omega arith) e
 
 -- what is left behind the last pair
 module _ (c : goal.After-run_size-2) where
@@ -351,13 +229,13 @@ module _ (c : goal.After-run_size-2) where
       (c.args.counts.first - c.loop-k.i)
       → (r ≡ length (run_text 0x71 (frames_of c.args.first.now) (c.args.counts.first - c.loop-k.i) c.loop-k.i))
       × (r ≤ 255 * (c.args.counts.first - c.loop-k.i))
-  rest_removed_3 r e = first_size_7 c _ _ r within_3.0 (omega arith) e
+  rest_removed_3 r e = comes_to 0x71 _ _ _ c.requires.lined _ _ r within_3.0 (omega arith) e
 
   rest_added_3 : (r : ℕ) → r ≡ get_or c.args.seconds.now c.args.counts.second 0 - get_or c.args.seconds.now
       c.loop-k.j 0 + 6 * (c.args.counts.second - c.loop-k.j)
       → (r ≡ length (run_text 0x72 (frames_of c.args.second.now) (c.args.counts.second - c.loop-k.j) c.loop-k.j))
       × (r ≤ 255 * (c.args.counts.second - c.loop-k.j))
-  rest_added_3 r e = second_size_7 c _ _ r within_3.1 (omega arith) e
+  rest_added_3 r e = comes_to 0x72 _ _ _ c.requires.lined' _ _ r within_3.1 (omega arith) e
 
 pub loop-k-init : goal.loop-k-init
 loop-k-init c =
@@ -366,15 +244,15 @@ loop-k-init c =
     (omega arith, c.requires.order, omega arith, omega (arith, e))
 
 pub run_size-size-requires : goal.run_size-size-requires
-run_size-size-requires c = first_run c _ _ (next c).low (omega (arith, (next c).high))
+run_size-size-requires c = asked _ _ _ c.requires.lined _ _ (next c).low (omega (arith, (next c).high))
 
 pub overflow_add-size : goal.overflow_add-size
 overflow_add-size c =
-    let r = first_size_2 c _ _ _ (next_2 c).low (omega (arith, (next_2 c).high)) c.run_size-size.ensures in
+    let r = comes_to 0x71 _ _ _ c.requires.lined _ _ _ (next_2 c).low (omega (arith, (next_2 c).high)) c.run_size-size.ensures in
     omega (arith, r.1, c.loop-k.invariant.2, reach c, (next_2 c).high, c.requires.lined.few, c.requires.lined'.few)
 
 pub run_size-size-requires-in-loop-k : goal.run_size-size-requires-in-loop-k
-run_size-size-requires-in-loop-k c = second_run_2 c _ _ (next_2 c).low' (omega (arith, (next_2 c).high'))
+run_size-size-requires-in-loop-k c = asked _ _ _ c.requires.lined' _ _ (next_2 c).low' (omega (arith, (next_2 c).high'))
 
 pub overflow_add-size-in-loop-k : goal.overflow_add-size-in-loop-k
 overflow_add-size-in-loop-k c = omega (
@@ -418,13 +296,13 @@ loop-k-preserved c =
     )
 
 pub run_size-requires : goal.run_size-requires
-run_size-requires c = first_run_5 c _ _ (within c).0 (omega arith)
+run_size-requires c = asked _ _ _ c.requires.lined _ _ (within c).0 (omega arith)
 
 pub overflow_add-result : goal.overflow_add-result
 overflow_add-result c = omega (arith, done_2 c, (rest_removed_2 c _ c.run_size.ensures).1, c.requires.lined.few)
 
 pub run_size-requires-2 : goal.run_size-requires-2
-run_size-requires-2 c = second_run_6 c _ _ (within_2 c).1 (omega arith)
+run_size-requires-2 c = asked _ _ _ c.requires.lined' _ _ (within_2 c).1 (omega arith)
 
 pub overflow_add-result-2 : goal.overflow_add-result-2
 overflow_add-result-2 c = omega (

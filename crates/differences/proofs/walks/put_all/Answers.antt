@@ -14,8 +14,8 @@ use Rattle.pairing.proofs.Frames.{frames_count}
 use Rattle.differences.specs.Changes.{paired, bytes_of}
 use Rattle.differences.specs.Walks.{run_text}
 use Rattle.differences.proofs.Steps.{order_within}
-use Rattle.differences.proofs.Turns.{left, left_first, left_turn, left_length, left_none}
-use Rattle.differences.proofs.Turns.{pair_line, Next, order_turn, three_laid, two_pieces}
+use Rattle.differences.proofs.Turns.{left, left_first, left_turn, left_length}
+use Rattle.differences.proofs.Turns.{left_ends, pair_line, Next, order_turn, three_laid, two_pieces}
 use Rattle.differences.proofs.walks.put_all.Goals as goal
 
 -- what is known of a pair that is looked at
@@ -261,14 +261,12 @@ module _ (c : goal.After-put_run-arg-2-1) where
   end_added = run_text 0x72 (frames_of c.args.second.now) (c.args.counts.second - c.loop-k.j) c.loop-k.j
 
   ends : end_removed ++ end_added
-      ≡ left c.args.first.now c.args.second.now c.args.pairs.now c.args.counts.pairs c.loop-k.i
-      c.loop-k.j c.loop-k.k
+      ≡ left c.args.first.now c.args.second.now c.args.pairs.now c.args.counts.pairs c.loop-k.i c.loop-k.j c.loop-k.k
   ends =
       let a = c.args in
-      let t = c.loop-k in
-      let n : length (frames_of a.first.now) ≡ a.counts.first = frames_count a.first.now ∙ sym c.requires.0.lined.count in
-      let m : length (frames_of a.second.now) ≡ a.counts.second = frames_count a.second.now ∙ sym c.requires.0.lined'.count in
-      rw (n, m) at (left_none a.first.now a.second.now a.pairs.now a.counts.pairs t.i t.j t.k c.loop-k-test.false)
+      left_ends a.first.now a.second.now a.pairs.now a.counts.pairs _ _ _ _ _
+      (frames_count a.first.now ∙ sym c.requires.0.lined.count) (frames_count a.second.now ∙ sym c.requires.0.lined'.count)
+      c.loop-k-test.false
 
   end_fits : c.loop-k.at + (length end_removed + length end_added) ≤ length c.args.out.now
   end_fits = omega (arith, ap length ends, length-append end_removed end_added, c.loop-k.invariant.3)
@@ -288,14 +286,12 @@ module _ (c : goal.After-put_run-arg-3-1) where
   end_added_2 = run_text 0x72 (frames_of c.args.second.now) (c.args.counts.second - c.loop-k.j) c.loop-k.j
 
   ends_2 : end_removed_2 ++ end_added_2
-      ≡ left c.args.first.now c.args.second.now c.args.pairs.now c.args.counts.pairs c.loop-k.i
-      c.loop-k.j c.loop-k.k
+      ≡ left c.args.first.now c.args.second.now c.args.pairs.now c.args.counts.pairs c.loop-k.i c.loop-k.j c.loop-k.k
   ends_2 =
       let a = c.args in
-      let t = c.loop-k in
-      let n : length (frames_of a.first.now) ≡ a.counts.first = frames_count a.first.now ∙ sym c.requires.0.lined.count in
-      let m : length (frames_of a.second.now) ≡ a.counts.second = frames_count a.second.now ∙ sym c.requires.0.lined'.count in
-      rw (n, m) at (left_none a.first.now a.second.now a.pairs.now a.counts.pairs t.i t.j t.k c.loop-k-test.false)
+      left_ends a.first.now a.second.now a.pairs.now a.counts.pairs _ _ _ _ _
+      (frames_count a.first.now ∙ sym c.requires.0.lined.count) (frames_count a.second.now ∙ sym c.requires.0.lined'.count)
+      c.loop-k-test.false
 
   end_fits_2 : c.loop-k.at + (length end_removed_2 + length end_added_2) ≤ length c.args.out.now
   end_fits_2 = omega (arith, ap length ends_2, length-append end_removed_2 end_added_2, c.loop-k.invariant.3)
@@ -309,14 +305,12 @@ module _ (c : goal.After-slice_known-3-1) where
   end_added_3 = run_text 0x72 (frames_of c.args.second.now) (c.args.counts.second - c.loop-k.j) c.loop-k.j
 
   ends_3 : end_removed_3 ++ end_added_3
-      ≡ left c.args.first.now c.args.second.now c.args.pairs.now c.args.counts.pairs c.loop-k.i
-      c.loop-k.j c.loop-k.k
+      ≡ left c.args.first.now c.args.second.now c.args.pairs.now c.args.counts.pairs c.loop-k.i c.loop-k.j c.loop-k.k
   ends_3 =
       let a = c.args in
-      let t = c.loop-k in
-      let n : length (frames_of a.first.now) ≡ a.counts.first = frames_count a.first.now ∙ sym c.requires.0.lined.count in
-      let m : length (frames_of a.second.now) ≡ a.counts.second = frames_count a.second.now ∙ sym c.requires.0.lined'.count in
-      rw (n, m) at (left_none a.first.now a.second.now a.pairs.now a.counts.pairs t.i t.j t.k c.loop-k-test.false)
+      left_ends a.first.now a.second.now a.pairs.now a.counts.pairs _ _ _ _ _
+      (frames_count a.first.now ∙ sym c.requires.0.lined.count) (frames_count a.second.now ∙ sym c.requires.0.lined'.count)
+      c.loop-k-test.false
 
   end_fits_3 : c.loop-k.at + (length end_removed_3 + length end_added_3) ≤ length c.args.out.now
   end_fits_3 = omega (arith, ap length ends_3, length-append end_removed_3 end_added_3, c.loop-k.invariant.3)
