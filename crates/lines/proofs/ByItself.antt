@@ -38,7 +38,8 @@ module _ (x : List ℕ) (o : OneLine x) where
 
   pub read_old : is_marked x ≡ false → read_listing x ≡ by_itself old_form (first_line x)
   unfolding read_listing by_itself
-  read_old m = ap (λ (ls : List Line). read_lines (form_in ls) 0 0 (statement_lines ls)) o ∙ on (is_mark (first_line x)) (form_of_lem ∙ ap form_of m)
+  read_old m = ap (λ (ls : List Line). read_lines (form_in ls) 0 0 (statement_lines ls)) o ∙ on (is_mark (first_line x))
+      (form_of_lem ∙ ap form_of m)
     where
       on : (b : Bool) → cond b new_form old_form ≡ old_form
           → read_lines (cond b new_form old_form) 0 0 (cond b [] (first_line x ∷ [])) ≡ read_lines old_form 0 0 (first_line x ∷ [])

@@ -40,7 +40,8 @@ unfolding line_end after_line
 end_rest [] = refl
 end_rest (c ∷ t) = on (eqb c 10) (end_rest t)
   where
-    on : (b : Bool) → line_end t + length (after_line t) ≡ length t → suc (cond b 0 (line_end t)) + length (cond b t (after_line t)) ≡ suc (length t)
+    on : (b : Bool) → line_end t + length (after_line t) ≡ length t → suc (cond b 0 (line_end t)) + length (cond b t (after_line t))
+        ≡ suc (length t)
     on true h = omega arith
     on false h = omega arith
 
@@ -63,7 +64,11 @@ first_part (c ∷ t) = on (eqb c 10) refl (first_part t)
     onto (l ∷ ls) = refl
 
     on : (b : Bool) → eqb c 10 ≡ b → lines_of (take (line_end t) t) ≡ take 1 (lines_of t)
-        → lines_of (c ∷ take (cond b 0 (line_end t)) t) ≡ take 1 (cond b (record { chars = []; ended = true } ∷ lines_of t) (onto_line c (lines_of t)))
+        → lines_of (c ∷ take (cond b 0 (line_end t)) t) ≡ take 1 (cond b (
+        record {
+          chars = [];
+          ended = true;
+        } ∷ lines_of t) (onto_line c (lines_of t)))
     on true e h = rw e
     on false e h = rw (e, h) (onto (lines_of t))
 
@@ -101,7 +106,12 @@ module _ (x : List ℕ) (o : OneLine x) where
 
   pub unended_length : (first_line x).ended ≡ false → length x ≡ length (first_line x).chars
   unended_length e =
-      omega (arith, ap length (one_text ∙ ap (λ (b : Bool). (first_line x).chars ++ cond b (10 ∷ []) []) e), length-append (first_line x).chars [])
+      omega (
+        arith,
+        ap length (one_text ∙ ap (λ (b : Bool). (first_line x).chars ++ cond b (10 ∷ []) []) e),
+        length-append
+            (first_line x).chars [],
+      )
 
 -- its last byte is a line feed exactly where a line feed ends it
 last_is : (x : List ℕ) (l : Line) → lines_of x ≡ l ∷ [] → eqb (get_or x (length x - 1) 0) 10 ≡ l.ended
@@ -109,7 +119,11 @@ unfolding lines_of
 last_is [] l o = clash (cc)
 last_is (c ∷ []) l o = on (eqb c 10) o
   where
-    on : (b : Bool) → cond b (record { chars = []; ended = true } ∷ []) (record { chars = c ∷ []; ended = false } ∷ []) ≡ l ∷ [] → b ≡ l.ended
+    on : (b : Bool) → cond b (
+        record {
+          chars = [];
+          ended = true;
+        } ∷ []) (record { chars = c ∷ []; ended = false } ∷ []) ≡ l ∷ [] → b ≡ l.ended
     on true e = let z : record { chars = []; ended = true } ≡ l = cc in ap (λ (k : Line). k.ended) z
     on false e = let z : record { chars = c ∷ []; ended = false } ≡ l = cc in ap (λ (k : Line). k.ended) z
 last_is (c ∷ d ∷ t) l o = on (eqb c 10) o (last_is (d ∷ t) (first_line (d ∷ t)))
