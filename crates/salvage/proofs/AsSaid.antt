@@ -1,4 +1,5 @@
--- Line by line: the first lines come out in their order, each that is replaced is told once, and from the first that would pass a limit on all are
+-- Line by line: the first lines come out in their order, each that is replaced is told once, and from the first that would pass a limit on
+-- all are
 -- left off.
 use mathlib.Core.Path.{◌≡◌, refl, sym, ap, ap₂, ◌∙◌}
 use mathlib.Core.List.{List, [], ◌∷◌, ◌++◌, append_assoc}
@@ -43,7 +44,8 @@ kept_part w i sum l ls x r =
     let z : suc i + n ≡ i + suc n = omega arith in
     record {
       there = omega (arith, r.there);
-      lines = ap (λ (t : List ℕ). standing w l ++ (10 ∷ t)) r.lines ∙ sym (append_assoc (standing w l) (10 ∷ []) (each (line_out w) (take n ls)));
+      lines = ap (λ (t : List ℕ). standing w l ++ (10 ∷ t)) r.lines ∙ sym (append_assoc (standing w l) (10 ∷ [])
+          (each (line_out w) (take n ls)));
       tells = ap (λ (t : List ℕ). tell ++ t) r.tells
           ∙ sym (append_assoc tell more (cond (ltb n (length ls)) (left_from (suc i + n)) []))
           ∙ ap₂ (λ (b : Bool) (m : ℕ). (tell ++ more) ++ cond b (left_from m) []) (sym (leb-suc-suc (suc n) (length ls))) z;
@@ -53,7 +55,8 @@ kept_part w i sum l ls x r =
     }
 
 -- or none
-left_part : (w : ListingForm) (i sum : ℕ) (l : Line) (ls : List Line) → i ≤ 1024 → sum ≤ most_characters w → keeps_limits w i sum (size w l) ≡ false
+left_part : (w : ListingForm) (i sum : ℕ) (l : Line) (ls : List Line) → i ≤ 1024 → sum ≤ most_characters w → keeps_limits w i sum
+    (size w l) ≡ false
     → Part w i sum (l ∷ ls) (left_off i)
 unfolding each total told_from
 left_part w i sum l ls h k e =
@@ -69,7 +72,12 @@ left_part w i sum l ls h k e =
           (and_false (ltb i 1024) (leb (sum + size w l) (most_characters w)) e);
     }
 
-no_part : (w : ListingForm) (i sum : ℕ) → i ≤ 1024 → sum ≤ most_characters w → Part w i sum [] (record { listing = []; count = 0; report = [] })
+no_part : (w : ListingForm) (i sum : ℕ) → i ≤ 1024 → sum ≤ most_characters w → Part w i sum [] (
+    record {
+      listing = [];
+      count = 0;
+      report = [];
+    })
 unfolding each total told_from
 no_part w i sum h k =
     record { there = omega arith; lines = refl; tells = refl; few = omega arith; short = omega arith; passes = λ z. absurd (omega arith) }
@@ -80,8 +88,10 @@ part w i sum [] h k = no_part w i sum h k
 part w i sum (l ∷ ls) h k = on (keeps_limits w i sum (size w l)) refl (part w (suc i) (sum + size w l) ls)
   where
     on : (b : Bool) → keeps_limits w i sum (size w l) ≡ b
-        → (suc i ≤ 1024 → sum + size w l ≤ most_characters w → Part w (suc i) (sum + size w l) ls (salvage_from w (suc i) (sum + size w l) ls))
-        → Part w i sum (l ∷ ls) (cond b (in_front (standing w l) (told i (by_itself w l)) (salvage_from w (suc i) (sum + size w l) ls)) (left_off i))
+        → (suc i ≤ 1024 → sum + size w l ≤ most_characters w → Part w (suc i) (sum + size w l) ls (salvage_from w (suc i) (sum + size w l)
+        ls))
+        → Part w i sum (l ∷ ls) (cond b (in_front (standing w l) (told i (by_itself w l)) (salvage_from w (suc i) (sum + size w l) ls))
+        (left_off i))
     on true e below =
         let a = and_true (ltb i 1024) (leb (sum + size w l) (most_characters w)) e in
         kept_part w i sum l ls _ (below (omega (arith, ltb-true i 1024 a.0)) (leb-true (sum + size w l) (most_characters w) a.1))

@@ -18,7 +18,11 @@ use Rattle.digits.specs.Digits.{hex_of}
 digit_feed : (c : ℕ) → is_digit c ≡ true → eqb c 10 ≡ false
 digit_feed c h = ne_eqb c 10 (λ e. let z : is_digit 10 ≡ true = rw e at h in false_true z)
 
-pub digits_line : (cs t : List ℕ) → every (λ c. is_digit c) cs ≡ true → lines_of (cs ++ (10 ∷ t)) ≡ record { chars = cs; ended = true } ∷ lines_of t
+pub digits_line : (cs t : List ℕ) → every (λ c. is_digit c) cs ≡ true → lines_of (cs ++ (10 ∷ t)) ≡
+    record {
+      chars = cs;
+      ended = true;
+    } ∷ lines_of t
 unfolding lines_of every
 digits_line [] t h = refl
 digits_line (c ∷ cs) t h =

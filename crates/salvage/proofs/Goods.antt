@@ -126,7 +126,11 @@ mark_bad : (s : Stmt) (b : Bool) → read_frame 0 (unhex (55 ∷ 68 ∷ 48 ∷ 5
 unfolding unhex read_frame take_byte ◌>>=◌
 mark_bad s b e = no_ok (Broken (at_place 0)) s e
 
-pub good_unmarked : (cs : List ℕ) → Good old_form (record { chars = cs; ended = true }) → is_mark (record { chars = cs; ended = true }) ≡ false
+pub good_unmarked : (cs : List ℕ) → Good old_form (
+    record {
+      chars = cs;
+      ended = true;
+    }) → is_mark (record { chars = cs; ended = true }) ≡ false
 good_unmarked cs g = on (same cs (55 ∷ 68 ∷ 48 ∷ 50 ∷ [])) refl
   where
     on : (b : Bool) → same cs (55 ∷ 68 ∷ 48 ∷ 50 ∷ []) ≡ b → same cs (55 ∷ 68 ∷ 48 ∷ 50 ∷ []) && true ≡ false

@@ -47,7 +47,8 @@ module _ (i j : Placeℕ) (s : List ℕ) where
       is_ok_lem (read_frame j s) (statement_of s) (statement_of s)
       (ap (λ (r : Judged Stmt). framed_as r (statement_of s)) (sym e) ∙ framed_moved (frame_some i s x e))
 
-pub moved : (w : ListingForm) (i j : Placeℕ) (s : List ℕ) (x : Stmt) → read_frame_in w i s ≡ ok x → (y : Stmt) × (read_frame_in w j s ≡ ok y)
+pub moved : (w : ListingForm) (i j : Placeℕ) (s : List ℕ) (x : Stmt) → read_frame_in w i s ≡ ok x → (y : Stmt)
+    × (read_frame_in w j s ≡ ok y)
 unfolding require
 moved old_form i j s x e = frame_moved i j s x e
 moved new_form i j [] x e = no_ok (Broken (at_place i)) x e

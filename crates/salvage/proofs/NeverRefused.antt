@@ -36,7 +36,8 @@ from_reads w i sum (l ∷ ls) h =
   where
     on : (b : Bool) → keeps_limits w i sum (length (standing w l)) ≡ b → Good w (record { chars = standing w l; ended = true })
         → From w (suc i) (sum + length (standing w l)) (salvage_from w (suc i) (sum + length (standing w l)) ls)
-        → From w i sum (cond b (in_front (standing w l) (told i (by_itself w l)) (salvage_from w (suc i) (sum + length (standing w l)) ls)) (left_off i))
+        → From w i sum (cond b (in_front (standing w l) (told i (by_itself w l)) (salvage_from w (suc i) (sum + length (standing w l)) ls))
+        (left_off i))
     on true k g below =
         let rest : List ℕ = (salvage_from w (suc i) (sum + length (standing w l)) ls).listing in
         let s = in_front_lem w i sum (record { chars = standing w l; ended = true }) g k (lines_of rest) below.program below.reads in

@@ -35,7 +35,8 @@ module _ (text listing report : List ℕ) where
       → Accepted text e listing report listing' report'
   on_acceptance e listing' report' h a = on answer refl a
     where
-      on : (j : Judged Salvaged) → answer ≡ j → Leaves j (Done e) listing report listing' report' → Accepted text e listing report listing' report'
+      on : (j : Judged Salvaged) → answer ≡ j → Leaves j (Done e) listing report listing' report' → Accepted text e listing report listing'
+          report'
       on (ok x) z a =
           let is : salvaged text ≡ x = done_is x z in
           let l : List ℕ = x.listing in

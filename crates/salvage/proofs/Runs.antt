@@ -81,7 +81,11 @@ runs =
     -- the new form: a frame without its source line, and an unended one
     saves "7D02\n0143\n010000000743" "7D02 040000000030313433 0400000000303130303030303030373433" "7B010000 7B010001" ∷
     -- an expression of 33 bytes is 2
-    after old_form 0 0 (record { chars = chars "0100202020202020202020202020202020202020202020202020202020202020202000"; ended = true } ∷ []) 1 143 "7B020000" ∷
+    after old_form 0 0 (
+    record {
+      chars = chars "0100202020202020202020202020202020202020202020202020202020202020202000";
+      ended = true;
+    } ∷ []) 1 143 "7B020000" ∷
     -- 118, 119 and 120 characters of a bad line, unended and ended; 240 characters are judged, 241 are 2; of the new form 248 and 249
     after old_form 0 0 (line 118 false ∷ []) 1 239 "7B010000" ∷
     after old_form 0 0 (line 119 false ∷ []) 1 241 "7B010000" ∷

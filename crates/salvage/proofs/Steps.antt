@@ -92,7 +92,8 @@ module _ (w : ListingForm) (text : List ℕ) (q i sum : ℕ) (r : Turn) (some : 
       (omega (arith, some_end rest there), omega (arith, end_rest rest, length-drop q text))
 
   -- the line itself, as a part of the text
-  pub line_there : OneLine (take (q + r.end - q) (drop q text)) × (first_line (take (q + r.end - q) (drop q text)) ≡ first_line (drop q text))
+  pub line_there : OneLine (take (q + r.end - q) (drop q text)) × (first_line (take (q + r.end - q) (drop q text)) ≡ first_line
+      (drop q text))
   line_there = taken_at rest (q + r.end - q) (omega (arith, t.ends)) there
 
   goes_on : lines_of (after_line rest) ≡ lines_of (drop (q + r.end) text)

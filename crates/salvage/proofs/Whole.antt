@@ -91,11 +91,13 @@ module _ (text listing report : List ℕ) where
 
   pub no_listing_room : (n : ℕ) → n ≡ (salvaged text).count → length listing < length (salvaged text).listing
       → Leaves answer (Refused (Room n)) listing report listing report
-  no_listing_room n z h = refused n z (short_room (first_false listing_fits report_fits (lt-leb (length (salvaged text).listing) (length listing) h)))
+  no_listing_room n z h = refused n z
+      (short_room (first_false listing_fits report_fits (lt-leb (length (salvaged text).listing) (length listing) h)))
 
   pub no_report_room : (n : ℕ) → n ≡ (salvaged text).count → length report < length (salvaged text).report
       → Leaves answer (Refused (Room n)) listing report listing report
-  no_report_room n z h = refused n z (short_room (second_false listing_fits report_fits (lt-leb (length (salvaged text).report) (length report) h)))
+  no_report_room n z h = refused n z
+      (short_room (second_false listing_fits report_fits (lt-leb (length (salvaged text).report) (length report) h)))
 
   enough : length (salvaged text).listing ≤ length listing → length (salvaged text).report ≤ length report → answer ≡ ok (salvaged text)
   unfolding salvage require

@@ -157,10 +157,16 @@ returns c =
     let e = c.new_form-marked.ensures.0 in
     let n = c.mark_length-start.result in
     let x = from_on (form_of b) text n 0 0 in
-    let is : x ≡ from_on (form_of b) text (mark_length b) 0 0 = ap (λ (k : ℕ). from_on (form_of b) text k 0 0) c.mark_length-start.ensures in
+    let is : x ≡ from_on (form_of b) text (mark_length b) 0 0 = ap (λ (k : ℕ). from_on (form_of b) text k 0 0) c.mark_length-start.ensures
+    in
     let g = sized_4 c in
     written text a.listing.now a.report.now
-    (record { statements = c.measure-rest.result.statements; listing = n + c.measure-rest.result.listing; report = c.measure-rest.result.report })
+    (
+    record {
+      statements = c.measure-rest.result.statements;
+      listing = n + c.measure-rest.result.listing;
+      report = c.measure-rest.result.report;
+    })
     c.write_from.new.listing c.write_from.new.report
     (omega (arith, c.if-listing-chars.false, g.1)) (omega (arith, c.if-report-told.false, g.2))
     (extent_is (salvaged text) c.measure-rest.result.statements (n + c.measure-rest.result.listing) c.measure-rest.result.report

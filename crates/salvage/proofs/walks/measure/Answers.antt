@@ -37,9 +37,6 @@ module _ (a : goal.Then-not-keeps_limits) where
   found : TurnOf w (drop q text) a.take_turn-t.result
   found = subst (λ (x : List ℕ). TurnOf w x a.take_turn-t.result) (rest_is q text) a.take_turn-t.ensures
 
-  ends : (1 ≤ a.take_turn-t.result.end) × (q + a.take_turn-t.result.end ≤ length text)
-  ends = end_there w text q i sum a.take_turn-t.result some found
-
   -- it is left off
   left : keeps_limits w i sum a.take_turn-t.result.length ≡ false → from_on w text q i sum ≡ left_off i
   left = turn_left w text q i sum a.take_turn-t.result some found
@@ -70,10 +67,6 @@ module _ (a : goal.After-struct_known-1) where
   ends_2 : (1 ≤ a.take_turn-t.result.end) × (q_2 + a.take_turn-t.result.end ≤ length text_2)
   ends_2 = end_there w_2 text_2 q_2 i_2 sum_2 a.take_turn-t.result some_2 found_2
 
-  -- it is left off
-  left_2 : keeps_limits w_2 i_2 sum_2 a.take_turn-t.result.length ≡ false → from_on w_2 text_2 q_2 i_2 sum_2 ≡ left_off i_2
-  left_2 = turn_left w_2 text_2 q_2 i_2 sum_2 a.take_turn-t.result some_2 found_2
-
 -- the first line of what is left
 module _ (a : goal.After-told_length-told) where
   abbrev text_3 : List ℕ
@@ -99,10 +92,6 @@ module _ (a : goal.After-told_length-told) where
 
   ends_3 : (1 ≤ a.take_turn-t.result.end) × (q_3 + a.take_turn-t.result.end ≤ length text_3)
   ends_3 = end_there w_3 text_3 q_3 i_3 sum_3 a.take_turn-t.result some_3 found_3
-
-  -- it is left off
-  left_3 : keeps_limits w_3 i_3 sum_3 a.take_turn-t.result.length ≡ false → from_on w_3 text_3 q_3 i_3 sum_3 ≡ left_off i_3
-  left_3 = turn_left w_3 text_3 q_3 i_3 sum_3 a.take_turn-t.result some_3 found_3
 
 pub returns-then-not-keeps_limits : goal.returns-then-not-keeps_limits
 returns-then-not-keeps_limits c =

@@ -41,28 +41,9 @@ module _ (a : goal.After-put_left-arg-1) where
   found : TurnOf w (drop q text) a.take_turn-t.result
   found = subst (λ (x : List ℕ). TurnOf w x a.take_turn-t.result) (rest_is q text) a.take_turn-t.ensures
 
-  ends : (1 ≤ a.take_turn-t.result.end) × (q + a.take_turn-t.result.end ≤ length text)
-  ends = end_there w text q i sum a.take_turn-t.result some found
-
   -- it is left off
   left : keeps_limits w i sum a.take_turn-t.result.length ≡ false → from_on w text q i sum ≡ left_off i
   left = turn_left w text q i sum a.take_turn-t.result some found
-
-  -- or it comes out, and this is left
-  abbrev next : Salvaged
-  next = from_on w text (q + a.take_turn-t.result.end) (i + 1) (sum + a.take_turn-t.result.length)
-
-  counts : keeps_limits w i sum a.take_turn-t.result.length ≡ true
-      → ((from_on w text q i sum).count ≡ suc next.count)
-      × (length (from_on w text q i sum).listing ≡ a.take_turn-t.result.length + 1 + length next.listing)
-      × (length (from_on w text q i sum).report ≡ told_length a.take_turn-t.result.number + length next.report)
-  counts = counted w text q i sum a.take_turn-t.result some found
-
-  abbrev line : List ℕ
-  line = take (q + a.take_turn-t.result.end - q) (drop q text)
-
-  one : OneLine line × (first_line line ≡ first_line (drop q text))
-  one = line_there w text q i sum a.take_turn-t.result some found
 
 -- the first line of what is left
 module _ (a : goal.After-slice_known-then-not-keeps_limits-1) where
@@ -87,28 +68,9 @@ module _ (a : goal.After-slice_known-then-not-keeps_limits-1) where
   found_2 : TurnOf w_2 (drop q_2 text_2) a.take_turn-t.result
   found_2 = subst (λ (x : List ℕ). TurnOf w_2 x a.take_turn-t.result) (rest_is q_2 text_2) a.take_turn-t.ensures
 
-  ends_2 : (1 ≤ a.take_turn-t.result.end) × (q_2 + a.take_turn-t.result.end ≤ length text_2)
-  ends_2 = end_there w_2 text_2 q_2 i_2 sum_2 a.take_turn-t.result some_2 found_2
-
   -- it is left off
   left_2 : keeps_limits w_2 i_2 sum_2 a.take_turn-t.result.length ≡ false → from_on w_2 text_2 q_2 i_2 sum_2 ≡ left_off i_2
   left_2 = turn_left w_2 text_2 q_2 i_2 sum_2 a.take_turn-t.result some_2 found_2
-
-  -- or it comes out, and this is left
-  abbrev next_2 : Salvaged
-  next_2 = from_on w_2 text_2 (q_2 + a.take_turn-t.result.end) (i_2 + 1) (sum_2 + a.take_turn-t.result.length)
-
-  counts_2 : keeps_limits w_2 i_2 sum_2 a.take_turn-t.result.length ≡ true
-      → ((from_on w_2 text_2 q_2 i_2 sum_2).count ≡ suc next_2.count)
-      × (length (from_on w_2 text_2 q_2 i_2 sum_2).listing ≡ a.take_turn-t.result.length + 1 + length next_2.listing)
-      × (length (from_on w_2 text_2 q_2 i_2 sum_2).report ≡ told_length a.take_turn-t.result.number + length next_2.report)
-  counts_2 = counted w_2 text_2 q_2 i_2 sum_2 a.take_turn-t.result some_2 found_2
-
-  abbrev line_2 : List ℕ
-  line_2 = take (q_2 + a.take_turn-t.result.end - q_2) (drop q_2 text_2)
-
-  one_2 : OneLine line_2 × (first_line line_2 ≡ first_line (drop q_2 text_2))
-  one_2 = line_there w_2 text_2 q_2 i_2 sum_2 a.take_turn-t.result some_2 found_2
 
 -- the first line of what is left
 module _ (a : goal.After-struct_known-1) where
@@ -136,26 +98,6 @@ module _ (a : goal.After-struct_known-1) where
   ends_3 : (1 ≤ a.take_turn-t.result.end) × (q_3 + a.take_turn-t.result.end ≤ length text_3)
   ends_3 = end_there w_3 text_3 q_3 i_3 sum_3 a.take_turn-t.result some_3 found_3
 
-  -- it is left off
-  left_3 : keeps_limits w_3 i_3 sum_3 a.take_turn-t.result.length ≡ false → from_on w_3 text_3 q_3 i_3 sum_3 ≡ left_off i_3
-  left_3 = turn_left w_3 text_3 q_3 i_3 sum_3 a.take_turn-t.result some_3 found_3
-
-  -- or it comes out, and this is left
-  abbrev next_3 : Salvaged
-  next_3 = from_on w_3 text_3 (q_3 + a.take_turn-t.result.end) (i_3 + 1) (sum_3 + a.take_turn-t.result.length)
-
-  counts_3 : keeps_limits w_3 i_3 sum_3 a.take_turn-t.result.length ≡ true
-      → ((from_on w_3 text_3 q_3 i_3 sum_3).count ≡ suc next_3.count)
-      × (length (from_on w_3 text_3 q_3 i_3 sum_3).listing ≡ a.take_turn-t.result.length + 1 + length next_3.listing)
-      × (length (from_on w_3 text_3 q_3 i_3 sum_3).report ≡ told_length a.take_turn-t.result.number + length next_3.report)
-  counts_3 = counted w_3 text_3 q_3 i_3 sum_3 a.take_turn-t.result some_3 found_3
-
-  abbrev line_3 : List ℕ
-  line_3 = take (q_3 + a.take_turn-t.result.end - q_3) (drop q_3 text_3)
-
-  one_3 : OneLine line_3 × (first_line line_3 ≡ first_line (drop q_3 text_3))
-  one_3 = line_there w_3 text_3 q_3 i_3 sum_3 a.take_turn-t.result some_3 found_3
-
 -- the first line of what is left
 module _ (a : goal.After-put_standing-arg-in-loop-q-1) where
   abbrev text_4 : List ℕ
@@ -178,13 +120,6 @@ module _ (a : goal.After-put_standing-arg-in-loop-q-1) where
 
   found_4 : TurnOf w_4 (drop q_4 text_4) a.take_turn-t.result
   found_4 = subst (λ (x : List ℕ). TurnOf w_4 x a.take_turn-t.result) (rest_is q_4 text_4) a.take_turn-t.ensures
-
-  ends_4 : (1 ≤ a.take_turn-t.result.end) × (q_4 + a.take_turn-t.result.end ≤ length text_4)
-  ends_4 = end_there w_4 text_4 q_4 i_4 sum_4 a.take_turn-t.result some_4 found_4
-
-  -- it is left off
-  left_4 : keeps_limits w_4 i_4 sum_4 a.take_turn-t.result.length ≡ false → from_on w_4 text_4 q_4 i_4 sum_4 ≡ left_off i_4
-  left_4 = turn_left w_4 text_4 q_4 i_4 sum_4 a.take_turn-t.result some_4 found_4
 
   -- or it comes out, and this is left
   abbrev next_4 : Salvaged
@@ -225,13 +160,6 @@ module _ (a : goal.After-put_told-arg-1) where
   found_5 : TurnOf w_5 (drop q_5 text_5) a.take_turn-t.result
   found_5 = subst (λ (x : List ℕ). TurnOf w_5 x a.take_turn-t.result) (rest_is q_5 text_5) a.take_turn-t.ensures
 
-  ends_5 : (1 ≤ a.take_turn-t.result.end) × (q_5 + a.take_turn-t.result.end ≤ length text_5)
-  ends_5 = end_there w_5 text_5 q_5 i_5 sum_5 a.take_turn-t.result some_5 found_5
-
-  -- it is left off
-  left_5 : keeps_limits w_5 i_5 sum_5 a.take_turn-t.result.length ≡ false → from_on w_5 text_5 q_5 i_5 sum_5 ≡ left_off i_5
-  left_5 = turn_left w_5 text_5 q_5 i_5 sum_5 a.take_turn-t.result some_5 found_5
-
   -- or it comes out, and this is left
   abbrev next_5 : Salvaged
   next_5 = from_on w_5 text_5 (q_5 + a.take_turn-t.result.end) (i_5 + 1) (sum_5 + a.take_turn-t.result.length)
@@ -241,12 +169,6 @@ module _ (a : goal.After-put_told-arg-1) where
       × (length (from_on w_5 text_5 q_5 i_5 sum_5).listing ≡ a.take_turn-t.result.length + 1 + length next_5.listing)
       × (length (from_on w_5 text_5 q_5 i_5 sum_5).report ≡ told_length a.take_turn-t.result.number + length next_5.report)
   counts_5 = counted w_5 text_5 q_5 i_5 sum_5 a.take_turn-t.result some_5 found_5
-
-  abbrev line_5 : List ℕ
-  line_5 = take (q_5 + a.take_turn-t.result.end - q_5) (drop q_5 text_5)
-
-  one_5 : OneLine line_5 × (first_line line_5 ≡ first_line (drop q_5 text_5))
-  one_5 = line_there w_5 text_5 q_5 i_5 sum_5 a.take_turn-t.result some_5 found_5
 
 -- the first line of what is left
 module _ (a : goal.After-struct_known-in-loop-q-2-1) where
@@ -273,10 +195,6 @@ module _ (a : goal.After-struct_known-in-loop-q-2-1) where
 
   ends_6 : (1 ≤ a.take_turn-t.result.end) × (q_6 + a.take_turn-t.result.end ≤ length text_6)
   ends_6 = end_there w_6 text_6 q_6 i_6 sum_6 a.take_turn-t.result some_6 found_6
-
-  -- it is left off
-  left_6 : keeps_limits w_6 i_6 sum_6 a.take_turn-t.result.length ≡ false → from_on w_6 text_6 q_6 i_6 sum_6 ≡ left_off i_6
-  left_6 = turn_left w_6 text_6 q_6 i_6 sum_6 a.take_turn-t.result some_6 found_6
 
   -- or it comes out, and this is left
   abbrev next_6 : Salvaged
@@ -321,7 +239,14 @@ put_standing-requires c =
     let n = counts_4 c (sym c.keeps_limits.ensures ∙ c.if-not-keeps_limits.false) in (
       (one_4 c).0,
       subst (λ (x : Line). Numbered (by_itself (w_4 c) x) r.number) (sym (one_4 c).1) (found_4 c).number_is,
-      omega (arith, c.loop-q.invariant.5, c.loop-q.invariant.3, (found_4 c).length_is, ap (λ (x : Line). length (standing (w_4 c) x)) (one_4 c).1),
+      omega (
+        arith,
+        c.loop-q.invariant.5,
+        c.loop-q.invariant.3,
+        (found_4 c).length_is,
+        ap (λ (x : Line). length (standing (w_4 c) x))
+            (one_4 c).1,
+      ),
     )
 
 pub put_told-told-requires : goal.put_told-told-requires
@@ -353,12 +278,14 @@ loop-q-preserved c =
           (c.put_standing.ensures ∙ ap (λ (x : Line). laid c.loop-q.listing c.loop-q.at (standing (w_6 c) x ++ (10 ∷ []))) (one_6 c).1)
           ∙ laid_more c.loop-q.listing (line_6 ++ (10 ∷ [])) (next_6 c).listing c.loop-q.at (c.loop-q.at + (r.length + 1)) (omega arith)
           (omega (arith, c.loop-q.invariant.5, c.loop-q.invariant.3))
-          ∙ ap (laid c.loop-q.listing c.loop-q.at) (sym (listing_more (w_6 c) (text_6 c) (q_6 c) (i_6 c) (sum_6 c) r (some_6 c) (found_6 c) h))
+          ∙ ap (laid c.loop-q.listing c.loop-q.at) (sym (listing_more (w_6 c) (text_6 c) (q_6 c) (i_6 c) (sum_6 c) r (some_6 c) (found_6 c)
+          h))
           ∙ c.loop-q.invariant.7,
       ap₂ (λ (o : List ℕ) (e : ℕ). laid o e (next_6 c).report) told.0 told.1
           ∙ laid_more c.loop-q.report (told_of r.number (i_6 c)) (next_6 c).report c.loop-q.told (c.loop-q.told + told_length r.number)
           (omega (arith, length_told r.number (i_6 c))) (omega (arith, c.loop-q.invariant.6, c.loop-q.invariant.4))
-          ∙ ap (laid c.loop-q.report c.loop-q.told) (sym (report_more (w_6 c) (text_6 c) (q_6 c) (i_6 c) (sum_6 c) r (some_6 c) (found_6 c) h))
+          ∙ ap (laid c.loop-q.report c.loop-q.told) (sym (report_more (w_6 c) (text_6 c) (q_6 c) (i_6 c) (sum_6 c) r (some_6 c) (found_6 c)
+          h))
           ∙ c.loop-q.invariant.8,
     )
 
