@@ -1,5 +1,5 @@
 -- The room that is never short: 86,016 bytes for a text of C-16, 79,872 for one of the old form. 12 is not given there.
-use mathlib.Core.Path.{◌≡◌, ap, ◌∙◌}
+use mathlib.Core.Path.{◌≡◌, ◌∙◌}
 use mathlib.Core.List.{List, [], ◌∷◌}
 use Prim.Native.Nat.{ℕ, suc, ◌+◌, ◌*◌, ◌≤◌}
 use native.Mathlib.Omega.{arith}
@@ -12,7 +12,7 @@ use Rattle.promises.specs.Room.{frame_bytes}
 use Rattle.promises.proofs.Sounds.{SoundStmt}
 use Rattle.promises.proofs.Listings.{line_room, read_made, read_limits}
 use Rattle.text.proofs.Lengths.{Numbered, line_by_frame}
-use Rattle.readable.specs.Readable.{line_of, text_of, within, readable}
+use Rattle.readable.specs.Readable.{line_of, text_of, readable}
 use Rattle.readable.specs.Promise.{enough}
 use Rattle.readable.proofs.Turns.{length_line}
 use Rattle.readable.proofs.Judged.{all_fits, read_ok}

@@ -4,7 +4,6 @@ use mathlib.Core.Bool.{Bool, false, ◌&&◌}
 use Prim.Native.Nat.{ℕ}
 use Prim.Native.String.{String}
 use lib.Dec.{T, eqb}
-use lib.ListN.{length}
 use Rattle.laws.specs.Lists.{each, same, every}
 use Rattle.rules.specs.Answers.{Judged, ok, no, require, ◌>>=◌}
 use Rattle.rules.specs.Refusals.{fault_of}
