@@ -55,7 +55,8 @@ value_back i s t e v =
         let w : Left (value x.it) x.rest ≡ t = (let q : ok (Left (value x.it) x.rest) ≡ ok t = l in cc) in
         b ∙ ap (λ y. operand_bytes y.it ++ y.rest) w
 
-operand_back : (i : ℕ) (k : Kind) (s : List ℕ) (t : Taken Operand) → take_operand i k s ≡ ok t → AreBytes s → s ≡ operand_bytes t.it ++ t.rest
+operand_back : (i : ℕ) (k : Kind) (s : List ℕ) (t : Taken Operand) → take_operand i k s ≡ ok t → AreBytes s → s ≡ operand_bytes t.it
+    ++ t.rest
 operand_back i Reg s t e v = register_back i s t e
 operand_back i I8 s t e v = value_back i s t e v
 operand_back i D9 s t e v = value_back i s t e v
@@ -82,13 +83,15 @@ operands_back i (k ∷ ks) s t e v =
     on h.0 (operand_back i k s h.0 h.1 v) h.2 (operands_back i ks)
   where
     on : (x : Taken Operand) → s ≡ operand_bytes x.it ++ x.rest → take_operands i ks x.rest >>= (λ xs. taken (x.it ∷ xs.it) xs.rest) ≡ ok t
-        → ((r : List ℕ) (u : Taken (List Operand)) → take_operands i ks r ≡ ok u → AreBytes r → r ≡ each (λ y. operand_bytes y) u.it ++ u.rest)
+        → ((r : List ℕ) (u : Taken (List Operand)) → take_operands i ks r ≡ ok u → AreBytes r → r ≡ each (λ y. operand_bytes y) u.it
+        ++ u.rest)
         → s ≡ each (λ y. operand_bytes y) t.it ++ t.rest
     on x b l below =
         let h = then_ok (take_operands i ks x.rest) (λ xs. taken (x.it ∷ xs.it) xs.rest) t l in
         more_back (λ y. operand_bytes y) s x h.0 t b (below x.rest h.0 h.1 (bytes_rest (operand_bytes x.it) x.rest (rw (← b) v))) h.2
 
-exprs_back : (i n : ℕ) (s : List ℕ) (t : Taken (List Expr)) → take_exprs i n s ≡ ok t → AreBytes s → s ≡ each (λ e. bytes_of e) t.it ++ t.rest
+exprs_back : (i n : ℕ) (s : List ℕ) (t : Taken (List Expr)) → take_exprs i n s ≡ ok t → AreBytes s → s ≡ each (λ e. bytes_of e) t.it
+    ++ t.rest
 unfolding take_exprs each
 exprs_back i zero s t e v = let w : Left [] s ≡ t = cc in ap (λ y. each (λ x. bytes_of x) y.it ++ y.rest) w
 exprs_back i (suc n) s t e v =
@@ -156,7 +159,8 @@ pad_back i (a ∷ b ∷ c ∷ s) x e v =
 
 -- the operands of an instruction end where its frame ends
 pub operands_end : (i : ℕ) (s : List ℕ) (x : Stmt) (f : InstrFrame i s x) → AreBytes s → each (λ y. operand_bytes y) f.args ≡ drop 2 s
-operands_end i s x f v = sym (operands_back i (operands_at (get_or s 1 0)) (drop 2 s) (Left f.args []) f.operands (bytes_drop 2 s v) ∙ append-nil _)
+operands_end i s x f v = sym (operands_back i (operands_at (get_or s 1 0)) (drop 2 s) (Left f.args []) f.operands (bytes_drop 2 s v)
+    ∙ append-nil _)
 
 -- two bytes and the rest
 two_and : (s : List ℕ) (a b : ℕ) (r : List ℕ) → 2 ≤ length s → get_or s 0 0 ≡ a → get_or s 1 0 ≡ b → r ≡ drop 2 s → a ∷ b ∷ r ≡ s
@@ -169,7 +173,8 @@ data_back : (k : ℕ) (of : List Expr → Stmt) → ((es : List Expr) → frame_
 data_back k of w i s x f v =
     let rest = exprs_back i (get_or s 1 0) (drop 2 s) (Left f.es []) f.items (bytes_drop 2 s v) ∙ append-nil _ in
     ap frame_of f.is ∙ w f.es
-    ∙ two_and s k (length f.es) (each (λ e. bytes_of e) f.es) f.long f.kind (sym (items_read i s (get_or s 1 0) 2 (Left f.es []) f.items).count) (sym rest)
+    ∙ two_and s k (length f.es) (each (λ e. bytes_of e) f.es) f.long f.kind
+    (sym (items_read i s (get_or s 1 0) 2 (Left f.es []) f.items).count) (sym rest)
 
 pub frame_back : (i : ℕ) (s : List ℕ) (x : Stmt) → read_frame i s ≡ ok x → AreBytes s → frame_of x ≡ s
 unfolding read_frame take_byte ◌>>=◌ frame_of read_label read_org

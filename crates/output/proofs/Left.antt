@@ -38,7 +38,8 @@ module _ (forms : List ℕ) where
       rise : (k : ℕ) → length (kept_to forms k) ≤ length (kept_to forms (suc k))
       rise k =
           let z : length (kept_to forms (suc k)) ≡ length (kept_to forms (k + 1)) = ap (λ m. length (kept_to forms m)) (sym (add-one k)) in
-          ⊎_elim (λ n. omega (arith, counts_one k n)) (λ e. omega (arith, ap length (kept_none k e))) (lt_or_le (get_or forms k 0) gone_form)
+          ⊎_elim (λ n. omega (arith, counts_one k n)) (λ e. omega (arith, ap length (kept_none k e)))
+          (lt_or_le (get_or forms k 0) gone_form)
 
 -- ---- one entry for each statement that comes out
 

@@ -38,7 +38,8 @@ gone_same f (words es) = refl
 gone_same f (pad add m) = refl
 
 -- of two programs one behind the other
-lines_append : (w : ListingForm) (ns : List ℕ) (i : ℕ) (p q : Program) → lines_at w ns i (p ++ q) ≡ lines_at w ns i p ++ lines_at w ns (i + length p) q
+lines_append : (w : ListingForm) (ns : List ℕ) (i : ℕ) (p q : Program) → lines_at w ns i (p ++ q) ≡ lines_at w ns i p ++ lines_at w ns
+    (i + length p) q
 unfolding lines_at
 lines_append w ns i [] q = let z : i + 0 ≡ i = omega arith in rw z
 lines_append w ns i (s ∷ p) q =
@@ -52,7 +53,8 @@ unfolding stems_from
 stems_append i [] q = let z : i + 0 ≡ i = omega arith in rw z
 stems_append i (s ∷ p) q = let z : suc i + length p ≡ i + suc (length p) = omega arith in rw (stems_append (suc i) p q, z) (on (is_gone s))
   where
-    on : (b : Bool) → cond b (stems_from (suc i) p ++ stems_from (i + suc (length p)) q) (i ∷ (stems_from (suc i) p ++ stems_from (i + suc (length p)) q))
+    on : (b : Bool) → cond b (stems_from (suc i) p ++ stems_from (i + suc (length p)) q)
+        (i ∷ (stems_from (suc i) p ++ stems_from (i + suc (length p)) q))
         ≡ cond b (stems_from (suc i) p) (i ∷ stems_from (suc i) p) ++ stems_from (i + suc (length p)) q
     on true = refl
     on false = refl
@@ -65,7 +67,8 @@ pub kept_few : (forms : List ℕ) (n : ℕ) → length (kept_to forms n) ≤ n
 unfolding kept_to each tab
 kept_few forms zero = omega arith
 kept_few forms (suc n) =
-    let e = ap length (ap (kept_to forms) (sym (add-one n)) ∙ kept_more forms n) ∙ length-append (kept_to forms n) (cond (leb gone_form (get_or forms n 0)) [] (n ∷ [])) in
+    let e = ap length (ap (kept_to forms) (sym (add-one n)) ∙ kept_more forms n) ∙ length-append (kept_to forms n)
+    (cond (leb gone_form (get_or forms n 0)) [] (n ∷ [])) in
     omega (arith, e, kept_few forms n, one (leb gone_form (get_or forms n 0)))
   where
     one : (b : Bool) → length (cond b [] (n ∷ [])) ≤ 1
@@ -84,12 +87,14 @@ module _ (t : Slots) where
 
   plain_is : write_back (program_of t) ≡ tab plain t.count
   unfolding write_back
-  plain_is = ap (map (λ s. retarget (plain_target (program_of t)) s)) program_is ∙ map_tab (slot_at t) (λ s. retarget (plain_target (program_of t)) s) t.count
+  plain_is = ap (map (λ s. retarget (plain_target (program_of t)) s)) program_is ∙ map_tab (slot_at t)
+      (λ s. retarget (plain_target (program_of t)) s) t.count
 
   module _ (w : ListingForm) (ns : List ℕ) where
     one_line : (n : ℕ) → lines_at w ns n (plain n ∷ []) ≡ line_at w ns t n
     unfolding lines_at line_in
-    one_line n = append-nil (cond (is_gone (plain n)) [] (line_of (frame_in w (get_or ns n 0) (plain n)))) ∙ rw (gone_same (plain_target (program_of t)) (slot_at t n))
+    one_line n = append-nil (cond (is_gone (plain n)) [] (line_of (frame_in w (get_or ns n 0) (plain n))))
+        ∙ rw (gone_same (plain_target (program_of t)) (slot_at t n))
 
     no_lines : lines_at w ns 0 (tab plain 0) ≡ each (line_at w ns t) (tab (λ i. i) 0)
     unfolding lines_at tab each
@@ -99,8 +104,10 @@ module _ (t : Slots) where
     slot_lines zero = no_lines
     slot_lines (suc n) =
         let z : 0 + length (tab plain n) ≡ n = omega (arith, length_tab plain n) in
-        ap (λ m. lines_at w ns 0 (tab plain m)) (sym (add-one n)) ∙ ap (lines_at w ns 0) (tab_suc plain n) ∙ lines_append w ns 0 (tab plain n) (plain n ∷ [])
-        ∙ rw (z, one_line n, slot_lines n) (sym (each_tab (line_at w ns t) (λ i. i) n)) ∙ ap (λ m. each (line_at w ns t) (tab (λ i. i) m)) (add-one n)
+        ap (λ m. lines_at w ns 0 (tab plain m)) (sym (add-one n)) ∙ ap (lines_at w ns 0) (tab_suc plain n) ∙ lines_append w ns 0
+        (tab plain n) (plain n ∷ [])
+        ∙ rw (z, one_line n, slot_lines n) (sym (each_tab (line_at w ns t) (λ i. i) n)) ∙ ap (λ m. each (line_at w ns t) (tab (λ i. i) m))
+        (add-one n)
 
     pub lines_all : lines_to w ns t t.count ≡ listing_of (record { form = w; lines = ns }) t
     unfolding lines_to listing_of text_of stems
@@ -115,7 +122,8 @@ module _ (t : Slots) where
     pub lines_more : (n : ℕ) → lines_to w ns t (n + 1) ≡ lines_to w ns t n ++ line_at w ns t n
     unfolding lines_to
     lines_more n =
-        ap (λ (l : List ℕ). mark_of w ++ l) (each_tab (line_at w ns t) (λ i. i) n) ∙ sym (append_assoc (mark_of w) (each (line_at w ns t) (tab (λ i. i) n)) (line_at w ns t n))
+        ap (λ (l : List ℕ). mark_of w ++ l) (each_tab (line_at w ns t) (λ i. i) n)
+        ∙ sym (append_assoc (mark_of w) (each (line_at w ns t) (tab (λ i. i) n)) (line_at w ns t n))
 
     pub length_more : (n : ℕ) → length (lines_to w ns t (n + 1)) ≡ length (lines_to w ns t n) + length (line_at w ns t n)
     length_more n = ap length (lines_more n) ∙ length-append (lines_to w ns t n) (line_at w ns t n)
@@ -123,7 +131,8 @@ module _ (t : Slots) where
     pub lines_within : (i : ℕ) → i ≤ t.count → length (lines_to w ns t i) ≤ length (listing_of (record { form = w; lines = ns }) t)
     lines_within i l =
         rw (← lines_all)
-        (rises (λ n. length (lines_to w ns t n)) (λ n. let e : length (lines_to w ns t (suc n)) ≡ length (lines_to w ns t (n + 1)) = ap (λ m. length (lines_to w ns t m)) (sym (add-one n)) in omega (arith, length_more n)) i t.count l)
+        (rises (λ n. length (lines_to w ns t n)) (λ n. let e : length (lines_to w ns t (suc n)) ≡ length (lines_to w ns t (n + 1))
+        = ap (λ m. length (lines_to w ns t m)) (sym (add-one n)) in omega (arith, length_more n)) i t.count l)
 
   -- ---- and its places
 
@@ -147,7 +156,11 @@ module _ (t : Slots) where
   unfolding stems stems_from kept_to each tab
   stems_to h zero l = refl
   stems_to h (suc n) l =
-      ap (λ m. stems (tab (slot_at t) m)) (sym (add-one n)) ∙ stems_more n ∙ rw (stems_to h n (omega arith), gone_form_lem h n (omega arith)) (sym (kept_more t.forms n)) ∙ ap (kept_to t.forms) (add-one n)
+      ap (λ m. stems (tab (slot_at t) m)) (sym (add-one n)) ∙ stems_more n ∙ rw (
+        stems_to h n (omega arith),
+        gone_form_lem h n
+            (omega arith),
+      ) (sym (kept_more t.forms n)) ∙ ap (kept_to t.forms) (add-one n)
 
   pub stems_kept : Held t.frames t.starts t.count → stems (program_of t) ≡ kept_to t.forms t.count
   stems_kept h = ap stems program_is ∙ stems_to h t.count (omega arith)

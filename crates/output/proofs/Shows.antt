@@ -30,7 +30,8 @@ spoken_asked asked s c = ap (λ (b : Bool). cond (has_kind (4 ∷ []) s && not b
 
 spoken_gone : (asked : Settings) (s : Stmt) → asked.comments ≡ false → kind_of s ≡ 4 → spoken asked s ≡ gone
 spoken_gone asked s c k =
-    ap (λ (b : Bool). cond (has_kind (4 ∷ []) s && not b) gone s) c ∙ ap (λ (b : Bool). cond ((b || false) && true) gone s) (eq-eqb 4 (kind_of s) (sym k))
+    ap (λ (b : Bool). cond (has_kind (4 ∷ []) s && not b) gone s) c ∙ ap (λ (b : Bool). cond ((b || false) && true) gone s)
+    (eq-eqb 4 (kind_of s) (sym k))
 
 spoken_kept : (asked : Settings) (s : Stmt) → (kind_of s ≡ 4 → ⊥) → spoken asked s ≡ s
 spoken_kept asked s n = ap (λ (b : Bool). cond ((b || false) && not asked.comments) gone s) (ne_eqb 4 (kind_of s) (λ z. n (sym z)))
@@ -40,13 +41,15 @@ spoken_kept asked s n = ap (λ (b : Bool). cond ((b || false) && not asked.comme
 -- what stands in a slot, by its form
 made : Slots → (i g : ℕ) → Stmt
 made t i g =
-    cond (leb gone_form g) gone (on_instr (written t i) (λ x. instr g (aimed_at t g (get_or t.carry i 0) x.args) (get_or t.carry i 0)) (written t i))
+    cond (leb gone_form g) gone (on_instr (written t i) (λ x. instr g (aimed_at t g (get_or t.carry i 0) x.args) (get_or t.carry i 0))
+    (written t i))
 
 pub slot_same : (t : Slots) (forms : List ℕ) (i : Placeℕ) → get_or forms i 0 ≡ get_or t.forms i 0 → slot_at (formed t forms) i ≡ slot_at t i
 unfolding slot_at target_of made
 slot_same t forms i e = ap (made t i) e
 
-module _ (asked : Settings) (t : Slots) (forms : List ℕ) (i : Placeℕ) (e : get_or forms i 0 ≡ shown_form asked (kind_of (slot_at t i)) (get_or t.forms i 0)) where
+module _ (asked : Settings) (t : Slots) (forms : List ℕ) (i : Placeℕ) (e : get_or forms i 0 ≡ shown_form asked (kind_of (slot_at t i))
+    (get_or t.forms i 0)) where
   -- a form stays if comments are asked for, or none stands there
   form_asked : asked.comments ≡ true → get_or forms i 0 ≡ get_or t.forms i 0
   unfolding shown_form
@@ -63,7 +66,8 @@ module _ (asked : Settings) (t : Slots) (forms : List ℕ) (i : Placeℕ) (e : g
   slot_shown : slot_at (formed t forms) i ≡ spoken asked (slot_at t i)
   slot_shown = on asked.comments refl (eq_or_not (kind_of (slot_at t i)) 4)
     where
-      on : (b : Bool) → asked.comments ≡ b → (kind_of (slot_at t i) ≡ 4) ⊎ (kind_of (slot_at t i) ≡ 4 → ⊥) → slot_at (formed t forms) i ≡ spoken asked (slot_at t i)
+      on : (b : Bool) → asked.comments ≡ b → (kind_of (slot_at t i) ≡ 4) ⊎ (kind_of (slot_at t i) ≡ 4 → ⊥) → slot_at (formed t forms) i
+          ≡ spoken asked (slot_at t i)
       on true c k = slot_same t forms i (form_asked c) ∙ sym (spoken_asked asked (slot_at t i) c)
       on false c (inl k) = slot_gone (formed t forms) i (omega (arith, form_gone c k)) ∙ sym (spoken_gone asked (slot_at t i) c k)
       on false c (inr n) = slot_same t forms i (form_other c n) ∙ sym (spoken_kept asked (slot_at t i) n)
@@ -72,7 +76,8 @@ module _ (asked : Settings) (t : Slots) (forms : List ℕ) (i : Placeℕ) (e : g
   form_left : get_or forms i 0 < gone_form → get_or forms i 0 ≡ get_or t.forms i 0
   form_left g = on asked.comments refl (eq_or_not (kind_of (slot_at t i)) 4)
     where
-      on : (b : Bool) → asked.comments ≡ b → (kind_of (slot_at t i) ≡ 4) ⊎ (kind_of (slot_at t i) ≡ 4 → ⊥) → get_or forms i 0 ≡ get_or t.forms i 0
+      on : (b : Bool) → asked.comments ≡ b → (kind_of (slot_at t i) ≡ 4) ⊎ (kind_of (slot_at t i) ≡ 4 → ⊥) → get_or forms i 0 ≡ get_or
+          t.forms i 0
       on true c k = form_asked c
       on false c (inl k) = absurd (omega (arith, g, form_gone c k))
       on false c (inr n) = form_other c n
@@ -89,7 +94,12 @@ shown_slots asked t forms s e =
         held = s.held;
         forms = λ i l k. rw (kept i l k) (s.forms i l (as_it_was i l k));
         carried = λ i l k u.
-            (let c = s.carried i l (as_it_was i l k) (rw (kept i l k) at u) in record { inside = c.inside; instruction = c.instruction; transfer = c.transfer });
+            (let c = s.carried i l (as_it_was i l k) (rw (kept i l k) at u) in
+            record {
+              inside = c.inside;
+              instruction = c.instruction;
+              transfer = c.transfer;
+            });
         owned = s.owned;
       };
       program = tab_ext (slot_at (formed t forms)) (λ i. spoken asked (slot_at t i)) t.count (λ i l. slot_shown asked t forms i (e i l))
@@ -112,4 +122,5 @@ pub behind_at : (F : ℕ → ℕ) (d l : List ℕ) (i : ℕ) → l ≡ tab F i +
 behind_at F d l i e =
     let z : i + 0 ≡ i = omega arith in
     let same : drop i l ≡ drop i d = front_drop (tab F i) d l i e (length_tab F i) in
-    sym (ap (λ (k : ℕ). get_or l k 0) z) ∙ sym (get_or-drop i l 0 0) ∙ ap (λ (x : List ℕ). get_or x 0 0) same ∙ get_or-drop i d 0 0 ∙ ap (λ (k : ℕ). get_or d k 0) z
+    sym (ap (λ (k : ℕ). get_or l k 0) z) ∙ sym (get_or-drop i l 0 0) ∙ ap (λ (x : List ℕ). get_or x 0 0) same ∙ get_or-drop i d 0 0
+    ∙ ap (λ (k : ℕ). get_or d k 0) z

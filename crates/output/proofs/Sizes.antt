@@ -47,7 +47,8 @@ module _ (frames starts owners offsets positions : List ℕ) (c : ℕ) where
   target_own h = rw (le-ltb (get_or owners c 0) no_owner h)
 
 module _ (t : Slots) (positions : List ℕ) (f c : ℕ) where
-  pub carried_transfer : is_transfer f ≡ true → carried_bytes t positions f c ≡ target_bytes t.frames t.starts t.owners t.offsets positions c
+  pub carried_transfer : is_transfer f ≡ true → carried_bytes t positions f c ≡ target_bytes t.frames t.starts t.owners t.offsets positions
+      c
   unfolding carried_bytes
   carried_transfer e = rw e
 
@@ -70,20 +71,26 @@ length_bytes_in new_form n k x r e =
 
 -- a line by its bytes, at any table that holds the positions
 pub line_size : (w : ListingForm) (n : ℕ) (t : Slots) → Sound t → AreBytes t.frames → (i : ℕ) → i < t.count → 1 ≤ kind_of (slot_at t i)
-    → length (line_in w n (program_of t) (slot_at t i)) ≡ 2 * (length (bytes_at t (tab (position (program_of t)) t.count) i) + line_bytes w) + 1
+    → length (line_in w n (program_of t) (slot_at t i)) ≡ 2 * (length (bytes_at t (tab (position (program_of t)) t.count) i) + line_bytes
+    w) + 1
 line_size w n t h v i l e =
     let positions = tab (position (program_of t)) t.count in
-    let are : (u : ℕ) → u < t.count → get_or positions u 0 ≡ position (program_of t) u = λ u m. get_or_tab (position (program_of t)) t.count u 0 m in
+    let are : (u : ℕ) → u < t.count → get_or positions u 0 ≡ position (program_of t) u = λ u m. get_or_tab (position (program_of t))
+    t.count u 0 m in
     let k = kind_kept_first t h v positions are i l e in
     ap length (line_kept t h v positions are i l w n e) ∙ length_line (bytes_in w n (bytes_at t positions i))
     ∙ ap (λ (m : ℕ). 2 * m + 1) (length_bytes_in w n (kind_of (slot_at t i)) (bytes_at t positions i) k.0 k.1)
 
 -- ---- where an instruction's bytes stand
 
-instr_at : (t : Slots) (h : Held t.frames t.starts t.count) (i : ℕ) → i < t.count → kind_of (written t i) ≡ 1 → InstrAt t.frames t.starts t.count i
+instr_at : (t : Slots) (h : Held t.frames t.starts t.count) (i : ℕ) → i < t.count → kind_of (written t i) ≡ 1 → InstrAt t.frames t.starts
+    t.count i
 instr_at t h i l e =
     let f = frame_is t.frames t.starts t.count h i l in
-    record { inside = l; reads = record { reads = h.reads i l; kind = sym (kind_read i (frame_at t.frames t.starts i) (written t i) f) ∙ e } }
+    record {
+      inside = l;
+      reads = record { reads = h.reads i l; kind = sym (kind_read i (frame_at t.frames t.starts i) (written t i) f) ∙ e };
+    }
 
 pub drawn : (t : Slots) → Sound t → (i : ℕ) → i < t.count → kind_of (slot_at t i) ≡ 1 → Drawn t.frames t.starts t.count t.forms t.carry i
 drawn t h i l e =

@@ -89,14 +89,17 @@ kind_least i s x (of_bytes f) = rw f.is (omega arith)
 kind_least i s x (of_words f) = rw f.is (omega arith)
 kind_least i s x (of_pad f) = rw f.is (omega arith)
 
-pub kept_form : (t : Slots) → Held t.frames t.starts t.count → (i : ℕ) → i < t.count → get_or t.forms i 0 < gone_form → 1 ≤ kind_of (slot_at t i)
-kept_form t h i l n = rw (kind_kept t i n) (kind_least i (frame_at t.frames t.starts i) (written t i) (frame_is t.frames t.starts t.count h i l))
+pub kept_form : (t : Slots) → Held t.frames t.starts t.count → (i : ℕ) → i < t.count → get_or t.forms i 0 < gone_form → 1 ≤ kind_of
+    (slot_at t i)
+kept_form t h i l n = rw (kind_kept t i n) (kind_least i (frame_at t.frames t.starts i) (written t i) (frame_is t.frames t.starts t.count h
+    i l))
 
 -- ---- the bytes by kind
 
 module _ (t : Slots) (positions : List ℕ) (i : ℕ) where
   pub bytes_instr : kind_of (slot_at t i) ≡ 1
-      → bytes_at t positions i ≡ own_bytes (get_or t.forms i 0) (frame_at t.frames t.starts i) ++ carried_bytes t positions (get_or t.forms i 0) (get_or t.carry i 0)
+      → bytes_at t positions i ≡ own_bytes (get_or t.forms i 0) (frame_at t.frames t.starts i) ++ carried_bytes t positions
+      (get_or t.forms i 0) (get_or t.carry i 0)
   unfolding bytes_at
   bytes_instr e = rw e
 
@@ -117,7 +120,8 @@ module _ (t : Slots) (h : Sound t) (v : AreBytes t.frames) where
   -- ---- the target that place c wrote
 
   module _ (positions : List ℕ) (are : (w : ℕ) → w < t.count → get_or positions w 0 ≡ position p w) where
-    target_bytes_lem : (c : ℕ) → WroteTarget t c → operand_bytes (plain_target p (target_of t c)) ≡ target_bytes t.frames t.starts t.owners t.offsets positions c
+    target_bytes_lem : (c : ℕ) → WroteTarget t c → operand_bytes (plain_target p (target_of t c)) ≡ target_bytes t.frames t.starts t.owners
+        t.offsets positions c
     unfolding target_of target_bytes bytes_of
     target_bytes_lem c w = on (ltb (get_or t.owners c 0) no_owner) refl
       where
@@ -127,11 +131,14 @@ module _ (t : Slots) (h : Sound t) (v : AreBytes t.frames) where
             frame_of_lem c (frame c) (written t c) 1 f (sym (kind_read c (frame c) (written t c) f) ∙ w.instruction)
 
         plain : plain_target p (last_of read.args) ≡ last_of read.args
-        plain = plain_last p (frame c) (operands_at (get_or (frame c) 1 0)) 2 read.args (operands_read c (frame c) (operands_at (get_or (frame c) 1 0)) 2 (Left read.args []) read.operands)
+        plain = plain_last p (frame c) (operands_at (get_or (frame c) 1 0)) 2 read.args
+            (operands_read c (frame c) (operands_at (get_or (frame c) 1 0)) 2 (Left read.args []) read.operands)
 
-        on : (b : Bool) → ltb (get_or t.owners c 0) no_owner ≡ b → operand_bytes (plain_target p (target_of t c)) ≡ target_bytes t.frames t.starts t.owners t.offsets positions c
+        on : (b : Bool) → ltb (get_or t.owners c 0) no_owner ≡ b → operand_bytes (plain_target p (target_of t c)) ≡ target_bytes t.frames
+            t.starts t.owners t.offsets positions c
         on true e = rw (e, are (get_or t.owners c 0) (h.owned c w.inside (ltb-true (get_or t.owners c 0) no_owner e)))
-        on false e = rw e (ap (λ s. operand_bytes (plain_target p (last_of (args_of s)))) read.is ∙ ap operand_bytes plain ∙ (target_in c (frame c) (written t c) read (frame_bytes_lem c) w.transfer).target)
+        on false e = rw e (ap (λ s. operand_bytes (plain_target p (last_of (args_of s)))) read.is ∙ ap operand_bytes plain
+            ∙ (target_in c (frame c) (written t c) read (frame_bytes_lem c) w.transfer).target)
 
     -- ---- an instruction: its form, its own operands, and the target that it carries
 
@@ -143,7 +150,8 @@ module _ (t : Slots) (h : Sound t) (v : AreBytes t.frames) where
       from = get_or t.carry i 0
 
       instr_operands : (e : kind_of (slot_at t i) ≡ 1) (f : InstrFrame i (frame i) (written t i))
-          → each (λ x. operand_bytes x) (on_last (plain_target p) (aimed_at t form from f.args)) ≡ take (own_end (frame i) - 2) (drop 2 (frame i)) ++ carried_bytes t positions form from
+          → each (λ x. operand_bytes x) (on_last (plain_target p) (aimed_at t form from f.args)) ≡ take (own_end (frame i) - 2)
+          (drop 2 (frame i)) ++ carried_bytes t positions form from
       unfolding carried_bytes
       instr_operands e f = on (is_transfer form) refl
         where
@@ -152,40 +160,49 @@ module _ (t : Slots) (h : Sound t) (v : AreBytes t.frames) where
 
           on : (b : Bool) → is_transfer form ≡ b
               → each (λ x. operand_bytes x) (on_last (plain_target p) (cond b (on_last (λ old. target_of t from) f.args) f.args))
-              ≡ take (own_end (frame i) - 2) (drop 2 (frame i)) ++ cond b (target_bytes t.frames t.starts t.owners t.offsets positions from) []
+              ≡ take (own_end (frame i) - 2) (drop 2 (frame i)) ++ cond b (target_bytes t.frames t.starts t.owners t.offsets positions
+              from) []
           on true b =
               ap (each (λ x. operand_bytes x)) (last_twice (plain_target p) (λ old. target_of t from) f.args)
-              ∙ (target_in i (frame i) (written t i) f (frame_bytes_lem i) (sym agree ∙ b)).others (λ old. plain_target p (target_of t from))
+              ∙ (target_in i (frame i) (written t i) f (frame_bytes_lem i) (sym agree ∙ b)).others
+              (λ old. plain_target p (target_of t from))
               ∙ ap (λ z. take (own_end (frame i) - 2) (drop 2 (frame i)) ++ z) (target_bytes_lem from (h.carried i l e b))
           on false b =
               let r = operands_read i (frame i) (operands_at (get_or (frame i) 1 0)) 2 (Left f.args []) f.operands in
               let end = own_other (frame i) (sym agree ∙ b) in
-              ap (each (λ x. operand_bytes x)) (last_same (plain_target p) f.args (plain_last p (frame i) (operands_at (get_or (frame i) 1 0)) 2 f.args r))
+              ap (each (λ x. operand_bytes x)) (last_same (plain_target p) f.args
+              (plain_last p (frame i) (operands_at (get_or (frame i) 1 0)) 2 f.args r))
               ∙ operands_end i (frame i) (written t i) f (frame_bytes_lem i)
-              ∙ sym (take_all (own_end (frame i) - 2) (drop 2 (frame i)) (omega (arith, length-drop 2 (frame i)))) ∙ sym (append-nil (take (own_end (frame i) - 2) (drop 2 (frame i))))
+              ∙ sym (take_all (own_end (frame i) - 2) (drop 2 (frame i)) (omega (arith, length-drop 2 (frame i))))
+              ∙ sym (append-nil (take (own_end (frame i) - 2) (drop 2 (frame i))))
 
       instr_bytes : kind_of (slot_at t i) ≡ 1 → frame_of (retarget (plain_target p) (slot_at t i)) ≡ bytes_at t positions i
       unfolding frame_of own_bytes
       instr_bytes e =
           let f = written_frame t h.held i l 0 e in
           let is = slot_instr t i (get_or (frame i) 1 0) f.args i (not_gone t i 0 e) f.is in
-          ap (λ s. frame_of (retarget (plain_target p) s)) is ∙ ap (λ z. 1 ∷ form ∷ z) (instr_operands e f) ∙ sym (bytes_instr t positions i e)
+          ap (λ s. frame_of (retarget (plain_target p) s)) is ∙ ap (λ z. 1 ∷ form ∷ z) (instr_operands e f)
+          ∙ sym (bytes_instr t positions i e)
 
       -- ---- any other statement: its frame
 
-      other_bytes : (k : ℕ) → kind_of (slot_at t i) ≡ suc (suc k) → frame_of (retarget (plain_target p) (slot_at t i)) ≡ bytes_at t positions i
+      other_bytes : (k : ℕ) → kind_of (slot_at t i) ≡ suc (suc k) → frame_of (retarget (plain_target p) (slot_at t i)) ≡ bytes_at t
+          positions i
       other_bytes k e =
           let no : kind_of (slot_at t i) ≡ 1 → ⊥ = λ o. omega arith in
           ap frame_of (other_same (plain_target p) (slot_at t i) no ∙ slot_data t i k e)
-          ∙ frame_back i (frame i) (written t i) (reads_as t.frames t.starts t.count h.held i l) (frame_bytes_lem i) ∙ sym (bytes_other t positions i no)
+          ∙ frame_back i (frame i) (written t i) (reads_as t.frames t.starts t.count h.held i l) (frame_bytes_lem i)
+          ∙ sym (bytes_other t positions i no)
 
       pub frame_kept : 1 ≤ kind_of (slot_at t i) → frame_of (retarget (plain_target p) (slot_at t i)) ≡ bytes_at t positions i
       frame_kept h = ⊎_elim instr_bytes (λ n. other_bytes (kind_of (slot_at t i) - 2) (omega arith)) (eq_or_not (kind_of (slot_at t i)) 1)
 
-      pub line_kept : (w : ListingForm) (n : ℕ) → 1 ≤ kind_of (slot_at t i) → line_in w n p (slot_at t i) ≡ line_of (bytes_in w n (bytes_at t positions i))
+      pub line_kept : (w : ListingForm) (n : ℕ) → 1 ≤ kind_of (slot_at t i) → line_in w n p (slot_at t i) ≡ line_of
+          (bytes_in w n (bytes_at t positions i))
       unfolding line_in
       line_kept w n h =
-          rw (kept_kind (slot_at t i) h) (ap line_of (frame_in_lem w n (retarget (plain_target p) (slot_at t i)) ∙ ap (bytes_in w n) (frame_kept h)))
+          rw (kept_kind (slot_at t i) h) (ap line_of (frame_in_lem w n (retarget (plain_target p) (slot_at t i)) ∙ ap (bytes_in w n)
+          (frame_kept h)))
 
       pub kind_kept_first : 1 ≤ kind_of (slot_at t i) → (r : List ℕ) × (bytes_at t positions i ≡ kind_of (slot_at t i) ∷ r)
       kind_kept_first h = let f = first_kind (plain_target p) (slot_at t i) h in (f.0, sym (frame_kept h) ∙ f.1)

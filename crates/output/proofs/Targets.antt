@@ -1,4 +1,5 @@
--- The operands of a frame with the last one changed: the bytes before it are the frame's own. And the target itself, as it stands in its frame.
+-- The operands of a frame with the last one changed: the bytes before it are the frame's own. And the target itself, as it stands in its
+-- frame.
 -- Assumes nothing.
 use mathlib.Core.Path.{◌≡◌, refl, sym, ap, ◌∙◌}
 use mathlib.Core.List.{List, [], ◌∷◌, ◌++◌, append_assoc, append-nil}
@@ -54,9 +55,13 @@ plain_read p s k a x r = rw r.is (on k)
 rest_read : (s : List ℕ) (k : Kind) (ks : List Kind) (a : ℕ) (x : Operand) (xs : List Operand) → OperandsRead s (k ∷ ks) a (x ∷ xs)
     → OperandsRead s ks (a + width_at s k a) xs
 unfolding argument_at
-rest_read s k ks a x xs r = record { count = (let n : suc (length xs) ≡ suc (length ks) = r.count in omega arith); each = λ j h. r.each (suc j) (omega arith) }
+rest_read s k ks a x xs r = record {
+  count = (let n : suc (length xs) ≡ suc (length ks) = r.count in omega arith);
+  each = λ j h. r.each (suc j) (omega arith);
+}
 
-pub plain_last : (p : Program) (s : List ℕ) (kinds : List Kind) (a : ℕ) (xs : List Operand) → OperandsRead s kinds a xs → plain_target p (last_of xs) ≡ last_of xs
+pub plain_last : (p : Program) (s : List ℕ) (kinds : List Kind) (a : ℕ) (xs : List Operand) → OperandsRead s kinds a xs → plain_target p
+    (last_of xs) ≡ last_of xs
 unfolding argument_at
 plain_last p s kinds a [] r = refl
 plain_last p s [] a (x ∷ xs) r = absurd (let n : suc (length xs) ≡ 0 = r.count in omega arith)
@@ -66,7 +71,8 @@ plain_last p s (k ∷ ks) a (x ∷ y ∷ xs) r = plain_last p s ks (a + width_at
 -- ---- bytes
 
 module _ (s : List ℕ) (v : AreBytes s) where
-  value_bytes_lem : (k : Kind) (a : ℕ) (x : Operand) → OperandRead s k a x → is_reg k ≡ false → operand_at s k (arg_at a) ≡ value (expr_at s (arg_at a))
+  value_bytes_lem : (k : Kind) (a : ℕ) (x : Operand) → OperandRead s k a x → is_reg k ≡ false → operand_at s k (arg_at a)
+      ≡ value (expr_at s (arg_at a))
       → width_at s k a ≡ took_of (read_expr (drop a s)) → operand_bytes x ≡ take (width_at s k a) (drop a s)
   value_bytes_lem k a x r n is width =
       let q = r.reads n in
@@ -103,9 +109,11 @@ module _ (s : List ℕ) (v : AreBytes s) where
         others = λ f. append-nil (operand_bytes (f x));
       }
   last_in k (l ∷ ks) a (x ∷ y ∷ xs) r =
-      more (last_in l ks (a + width_at s k a) (y ∷ xs) (rest_read s k (l ∷ ks) a x (y ∷ xs) r)) (operand_bytes_lem k a x (r.each 0 (omega arith)))
+      more (last_in l ks (a + width_at s k a) (y ∷ xs) (rest_read s k (l ∷ ks) a x (y ∷ xs) r))
+      (operand_bytes_lem k a x (r.each 0 (omega arith)))
     where
-      more : LastIn l ks (a + width_at s k a) (y ∷ xs) → operand_bytes x ≡ take (width_at s k a) (drop a s) → LastIn k (l ∷ ks) a (x ∷ y ∷ xs)
+      more : LastIn l ks (a + width_at s k a) (y ∷ xs) → operand_bytes x ≡ take (width_at s k a) (drop a s) → LastIn k (l ∷ ks) a
+          (x ∷ y ∷ xs)
       more q own =
           record {
             before = width_at s k a + q.before;
@@ -117,7 +125,8 @@ module _ (s : List ℕ) (v : AreBytes s) where
           joined : (f : Operand → Operand) → operand_bytes x ++ each (λ z. operand_bytes z) (on_last f (y ∷ xs))
               ≡ take (width_at s k a + q.before) (drop a s) ++ operand_bytes (f (last_of (y ∷ xs)))
           joined f =
-              ap (λ z. operand_bytes x ++ z) (q.others f) ∙ ap (λ z. z ++ (take q.before (drop (a + width_at s k a) s) ++ operand_bytes (f (last_of (y ∷ xs))))) own
+              ap (λ z. operand_bytes x ++ z) (q.others f) ∙ ap (λ z. z ++ (take q.before (drop (a + width_at s k a) s) ++ operand_bytes
+              (f (last_of (y ∷ xs))))) own
               ∙ rw (take-add (width_at s k a) q.before (drop a s), drop-drop (width_at s k a) a s, append_assoc)
 
 -- ---- a transfer's frame: where its target begins, what stands before it, and the target
@@ -125,7 +134,8 @@ module _ (s : List ℕ) (v : AreBytes s) where
 pub record TargetIn (s : List ℕ) (xs : List Operand) : Type 0 where
   pub inside : own_end s < length s
   pub behind : 2 ≤ own_end s
-  pub others : (f : Operand → Operand) → each (λ x. operand_bytes x) (on_last f xs) ≡ take (own_end s - 2) (drop 2 s) ++ operand_bytes (f (last_of xs))
+  pub others : (f : Operand → Operand) → each (λ x. operand_bytes x) (on_last f xs) ≡ take (own_end s - 2) (drop 2 s) ++ operand_bytes
+      (f (last_of xs))
   pub target : operand_bytes (last_of xs) ≡ drop (own_end s) s
 
 -- a form that ends in an address has operands
@@ -137,7 +147,8 @@ pub transfer_some : (f : ℕ) → is_transfer f ≡ true → 1 ≤ length (opera
 unfolding is_transfer
 transfer_some f e = let o = some_operands (operands_at f) e in rw o.2 (omega arith)
 
-pub own_transfer : (s : List ℕ) → is_transfer (get_or s 1 0) ≡ true → own_end s ≡ argument_at s (operands_at (get_or s 1 0)) 2 (length (operands_at (get_or s 1 0)) - 1)
+pub own_transfer : (s : List ℕ) → is_transfer (get_or s 1 0) ≡ true → own_end s ≡ argument_at s (operands_at (get_or s 1 0)) 2
+    (length (operands_at (get_or s 1 0)) - 1)
 unfolding own_end
 own_transfer s e = rw e
 
@@ -152,15 +163,19 @@ target_in i s x f v e =
     let r = operands_read i s (operands_at (get_or s 1 0)) 2 (Left f.args []) f.operands in
     on o.0 o.1 o.2 (last_in s v o.0 o.1 2 f.args (rw (← o.2) r)) (operands_end i s x f v)
   where
-    on : (k : Kind) (ks : List Kind) → operands_at (get_or s 1 0) ≡ k ∷ ks → LastIn s v k ks 2 f.args → each (λ y. operand_bytes y) f.args ≡ drop 2 s
+    on : (k : Kind) (ks : List Kind) → operands_at (get_or s 1 0) ≡ k ∷ ks → LastIn s v k ks 2 f.args → each (λ y. operand_bytes y) f.args
+        ≡ drop 2 s
         → TargetIn s f.args
     on k ks q l end =
         let n : suc (length ks) - 1 ≡ length ks = omega arith in
-        let at : own_end s ≡ 2 + l.before = own_transfer s e ∙ ap (λ kinds. argument_at s kinds 2 (length kinds - 1)) q ∙ ap (argument_at s (k ∷ ks) 2) n ∙ l.begins in
+        let at : own_end s ≡ 2 + l.before = own_transfer s e ∙ ap (λ kinds. argument_at s kinds 2 (length kinds - 1)) q
+        ∙ ap (argument_at s (k ∷ ks) 2) n ∙ l.begins in
         let less : own_end s - 2 ≡ l.before = omega arith in
-        let size : length (take l.before (drop 2 s)) ≡ l.before = length-take-le l.before (drop 2 s) (omega (arith, l.inside, length-drop 2 s)) in
+        let size : length (take l.before (drop 2 s)) ≡ l.before = length-take-le l.before (drop 2 s)
+        (omega (arith, l.inside, length-drop 2 s)) in
         let same = last_same (λ y. y) f.args refl in
-        let whole : drop 2 s ≡ take l.before (drop 2 s) ++ operand_bytes (last_of f.args) = sym end ∙ ap (each (λ y. operand_bytes y)) (sym same) ∙ l.others (λ y. y) in
+        let whole : drop 2 s ≡ take l.before (drop 2 s) ++ operand_bytes (last_of f.args) = sym end ∙ ap (each (λ y. operand_bytes y))
+        (sym same) ∙ l.others (λ y. y) in
         record {
           inside = omega (arith, l.inside);
           behind = omega arith;
@@ -185,6 +200,9 @@ end_within i s h = on (is_transfer (get_or s 1 0)) refl
     on true e =
         let last = length (operands_at (get_or s 1 0)) - 1 in
         let o = transfer_some (get_or s 1 0) e in
-        let at = own_transfer s e in
-        (omega (arith, argument_after s (operands_at (get_or s 1 0)) 2 last), omega (arith, ((operands_in i s h).each last (omega arith)).inside))
+        let at = own_transfer s e in (
+          omega (arith, argument_after s (operands_at (get_or s 1 0)) 2 last),
+          omega
+              (arith, ((operands_in i s h).each last (omega arith)).inside),
+        )
     on false e = let at = own_other s e in (omega (arith, (instr_in i s h).long), omega arith)

@@ -8,7 +8,8 @@ use Rattle.rules.specs.Output.{line_of, done_line}
 use Rattle.rules.specs.Run.{front}
 use Rattle.output.proofs.last.done_line.Goals as goal
 
-done_bytes : (n m a b c d e : ℕ) → n < 65536 → m ≤ 65536 → a ≡ n / 256 % 256 → b ≡ n % 256 → c ≡ m / 65536 % 256 → d ≡ m / 256 % 256 → e ≡ m % 256
+done_bytes : (n m a b c d e : ℕ) → n < 65536 → m ≤ 65536 → a ≡ n / 256 % 256 → b ≡ n % 256 → c ≡ m / 65536 % 256 → d ≡ m / 256 % 256 → e
+    ≡ m % 256
     → 0x7F ∷ a ∷ b ∷ c ∷ d ∷ e ∷ [] ≡ 0x7F ∷ (pair n ++ (m / 65536 ∷ m / 256 % 256 ∷ m % 256 ∷ []))
 done_bytes n m a b c d e h k p q r t u =
     let x : a ≡ n / 256 = omega arith in

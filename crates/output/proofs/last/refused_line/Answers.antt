@@ -1,4 +1,5 @@
--- `output::last::refused_line` meets its contract: the number, the bytes of the place, the argument's place, and the bits of the number at fault.
+-- `output::last::refused_line` meets its contract: the number, the bytes of the place, the argument's place, and the bits of the number at
+-- fault.
 use mathlib.Core.Path.{◌≡◌, ap, ◌∙◌}
 use mathlib.Core.List.{[], ◌∷◌, ◌++◌}
 use Prim.Native.Nat.{ℕ, ◌/◌, ◌%◌, ◌^◌, ◌<◌}
@@ -12,8 +13,10 @@ use Rattle.rules.specs.Run.{front}
 use Rattle.output.proofs.last.refused_line.Goals as goal
 
 -- n the number, i the place, j the argument's place, k the bits
-refused_bytes : (n i j k a b c d e f g : ℕ) → i < 65536 → j < 256 → k < 2 ^ 32 → a ≡ i / 256 % 256 → b ≡ i % 256 → c ≡ j % 256 → d ≡ k / 16777216 % 256
-    → e ≡ k / 65536 % 256 → f ≡ k / 256 % 256 → g ≡ k % 256 → 0x7E ∷ n ∷ a ∷ b ∷ c ∷ d ∷ e ∷ f ∷ g ∷ [] ≡ 0x7E ∷ n ∷ (pair i ++ (j ∷ four k))
+refused_bytes : (n i j k a b c d e f g : ℕ) → i < 65536 → j < 256 → k < 2 ^ 32 → a ≡ i / 256 % 256 → b ≡ i % 256 → c ≡ j % 256 → d
+    ≡ k / 16777216 % 256
+    → e ≡ k / 65536 % 256 → f ≡ k / 256 % 256 → g ≡ k % 256 → 0x7E ∷ n ∷ a ∷ b ∷ c ∷ d ∷ e ∷ f ∷ g ∷ [] ≡ 0x7E ∷ n
+    ∷ (pair i ++ (j ∷ four k))
 refused_bytes n i j k a b c d e f g h l m p q r t u v w =
     let x : a ≡ i / 256 = omega arith in
     let y : c ≡ j = omega arith in

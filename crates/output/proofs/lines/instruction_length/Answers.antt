@@ -25,7 +25,8 @@ module _ (s : goal.After-target_length) where
   from = get_or (carry_in s.args.state.now) s.args.at.0 0
 
   abbrev over : List ℕ → Slots
-  over offsets = slots s.args.frames.now (starts_in s.args.state.now) s.args.count (forms_in s.args.state.now) (carry_in s.args.state.now) (owners_in s.args.state.now) offsets
+  over offsets = slots s.args.frames.now (starts_in s.args.state.now) s.args.count (forms_in s.args.state.now) (carry_in s.args.state.now)
+      (owners_in s.args.state.now) offsets
 
   most : own_end frame ≤ 28672
   most =
@@ -50,7 +51,8 @@ module _ (s : goal.Else-is_transfer) where
   from_2 = get_or (carry_in s.args.state.now) s.args.at.0 0
 
   abbrev over_2 : List ℕ → Slots
-  over_2 offsets = slots s.args.frames.now (starts_in s.args.state.now) s.args.count (forms_in s.args.state.now) (carry_in s.args.state.now) (owners_in s.args.state.now) offsets
+  over_2 offsets = slots s.args.frames.now (starts_in s.args.state.now) s.args.count (forms_in s.args.state.now)
+      (carry_in s.args.state.now) (owners_in s.args.state.now) offsets
 
   most_2 : own_end frame_2 ≤ 28672
   most_2 =
@@ -61,7 +63,8 @@ module _ (s : goal.Else-is_transfer) where
       )
 
   all_length_2 : (x : List ℕ) → length (own_bytes form_2 frame_2 ++ x) ≡ own_end frame_2 + length x
-  all_length_2 x = length-append (own_bytes form_2 frame_2) x ∙ ap (λ n. n + length x) (length_own form_2 s.args.at.0 frame_2 s.requires.own.reads)
+  all_length_2 x = length-append (own_bytes form_2 frame_2) x ∙ ap (λ n. n + length x) (length_own form_2 s.args.at.0 frame_2
+      s.requires.own.reads)
 
 own_is : (c : goal.After-target_length) → c.own_end-own.result ≡ own_end (frame c)
 own_is c = c.own_end-own.ensures ∙ ap own_end c.frame_at-frame.ensures
@@ -77,8 +80,10 @@ pub returns-then-is_transfer : goal.returns-then-is_transfer
 returns-then-is_transfer c = (
   omega (arith, own_is c, most c, c.target_length.ensures.0),
   λ offsets positions.
-      let carried = carried_transfer (over c offsets) positions (form c) (from c) (sym (ap is_transfer c.form_in.ensures) ∙ sym c.is_transfer.ensures ∙ c.if-is_transfer.true) in
-      let n = c.target_length.ensures.1 offsets positions ∙ ap (λ k. length (target_bytes c.args.frames.now (starts_in c.args.state.now) (owners_in c.args.state.now) offsets positions k)) c.wide-c.ensures in
+      let carried = carried_transfer (over c offsets) positions (form c) (from c) (sym (ap is_transfer c.form_in.ensures)
+      ∙ sym c.is_transfer.ensures ∙ c.if-is_transfer.true) in
+      let n = c.target_length.ensures.1 offsets positions ∙ ap (λ k. length (target_bytes c.args.frames.now (starts_in c.args.state.now)
+      (owners_in c.args.state.now) offsets positions k)) c.wide-c.ensures in
       let m = ap length carried in
       omega (arith, own_is c, all_length c (carried_bytes (over c offsets) positions (form c) (from c))),
 )
@@ -87,7 +92,8 @@ pub returns-else-is_transfer : goal.returns-else-is_transfer
 returns-else-is_transfer c = (
   omega (arith, own_is_2 c, most_2 c),
   λ offsets positions.
-      let carried = carried_other (over_2 c offsets) positions (form_2 c) (from_2 c) (sym (ap is_transfer c.form_in.ensures) ∙ sym c.is_transfer.ensures ∙ c.if-is_transfer.false) in
+      let carried = carried_other (over_2 c offsets) positions (form_2 c) (from_2 c) (sym (ap is_transfer c.form_in.ensures)
+      ∙ sym c.is_transfer.ensures ∙ c.if-is_transfer.false) in
       let m = ap length carried in
       omega (arith, own_is_2 c, all_length_2 c (carried_bytes (over_2 c offsets) positions (form_2 c) (from_2 c))),
 )

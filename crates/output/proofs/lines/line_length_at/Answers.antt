@@ -20,17 +20,12 @@ use Rattle.output.proofs.lines.line_length_at.Goals as goal
 
 -- the tables, the form of the listing and what stands in the slot, whatever the offsets
 module _ (c : goal.In-Form) (offsets : List ℕ) where
-  abbrev form : ListingForm
-  form = form_of c.args.marked
-
   abbrev over : Slots
-  over = slots c.args.frames.now (starts_in c.args.state.now) c.args.count (forms_in c.args.state.now) (carry_in c.args.state.now) (owners_in c.args.state.now) offsets
+  over = slots c.args.frames.now (starts_in c.args.state.now) c.args.count (forms_in c.args.state.now) (carry_in c.args.state.now)
+      (owners_in c.args.state.now) offsets
 
   stands : Stands over c.args.at.0 c.slot_at.result
   stands = c.slot_at.ensures (carry_in c.args.state.now) (owners_in c.args.state.now) offsets
-
-  all_bytes : AreBytes c.args.frames.now
-  all_bytes i = search rules
 
 -- the tables, the form of the listing and what stands in the slot, whatever the offsets
 module _ (c : goal.After-frame_at) (offsets : List ℕ) where
@@ -38,7 +33,8 @@ module _ (c : goal.After-frame_at) (offsets : List ℕ) where
   form_2 = form_of c.args.marked
 
   abbrev over_2 : Slots
-  over_2 = slots c.args.frames.now (starts_in c.args.state.now) c.args.count (forms_in c.args.state.now) (carry_in c.args.state.now) (owners_in c.args.state.now) offsets
+  over_2 = slots c.args.frames.now (starts_in c.args.state.now) c.args.count (forms_in c.args.state.now) (carry_in c.args.state.now)
+      (owners_in c.args.state.now) offsets
 
   stands_2 : Stands over_2 c.args.at.0 c.slot_at.result
   stands_2 = c.slot_at.ensures (carry_in c.args.state.now) (owners_in c.args.state.now) offsets
@@ -52,13 +48,11 @@ module _ (c : goal.In-Gone) (offsets : List ℕ) where
   form_3 = form_of c.args.marked
 
   abbrev over_3 : Slots
-  over_3 = slots c.args.frames.now (starts_in c.args.state.now) c.args.count (forms_in c.args.state.now) (carry_in c.args.state.now) (owners_in c.args.state.now) offsets
+  over_3 = slots c.args.frames.now (starts_in c.args.state.now) c.args.count (forms_in c.args.state.now) (carry_in c.args.state.now)
+      (owners_in c.args.state.now) offsets
 
   stands_3 : Stands over_3 c.args.at.0 c.slot_at.result
   stands_3 = c.slot_at.ensures (carry_in c.args.state.now) (owners_in c.args.state.now) offsets
-
-  all_bytes_3 : AreBytes c.args.frames.now
-  all_bytes_3 i = search rules
 
 -- the tables, the form of the listing and what stands in the slot, whatever the offsets
 module _ (c : goal.After-instruction_length) (offsets : List ℕ) where
@@ -66,7 +60,8 @@ module _ (c : goal.After-instruction_length) (offsets : List ℕ) where
   form_4 = form_of c.args.marked
 
   abbrev over_4 : Slots
-  over_4 = slots c.args.frames.now (starts_in c.args.state.now) c.args.count (forms_in c.args.state.now) (carry_in c.args.state.now) (owners_in c.args.state.now) offsets
+  over_4 = slots c.args.frames.now (starts_in c.args.state.now) c.args.count (forms_in c.args.state.now) (carry_in c.args.state.now)
+      (owners_in c.args.state.now) offsets
 
   stands_4 : Stands over_4 c.args.at.0 c.slot_at.result
   stands_4 = c.slot_at.ensures (carry_in c.args.state.now) (owners_in c.args.state.now) offsets
@@ -88,7 +83,12 @@ one_2 c offsets = (stands_4 c offsets).kind ∙ ap kind_in c.in-Form.is
 module _ (c : goal.After-frame_at) where
   most : length c.frame_at.result.now ≤ 28672
   most =
-      omega (arith, ap length c.frame_at.ensures, frame_most c.args.frames.now (starts_in c.args.state.now) c.args.count c.requires.0.1.held c.args.at.0 c.requires.1)
+      omega (
+        arith,
+        ap length c.frame_at.ensures,
+        frame_most c.args.frames.now (starts_in c.args.state.now) c.args.count
+            c.requires.0.1.held c.args.at.0 c.requires.1,
+      )
 
   above : (offsets : List ℕ) → 2 ≤ kind_of (slot_at (over_2 c offsets) c.args.at.0)
   above offsets =
@@ -109,7 +109,8 @@ pub returns-in-Gone : goal.returns-in-Gone
 returns-in-Gone c = (
   omega arith,
   λ lines offsets sound.
-      sym (ap length (line_gone (form_3 c offsets) (get_or lines c.args.at.0 0) (program_of (over_3 c offsets)) (slot_at (over_3 c offsets) _) ((stands_3 c offsets).kind ∙ ap kind_in c.in-Gone.is))),
+      sym (ap length (line_gone (form_3 c offsets) (get_or lines c.args.at.0 0) (program_of (over_3 c offsets))
+      (slot_at (over_3 c offsets) _) ((stands_3 c offsets).kind ∙ ap kind_in c.in-Gone.is))),
 )
 
 pub returns-in-Form : goal.returns-in-Form
@@ -120,7 +121,8 @@ returns-in-Form c =
           let t = over_4 c offsets in
           let positions = tab (position (program_of t)) t.count in
           let is = one_2 c offsets in
-          let n = line_size (form_4 c offsets) (get_or lines c.args.at.0 0) t sound (all_bytes_4 c offsets) c.args.at.0 c.requires.1 (omega (arith, is)) in
+          let n = line_size (form_4 c offsets) (get_or lines c.args.at.0 0) t sound (all_bytes_4 c offsets) c.args.at.0 c.requires.1
+          (omega (arith, is)) in
           let m = ap length (bytes_instr t positions c.args.at.0 is) in
           omega (arith, n, m, b.0, c.instruction_length.ensures.1 offsets positions),
     )
@@ -132,7 +134,8 @@ returns-in-Holds c =
       λ lines offsets sound.
           let t = over_2 c offsets in
           let positions = tab (position (program_of t)) t.count in
-          let n = line_size (form_2 c offsets) (get_or lines c.args.at.0 0) t sound (all_bytes_2 c offsets) c.args.at.0 c.requires.1 (omega (arith, above c offsets)) in
+          let n = line_size (form_2 c offsets) (get_or lines c.args.at.0 0) t sound (all_bytes_2 c offsets) c.args.at.0 c.requires.1
+          (omega (arith, above c offsets)) in
           let m = ap length (bytes_other t positions c.args.at.0 (λ e. omega (arith, above c offsets))) in
           omega (arith, n, m, b.0, ap length c.frame_at.ensures),
     )

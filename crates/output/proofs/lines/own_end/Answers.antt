@@ -31,7 +31,9 @@ argument_at-requires c =
 pub returns-then-is_transfer : goal.returns-then-is_transfer
 returns-then-is_transfer c =
     let t = sym c.is_transfer.ensures ∙ c.if-is_transfer.true in
-    c.argument_at.ensures c.args.frame.now c.requires.2 c.requires.0.kind (omega (arith, some_2 c, c.operand_count.ensures)) ∙ ap (λ n. argument_at c.args.frame.now (operands_at (get_or c.args.frame.now 1 0)) 2 (n - 1)) c.operand_count.ensures ∙ sym (own_transfer c.args.frame.now t)
+    c.argument_at.ensures c.args.frame.now c.requires.2 c.requires.0.kind (omega (arith, some_2 c, c.operand_count.ensures))
+    ∙ ap (λ n. argument_at c.args.frame.now (operands_at (get_or c.args.frame.now 1 0)) 2 (n - 1)) c.operand_count.ensures
+    ∙ sym (own_transfer c.args.frame.now t)
 
 pub returns-else-is_transfer : goal.returns-else-is_transfer
 returns-else-is_transfer c =

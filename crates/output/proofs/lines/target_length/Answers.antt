@@ -31,7 +31,8 @@ module _ (c : goal.After-own_end) where
 
 pub returns-then-owner_at-lt-NO_OWNER : goal.returns-then-owner_at-lt-NO_OWNER
 returns-then-owner_at-lt-NO_OWNER c =
-    let low : get_or (owners_in c.args.state.now) c.args.from.0 0 < no_owner = omega (arith, c.owner_at.ensures, c.if-owner_at-lt-NO_OWNER.true) in
+    let low : get_or (owners_in c.args.state.now) c.args.from.0 0 < no_owner
+    = omega (arith, c.owner_at.ensures, c.if-owner_at-lt-NO_OWNER.true) in
     (omega arith, λ offsets positions. sym (ap length (target_inner _ _ _ offsets positions _ low)))
 
 pub overflow_sub-result : goal.overflow_sub-result
@@ -39,7 +40,8 @@ overflow_sub-result c = omega (arith, ends c, within c, ap length c.frame_at-fra
 
 pub returns : goal.returns
 returns c =
-    let high : no_owner ≤ get_or (owners_in c.args.state.now) c.args.from.0 0 = omega (arith, c.owner_at.ensures, c.if-owner_at-lt-NO_OWNER.false) in (
+    let high : no_owner ≤ get_or (owners_in c.args.state.now) c.args.from.0 0
+    = omega (arith, c.owner_at.ensures, c.if-owner_at-lt-NO_OWNER.false) in (
       omega (arith, rest_is c, most c),
       λ offsets positions.
           rest_is c ∙ sym (length-drop (own_end (frame c)) (frame c)) ∙ sym (ap length (target_own _ _ _ offsets positions _ high)),

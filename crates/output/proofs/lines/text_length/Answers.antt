@@ -14,7 +14,8 @@ use Rattle.output.proofs.lines.text_length.Goals as goal
 
 -- the tables at a start
 abbrev over : Start → List ℕ → Slots
-over s offsets = slots s.args.frames.now (starts_in s.args.state.now) s.args.count (forms_in s.args.state.now) (carry_in s.args.state.now) (owners_in s.args.state.now) offsets
+over s offsets = slots s.args.frames.now (starts_in s.args.state.now) s.args.count (forms_in s.args.state.now) (carry_in s.args.state.now)
+    (owners_in s.args.state.now) offsets
 
 pub loop-i-init : goal.loop-i-init
 loop-i-init c =
@@ -26,7 +27,13 @@ loop-i-preserved c =
     let l = c.loop-i in (
       omega arith,
       omega (arith, c.line_length_at-n.ensures.0),
-      λ lines offsets sound. omega (arith, l.invariant.2 lines offsets sound, c.line_length_at-n.ensures.1 lines offsets sound, length_more (over (goal.at.loop-i-preserved c).Start offsets) (form_of c.args.marked) lines l.i),
+      λ lines offsets sound. omega (
+        arith,
+        l.invariant.2 lines offsets sound,
+        c.line_length_at-n.ensures.1 lines offsets sound,
+        length_more
+            (over (goal.at.loop-i-preserved c).Start offsets) (form_of c.args.marked) lines l.i,
+      ),
     )
 
 pub returns : goal.returns
@@ -34,4 +41,5 @@ returns c lines offsets sound =
     let l = c.loop-i in
     let w = form_of c.args.marked in
     let e : l.i ≡ c.args.count = omega arith in
-    l.invariant.2 lines offsets sound ∙ ap (λ k. length (lines_to w lines (over (goal.at.returns c).Start offsets) k)) e ∙ ap length (lines_all (over (goal.at.returns c).Start offsets) w lines)
+    l.invariant.2 lines offsets sound ∙ ap (λ k. length (lines_to w lines (over (goal.at.returns c).Start offsets) k)) e ∙ ap length
+    (lines_all (over (goal.at.returns c).Start offsets) w lines)

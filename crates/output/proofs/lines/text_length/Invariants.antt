@@ -12,7 +12,9 @@ use Rattle.output.proofs.lines.text_length.Given as goal
 abbrev pub invariant-loop-i : goal.invariant-loop-i
 invariant-loop-i l =
     (l.i ≤ l.count) × (l.n ≤ 5 + 114697 * l.i)
-    × ((lines offsets : List ℕ) → Sound (slots l.frames (starts_in l.state) l.count (forms_in l.state) (carry_in l.state) (owners_in l.state) offsets) → l.n ≡ length (lines_to (form_of l.marked) lines (slots l.frames (starts_in l.state) l.count (forms_in l.state) (carry_in l.state) (owners_in l.state) offsets) l.i))
+    × ((lines offsets : List ℕ) → Sound (slots l.frames (starts_in l.state) l.count (forms_in l.state) (carry_in l.state)
+    (owners_in l.state) offsets) → l.n ≡ length (lines_to (form_of l.marked) lines (slots l.frames (starts_in l.state) l.count
+    (forms_in l.state) (carry_in l.state) (owners_in l.state) offsets) l.i))
 
 abbrev pub decreases-loop-i : goal.decreases-loop-i
 decreases-loop-i l = l.count - l.i

@@ -33,7 +33,8 @@ module _ (s : goal.After-put_form-arg-1) where
   -- a row stays as long as it was
   full : (i : ℕ) (forms : List ℕ) → i ≤ s.args.count → forms ≡ tab its i ++ drop i (forms_in before) → length forms ≡ 1025
   full i forms l e =
-      front_length (tab its i) (forms_in before) forms i e (length_tab its i) (omega (arith, l, s.requires.0.held.few, s.requires.1)) ∙ s.requires.1
+      front_length (tab its i) (forms_in before) forms i e (length_tab its i) (omega (arith, l, s.requires.0.held.few, s.requires.1))
+      ∙ s.requires.1
 
 module _ (s : goal.After-put_form) where
   abbrev before_2 : List (List ℕ)
@@ -44,11 +45,6 @@ module _ (s : goal.After-put_form) where
 
   abbrev its_2 : (i : ℕ) → ℕ
   its_2 i = given s.args.asked old_2 i
-
-  -- a row stays as long as it was
-  full_2 : (i : ℕ) (forms : List ℕ) → i ≤ s.args.count → forms ≡ tab its_2 i ++ drop i (forms_in before_2) → length forms ≡ 1025
-  full_2 i forms l e =
-      front_length (tab its_2 i) (forms_in before_2) forms i e (length_tab its_2 i) (omega (arith, l, s.requires.0.held.few, s.requires.1)) ∙ s.requires.1
 
 module _ (s : goal.After-loop-i) where
   abbrev before_3 : List (List ℕ)
@@ -63,7 +59,8 @@ module _ (s : goal.After-loop-i) where
   -- a row stays as long as it was
   full_3 : (i : ℕ) (forms : List ℕ) → i ≤ s.args.count → forms ≡ tab its_3 i ++ drop i (forms_in before_3) → length forms ≡ 1025
   full_3 i forms l e =
-      front_length (tab its_3 i) (forms_in before_3) forms i e (length_tab its_3 i) (omega (arith, l, s.requires.0.held.few, s.requires.1)) ∙ s.requires.1
+      front_length (tab its_3 i) (forms_in before_3) forms i e (length_tab its_3 i) (omega (arith, l, s.requires.0.held.few, s.requires.1))
+      ∙ s.requires.1
 
 -- what stands at place i stands there until its turn
 still : (t : Slots) (starts forms : List ℕ) (i : ℕ) → starts ≡ t.starts → get_or forms i 0 ≡ get_or t.forms i 0
@@ -86,8 +83,10 @@ loop-i-preserved c =
     let same = still (old_2 c) (starts_in l.state) (forms_in l.state) l.i l.invariant.3.starts form in (
       omega arith,
       c.put_form.ensures.forms
-          ∙ tab_more (its_2 c) (forms_in b) (forms_in l.state) l.i _ l.invariant.1 (omega (arith, c.loop-i-test.true, c.requires.0.held.few, c.requires.1))
-          (c.shown_form-shown.ensures (carry_in b) (owners_in b) (offsets_in b) ∙ ap₂ (λ (x : Stmt) (y : ℕ). shown_form c.args.asked (kind_of x) y) same form),
+          ∙ tab_more (its_2 c) (forms_in b) (forms_in l.state) l.i _ l.invariant.1
+          (omega (arith, c.loop-i-test.true, c.requires.0.held.few, c.requires.1))
+          (c.shown_form-shown.ensures (carry_in b) (owners_in b) (offsets_in b) ∙ ap₂ (λ (x : Stmt) (y : ℕ). shown_form c.args.asked
+          (kind_of x) y) same form),
       c.put_form.ensures.carry ∙ l.invariant.2,
       kept_more b l.state _ l.invariant.3 c.put_form.ensures.kept,
     )
@@ -97,7 +96,8 @@ returns c =
     let l = c.loop-i in
     let n = c.args.count in
     let e : l.i ≡ n = omega arith in
-    let filled : forms_in l.state ≡ tab (its_3 c) n ++ drop n (forms_in (before_3 c)) = l.invariant.1 ∙ ap (λ (k : ℕ). tab (its_3 c) k ++ drop k (forms_in (before_3 c))) e in
+    let filled : forms_in l.state ≡ tab (its_3 c) n ++ drop n (forms_in (before_3 c)) = l.invariant.1
+    ∙ ap (λ (k : ℕ). tab (its_3 c) k ++ drop k (forms_in (before_3 c))) e in
     let b = before_3 c in record {
       room = (full_3 c n (forms_in l.state) (omega arith) filled, l.invariant.3.starts);
       shows = (

@@ -21,13 +21,16 @@ use Rattle.output.specs.Showing.{shown_form}
 use Rattle.output.proofs.showing.shown_form.Goals as goal
 
 abbrev over : (s : goal.In_default) → (carry owners offsets : List ℕ) → Slots
-over s carry owners offsets = slots s.args.frames.now (starts_in s.args.state.now) s.args.count (forms_in s.args.state.now) carry owners offsets
+over s carry owners offsets = slots s.args.frames.now (starts_in s.args.state.now) s.args.count (forms_in s.args.state.now) carry owners
+    offsets
 
 abbrev over_2 : (s : goal.In_default-statement) → (carry owners offsets : List ℕ) → Slots
-over_2 s carry owners offsets = slots s.args.frames.now (starts_in s.args.state.now) s.args.count (forms_in s.args.state.now) carry owners offsets
+over_2 s carry owners offsets = slots s.args.frames.now (starts_in s.args.state.now) s.args.count (forms_in s.args.state.now) carry owners
+    offsets
 
 abbrev over_3 : (s : goal.In-Comment) → (carry owners offsets : List ℕ) → Slots
-over_3 s carry owners offsets = slots s.args.frames.now (starts_in s.args.state.now) s.args.count (forms_in s.args.state.now) carry owners offsets
+over_3 s carry owners offsets = slots s.args.frames.now (starts_in s.args.state.now) s.args.count (forms_in s.args.state.now) carry owners
+    offsets
 
 left : (asked : Settings) (k f : ℕ) → asked.comments ≡ false → (k ≡ 4 → ⊥) → shown_form asked k f ≡ f
 unfolding shown_form
@@ -44,7 +47,8 @@ module _ (c : goal.In_default) (carry owners offsets : List ℕ) where
   stands : Stands here place c.slot_at.result
   stands = c.slot_at.ensures carry owners offsets
 
-  stays : (kind_of (slot_at here place) ≡ 4 → ⊥) → c.form_in-form.result ≡ shown_form c.args.asked (kind_of (slot_at here place)) (get_or (forms_in c.args.state.now) place 0)
+  stays : (kind_of (slot_at here place) ≡ 4 → ⊥) → c.form_in-form.result ≡ shown_form c.args.asked (kind_of (slot_at here place))
+      (get_or (forms_in c.args.state.now) place 0)
   stays n = c.form_in-form.ensures ∙ sym (left c.args.asked (kind_of (slot_at here place)) _ c.if-asked.false n)
 
 -- behind the slot: comments are not asked for
@@ -58,7 +62,8 @@ module _ (c : goal.In_default-statement) (carry owners offsets : List ℕ) where
   stands_2 : Stands here_2 place_2 c.slot_at.result
   stands_2 = c.slot_at.ensures carry owners offsets
 
-  stays_2 : (kind_of (slot_at here_2 place_2) ≡ 4 → ⊥) → c.form_in-form.result ≡ shown_form c.args.asked (kind_of (slot_at here_2 place_2)) (get_or (forms_in c.args.state.now) place_2 0)
+  stays_2 : (kind_of (slot_at here_2 place_2) ≡ 4 → ⊥) → c.form_in-form.result ≡ shown_form c.args.asked (kind_of (slot_at here_2 place_2))
+      (get_or (forms_in c.args.state.now) place_2 0)
   stays_2 n = c.form_in-form.ensures ∙ sym (left c.args.asked (kind_of (slot_at here_2 place_2)) _ c.if-asked.false n)
 
 -- behind the slot: comments are not asked for
@@ -71,9 +76,6 @@ module _ (c : goal.In-Comment) (carry owners offsets : List ℕ) where
 
   stands_3 : Stands here_3 place_3 c.slot_at.result
   stands_3 = c.slot_at.ensures carry owners offsets
-
-  stays_3 : (kind_of (slot_at here_3 place_3) ≡ 4 → ⊥) → c.form_in-form.result ≡ shown_form c.args.asked (kind_of (slot_at here_3 place_3)) (get_or (forms_in c.args.state.now) place_3 0)
-  stays_3 n = c.form_in-form.ensures ∙ sym (left c.args.asked (kind_of (slot_at here_3 place_3)) _ c.if-asked.false n)
 
 -- another variant than the comment's
 other : (x : Statement) → OneOf (0 ∷ 1 ∷ 2 ∷ 4 ∷ 5 ∷ 6 ∷ 7 ∷ []) (tag_of the_type x) → kind_for x ≡ 4 → ⊥
@@ -93,12 +95,14 @@ returns-in_default c carry owners offsets =
 
 pub returns-in_default-statement : goal.returns-in_default-statement
 returns-in_default-statement c carry owners offsets =
-    let k = kind_stands (here_2 c carry owners offsets) (place_2 c carry owners offsets) c.slot_at.result (stands_2 c carry owners offsets) _ c.in-Holds.is in
+    let k = kind_stands (here_2 c carry owners offsets) (place_2 c carry owners offsets) c.slot_at.result (stands_2 c carry owners offsets)
+    _ c.in-Holds.is in
     stays_2 c carry owners offsets (λ e. other _ (opened c.in_default-statement.in_default-statement-own.keys2) (sym k ∙ e))
 
 pub returns : goal.returns
 unfolding shown_form
 returns c carry owners offsets =
-    let k = kind_stands (here_3 c carry owners offsets) (place_3 c carry owners offsets) c.slot_at.result (stands_3 c carry owners offsets) _ c.in-Holds.is in
+    let k = kind_stands (here_3 c carry owners offsets) (place_3 c carry owners offsets) c.slot_at.result (stands_3 c carry owners offsets)
+    _ c.in-Holds.is in
     let four : kind_of (slot_at (here_3 c carry owners offsets) (place_3 c carry owners offsets)) ≡ 4 = k ∙ ap kind_for c.in-Comment.is in
     rw (c.if-asked.false, eq-eqb (kind_of (slot_at (here_3 c carry owners offsets) (place_3 c carry owners offsets))) 4 four)

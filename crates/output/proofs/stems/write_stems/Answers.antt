@@ -19,18 +19,19 @@ use Rattle.output.proofs.stems.write_stems.Goals.{then-not-is_gone, else-not-is_
 use Rattle.output.proofs.stems.write_stems.Goals as goal
 
 -- one more entry fits
-module _ (count : ℕ) (forms list : List ℕ) (i n : ℕ) (l : i < count) (e : n ≡ length (kept_to forms i)) (k : get_or forms i 0 < gone_form) where
-  entry_fits : 2 * length (kept_to forms count) ≤ length list → 2 * n + 2 ≤ length list
-  entry_fits h = omega (arith, counts_one forms i k, kept_within forms (i + 1) count (omega arith))
+module _ (count : ℕ) (forms list : List ℕ) (i n : ℕ) (l : i < count) (e : n ≡ length (kept_to forms i)) (k : get_or forms i 0 < gone_form)
+  where
+    entry_fits : 2 * length (kept_to forms count) ≤ length list → 2 * n + 2 ≤ length list
+    entry_fits h = omega (arith, counts_one forms i k, kept_within forms (i + 1) count (omega arith))
 
-  -- and the list with it
-  entry_more : (now after : List ℕ) → 2 * length (kept_to forms count) ≤ length list → now ≡ laid list 0 (list_of (kept_to forms i))
-      → after ≡ laid now (2 * n) (pair i) → after ≡ laid list 0 (list_of (kept_to forms (i + 1)))
-  entry_more now after h q r =
-      let z : 0 + length (list_of (kept_to forms i)) ≡ 2 * n = omega (arith, length_list (kept_to forms i)) in
-      r ∙ ap (λ s. laid s (2 * n) (pair i)) q
-      ∙ laid_more list (list_of (kept_to forms i)) (pair i) 0 (2 * n) z (entry_fits h)
-      ∙ ap (laid list 0) (sym (list_more (kept_to forms i) i) ∙ ap list_of (sym (kept_one forms i k)))
+    -- and the list with it
+    entry_more : (now after : List ℕ) → 2 * length (kept_to forms count) ≤ length list → now ≡ laid list 0 (list_of (kept_to forms i))
+        → after ≡ laid now (2 * n) (pair i) → after ≡ laid list 0 (list_of (kept_to forms (i + 1)))
+    entry_more now after h q r =
+        let z : 0 + length (list_of (kept_to forms i)) ≡ 2 * n = omega (arith, length_list (kept_to forms i)) in
+        r ∙ ap (λ s. laid s (2 * n) (pair i)) q
+        ∙ laid_more list (list_of (kept_to forms i)) (pair i) 0 (2 * n) z (entry_fits h)
+        ∙ ap (laid list 0) (sym (list_more (kept_to forms i) i) ∙ ap list_of (sym (kept_one forms i k)))
 
 pub loop-i-init : goal.loop-i-init
 unfolding kept_to list_of each tab
@@ -44,7 +45,8 @@ overflow_mul-n c =
 pub put_entry-requires : goal.put_entry-requires
 put_entry-requires c =
     let l = c.loop-i in
-    let h = entry_fits c.args.count (forms_in c.args.state.now) c.args.list.now l.i l.n c.loop-i-test.true l.invariant.1 (leb-false _ _ (sym c.is_gone.ensures ∙ c.if-not-is_gone.true)) c.requires.1 in
+    let h = entry_fits c.args.count (forms_in c.args.state.now) c.args.list.now l.i l.n c.loop-i-test.true l.invariant.1
+    (leb-false _ _ (sym c.is_gone.ensures ∙ c.if-not-is_gone.true)) c.requires.1 in
     (omega (arith, h, l.invariant.3), omega (arith, c.requires.0))
 
 pub overflow_add-n : goal.overflow_add-n
@@ -83,6 +85,7 @@ returns c =
     let l = c.loop-i in
     let f = forms_in c.args.state.now in
     let e : l.i ≡ c.args.count = omega arith in (
-      l.invariant.2 ∙ ap (λ k. laid c.args.list.now 0 (list_of (kept_to f k))) e ∙ laid_front c.args.list.now (list_of (kept_to f c.args.count)),
+      l.invariant.2 ∙ ap (λ k. laid c.args.list.now 0 (list_of (kept_to f k))) e ∙ laid_front c.args.list.now
+          (list_of (kept_to f c.args.count)),
       l.invariant.1 ∙ ap (λ k. length (kept_to f k)) e,
     )

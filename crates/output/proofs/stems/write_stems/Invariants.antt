@@ -9,7 +9,8 @@ use Rattle.output.proofs.stems.write_stems.Given as goal
 
 abbrev pub invariant-loop-i : goal.invariant-loop-i
 invariant-loop-i l =
-    (l.i ≤ l.count) × (l.n ≡ length (kept_to (forms_in l.state) l.i)) × (l.list ≡ laid l.initial.list 0 (list_of (kept_to (forms_in l.state) l.i))) × (length l.list ≡ length l.initial.list)
+    (l.i ≤ l.count) × (l.n ≡ length (kept_to (forms_in l.state) l.i))
+    × (l.list ≡ laid l.initial.list 0 (list_of (kept_to (forms_in l.state) l.i))) × (length l.list ≡ length l.initial.list)
 
 abbrev pub decreases-loop-i : goal.decreases-loop-i
 decreases-loop-i l = l.count - l.i

@@ -2,7 +2,7 @@
 use mathlib.Core.Path.{◌≡◌, sym, ap, ◌∙◌, subst}
 use mathlib.Core.Bool.{true}
 use mathlib.Core.List.{List, [], append-nil}
-use Prim.Native.Nat.{ℕ, ◌+◌, ◌*◌, ◌≤◌, ◌<◌}
+use Prim.Native.Nat.{ℕ, ◌+◌, ◌*◌, ◌≤◌}
 use native.Mathlib.Omega.{arith}
 use lib.ListN.{length, get_or, length-append}
 use Rattle.rules.specs.Forms.{is_transfer}
@@ -38,12 +38,6 @@ module _ (s : goal.After-put_own-arg-1) where
   abbrev carried : List ℕ
   carried = carried_bytes over s.args.positions.now form from
 
-  abbrev target_at : ℕ → List ℕ
-  target_at c = target_bytes s.args.frames.now (starts_in s.args.state.now) (owners_in s.args.state.now) (offsets_in s.args.state.now) s.args.positions.now c
-
-  inside : place < 1024
-  inside = omega (arith, s.requires.0.own.inside, s.requires.0.held.few)
-
   own_length : length own ≡ own_end frame
   own_length = length_own form place frame s.requires.0.own.reads
 
@@ -74,13 +68,8 @@ module _ (s : goal.After-put_target-arg-1) where
   carried_2 = carried_bytes over_2 s.args.positions.now form_2 from_2
 
   abbrev target_at_2 : ℕ → List ℕ
-  target_at_2 c = target_bytes s.args.frames.now (starts_in s.args.state.now) (owners_in s.args.state.now) (offsets_in s.args.state.now) s.args.positions.now c
-
-  inside_2 : place_2 < 1024
-  inside_2 = omega (arith, s.requires.0.own.inside, s.requires.0.held.few)
-
-  own_length_2 : length own_2 ≡ own_end frame_2
-  own_length_2 = length_own form_2 place_2 frame_2 s.requires.0.own.reads
+  target_at_2 c = target_bytes s.args.frames.now (starts_in s.args.state.now) (owners_in s.args.state.now) (offsets_in s.args.state.now)
+      s.args.positions.now c
 
   room_2 : s.args.at + 2 * (length own_2 + length carried_2) ≤ length s.args.out.now
   room_2 = omega (arith, s.requires.2, length-append own_2 carried_2)
@@ -109,13 +98,8 @@ module _ (s : goal.After-slice_known-then-is_transfer-1) where
   carried_3 = carried_bytes over_3 s.args.positions.now form_3 from_3
 
   abbrev target_at_3 : ℕ → List ℕ
-  target_at_3 c = target_bytes s.args.frames.now (starts_in s.args.state.now) (owners_in s.args.state.now) (offsets_in s.args.state.now) s.args.positions.now c
-
-  inside_3 : place_3 < 1024
-  inside_3 = omega (arith, s.requires.0.own.inside, s.requires.0.held.few)
-
-  own_length_3 : length own_3 ≡ own_end frame_3
-  own_length_3 = length_own form_3 place_3 frame_3 s.requires.0.own.reads
+  target_at_3 c = target_bytes s.args.frames.now (starts_in s.args.state.now) (owners_in s.args.state.now) (offsets_in s.args.state.now)
+      s.args.positions.now c
 
   room_3 : s.args.at + 2 * (length own_3 + length carried_3) ≤ length s.args.out.now
   room_3 = omega (arith, s.requires.2, length-append own_3 carried_3)
@@ -142,18 +126,6 @@ module _ (s : goal.Else-is_transfer) where
 
   abbrev carried_4 : List ℕ
   carried_4 = carried_bytes over_4 s.args.positions.now form_4 from_4
-
-  abbrev target_at_4 : ℕ → List ℕ
-  target_at_4 c = target_bytes s.args.frames.now (starts_in s.args.state.now) (owners_in s.args.state.now) (offsets_in s.args.state.now) s.args.positions.now c
-
-  inside_4 : place_4 < 1024
-  inside_4 = omega (arith, s.requires.0.own.inside, s.requires.0.held.few)
-
-  own_length_4 : length own_4 ≡ own_end frame_4
-  own_length_4 = length_own form_4 place_4 frame_4 s.requires.0.own.reads
-
-  room_4 : s.args.at + 2 * (length own_4 + length carried_4) ≤ length s.args.out.now
-  room_4 = omega (arith, s.requires.2, length-append own_4 carried_4)
 
 -- the own bytes stand there
 put : (c : goal.After-put_target-arg-1) → Put c.args.out.now c.args.at (own_2 c) c.put_own-end.new.out c.put_own-end.result
@@ -184,7 +156,8 @@ module _ (c : goal.After-slice_known-then-is_transfer-1) where
   transfers_2 = sym (ap is_transfer c.form_in-form.ensures) ∙ sym c.is_transfer.ensures ∙ c.if-is_transfer.true
 
   target_is_2 : target_at_3 c c.wide-c.result ≡ carried_3 c
-  target_is_2 = ap (target_at_3 c) c.wide-c.ensures ∙ sym (carried_transfer (over_3 c) c.args.positions.now (form_3 c) (from_3 c) transfers_2)
+  target_is_2 = ap (target_at_3 c) c.wide-c.ensures ∙ sym (carried_transfer (over_3 c) c.args.positions.now (form_3 c) (from_3 c)
+      transfers_2)
 
 pub put_own-end-requires : goal.put_own-end-requires
 put_own-end-requires c =
@@ -205,11 +178,14 @@ put_target-requires c = (
 
 pub returns-then-is_transfer : goal.returns-then-is_transfer
 returns-then-is_transfer c =
-    let behind : Put c.put_own-end.new.out c.put_own-end.result (carried_3 c) c.put_target.new.out c.put_target.result = rw (← target_is_2 c) c.put_target.ensures in
-    put_more c.args.out.now c.args.at (own_3 c) c.put_own-end.new.out c.put_own-end.result (carried_3 c) c.put_target.new.out c.put_target.result
+    let behind : Put c.put_own-end.new.out c.put_own-end.result (carried_3 c) c.put_target.new.out c.put_target.result
+    = rw (← target_is_2 c) c.put_target.ensures in
+    put_more c.args.out.now c.args.at (own_3 c) c.put_own-end.new.out c.put_own-end.result (carried_3 c) c.put_target.new.out
+    c.put_target.result
     (put_2 c) behind (room_3 c)
 
 pub returns : goal.returns
 returns c =
-    let none : carried_4 c ≡ [] = carried_other (over_4 c) c.args.positions.now (form_4 c) (from_4 c) (sym (ap is_transfer c.form_in-form.ensures) ∙ sym c.is_transfer.ensures ∙ c.if-is_transfer.false) in
+    let none : carried_4 c ≡ [] = carried_other (over_4 c) c.args.positions.now (form_4 c) (from_4 c)
+    (sym (ap is_transfer c.form_in-form.ensures) ∙ sym c.is_transfer.ensures ∙ c.if-is_transfer.false) in
     rw (none, append-nil) (put_3 c)

@@ -37,9 +37,6 @@ module _ (s : goal.Then-is_gone) where
   abbrev over : Slots
   over = table_of s.args.frames.now s.args.state.now s.args.count
 
-  abbrev whole : List ℕ
-  whole = bytes_at over s.args.positions.now place
-
 -- the tables of a start
 module _ (s : goal.After-put_statement-arg-1) where
   abbrev place_2 : ℕ
@@ -62,17 +59,8 @@ module _ (s : goal.After-shared_slice_known-2-1-unread) where
   abbrev place_3 : ℕ
   place_3 = s.args.place.0
 
-  abbrev form_3 : ListingForm
-  form_3 = form_of s.args.marked
-
-  abbrev source_3 : ℕ
-  source_3 = get_or s.args.lines.now place_3 0
-
   abbrev over_3 : Slots
   over_3 = table_of s.args.frames.now s.args.state.now s.args.count
-
-  abbrev whole_3 : List ℕ
-  whole_3 = bytes_at over_3 s.args.positions.now place_3
 
 -- the tables of a start
 module _ (s : goal.After-put_source-arg-2-1) where
@@ -132,17 +120,16 @@ module _ (c : goal.After-put_statement-arg-1) where
 
   line_is : line_at (form_2 c) c.args.lines.now (over_2 c) (place_2 c) ≡ line_of (bytes_in (form_2 c) (source_2 c) (whole_2 c))
   line_is =
-      line_kept (over_2 c) c.requires.0 (λ i. (c.shared_slice_known-1.given i).fits) c.args.positions.now c.requires.1.are (place_2 c) c.requires.2
+      line_kept (over_2 c) c.requires.0 (λ i. (c.shared_slice_known-1.given i).fits) c.args.positions.now c.requires.1.are (place_2 c)
+      c.requires.2
       (form_2 c) (source_2 c) kept
 
   first : (r : List ℕ) × (whole_2 c ≡ kind_of (slot_at (over_2 c) (place_2 c)) ∷ r)
-  first = kind_kept_first (over_2 c) c.requires.0 (λ i. (c.shared_slice_known-1.given i).fits) c.args.positions.now c.requires.1.are (place_2 c) c.requires.2 kept
+  first = kind_kept_first (over_2 c) c.requires.0 (λ i. (c.shared_slice_known-1.given i).fits) c.args.positions.now c.requires.1.are
+      (place_2 c) c.requires.2 kept
 
   size : length (bytes_in (form_2 c) (source_2 c) (whole_2 c)) ≡ length (whole_2 c) + line_bytes (form_2 c)
   size = length_bytes_in (form_2 c) (source_2 c) (kind_of (slot_at (over_2 c) (place_2 c))) (whole_2 c) first.0 first.1
-
-  some : 1 ≤ length (whole_2 c)
-  some = omega (arith, ap length first.1)
 
   room : c.args.at + (2 * (length (whole_2 c) + line_bytes (form_2 c)) + 1) ≤ length c.args.out.now
   room = omega (arith, c.requires.3, ap length line_is, length_line (bytes_in (form_2 c) (source_2 c) (whole_2 c)), size)
@@ -152,23 +139,6 @@ module _ (c : goal.After-shared_slice_known-2-1-unread) where
   kept_2 : 1 ≤ kind_of (slot_at (over_3 c) (place_3 c))
   kept_2 = kept_form (over_3 c) c.requires.0.held (place_3 c) c.requires.2 (leb-false _ _ (sym c.is_gone.ensures ∙ c.if-is_gone.false))
 
-  line_is_2 : line_at (form_3 c) c.args.lines.now (over_3 c) (place_3 c) ≡ line_of (bytes_in (form_3 c) (source_3 c) (whole_3 c))
-  line_is_2 =
-      line_kept (over_3 c) c.requires.0 (λ i. (c.shared_slice_known-1.given i).fits) c.args.positions.now c.requires.1.are (place_3 c) c.requires.2
-      (form_3 c) (source_3 c) kept_2
-
-  first_2 : (r : List ℕ) × (whole_3 c ≡ kind_of (slot_at (over_3 c) (place_3 c)) ∷ r)
-  first_2 = kind_kept_first (over_3 c) c.requires.0 (λ i. (c.shared_slice_known-1.given i).fits) c.args.positions.now c.requires.1.are (place_3 c) c.requires.2 kept_2
-
-  size_2 : length (bytes_in (form_3 c) (source_3 c) (whole_3 c)) ≡ length (whole_3 c) + line_bytes (form_3 c)
-  size_2 = length_bytes_in (form_3 c) (source_3 c) (kind_of (slot_at (over_3 c) (place_3 c))) (whole_3 c) first_2.0 first_2.1
-
-  some_2 : 1 ≤ length (whole_3 c)
-  some_2 = omega (arith, ap length first_2.1)
-
-  room_2 : c.args.at + (2 * (length (whole_3 c) + line_bytes (form_3 c)) + 1) ≤ length c.args.out.now
-  room_2 = omega (arith, c.requires.3, ap length line_is_2, length_line (bytes_in (form_3 c) (source_3 c) (whole_3 c)), size_2)
-
 -- the line of a slot that is not gone
 module _ (c : goal.After-put_source-arg-2-1) where
   kept_3 : 1 ≤ kind_of (slot_at (over_4 c) (place_4 c))
@@ -176,11 +146,13 @@ module _ (c : goal.After-put_source-arg-2-1) where
 
   line_is_3 : line_at (form_4 c) c.args.lines.now (over_4 c) (place_4 c) ≡ line_of (bytes_in (form_4 c) (source_4 c) (whole_4 c))
   line_is_3 =
-      line_kept (over_4 c) c.requires.0 (λ i. (c.shared_slice_known-1.given i).fits) c.args.positions.now c.requires.1.are (place_4 c) c.requires.2
+      line_kept (over_4 c) c.requires.0 (λ i. (c.shared_slice_known-1.given i).fits) c.args.positions.now c.requires.1.are (place_4 c)
+      c.requires.2
       (form_4 c) (source_4 c) kept_3
 
   first_3 : (r : List ℕ) × (whole_4 c ≡ kind_of (slot_at (over_4 c) (place_4 c)) ∷ r)
-  first_3 = kind_kept_first (over_4 c) c.requires.0 (λ i. (c.shared_slice_known-1.given i).fits) c.args.positions.now c.requires.1.are (place_4 c) c.requires.2 kept_3
+  first_3 = kind_kept_first (over_4 c) c.requires.0 (λ i. (c.shared_slice_known-1.given i).fits) c.args.positions.now c.requires.1.are
+      (place_4 c) c.requires.2 kept_3
 
   size_3 : length (bytes_in (form_4 c) (source_4 c) (whole_4 c)) ≡ length (whole_4 c) + line_bytes (form_4 c)
   size_3 = length_bytes_in (form_4 c) (source_4 c) (kind_of (slot_at (over_4 c) (place_4 c))) (whole_4 c) first_3.0 first_3.1
@@ -198,17 +170,16 @@ module _ (c : goal.After-end_line-arg-1) where
 
   line_is_4 : line_at (form_5 c) c.args.lines.now (over_5 c) (place_5 c) ≡ line_of (bytes_in (form_5 c) (source_5 c) (whole_5 c))
   line_is_4 =
-      line_kept (over_5 c) c.requires.0 (λ i. (c.shared_slice_known-1.given i).fits) c.args.positions.now c.requires.1.are (place_5 c) c.requires.2
+      line_kept (over_5 c) c.requires.0 (λ i. (c.shared_slice_known-1.given i).fits) c.args.positions.now c.requires.1.are (place_5 c)
+      c.requires.2
       (form_5 c) (source_5 c) kept_4
 
   first_4 : (r : List ℕ) × (whole_5 c ≡ kind_of (slot_at (over_5 c) (place_5 c)) ∷ r)
-  first_4 = kind_kept_first (over_5 c) c.requires.0 (λ i. (c.shared_slice_known-1.given i).fits) c.args.positions.now c.requires.1.are (place_5 c) c.requires.2 kept_4
+  first_4 = kind_kept_first (over_5 c) c.requires.0 (λ i. (c.shared_slice_known-1.given i).fits) c.args.positions.now c.requires.1.are
+      (place_5 c) c.requires.2 kept_4
 
   size_4 : length (bytes_in (form_5 c) (source_5 c) (whole_5 c)) ≡ length (whole_5 c) + line_bytes (form_5 c)
   size_4 = length_bytes_in (form_5 c) (source_5 c) (kind_of (slot_at (over_5 c) (place_5 c))) (whole_5 c) first_4.0 first_4.1
-
-  some_4 : 1 ≤ length (whole_5 c)
-  some_4 = omega (arith, ap length first_4.1)
 
   room_4 : c.args.at + (2 * (length (whole_5 c) + line_bytes (form_5 c)) + 1) ≤ length c.args.out.now
   room_4 = omega (arith, c.requires.3, ap length line_is_4, length_line (bytes_in (form_5 c) (source_5 c) (whole_5 c)), size_4)
@@ -220,42 +191,47 @@ module _ (c : goal.After-slice_known-4-1) where
 
   line_is_5 : line_at (form_6 c) c.args.lines.now (over_6 c) (place_6 c) ≡ line_of (bytes_in (form_6 c) (source_6 c) (whole_6 c))
   line_is_5 =
-      line_kept (over_6 c) c.requires.0 (λ i. (c.shared_slice_known-1.given i).fits) c.args.positions.now c.requires.1.are (place_6 c) c.requires.2
+      line_kept (over_6 c) c.requires.0 (λ i. (c.shared_slice_known-1.given i).fits) c.args.positions.now c.requires.1.are (place_6 c)
+      c.requires.2
       (form_6 c) (source_6 c) kept_5
 
   first_5 : (r : List ℕ) × (whole_6 c ≡ kind_of (slot_at (over_6 c) (place_6 c)) ∷ r)
-  first_5 = kind_kept_first (over_6 c) c.requires.0 (λ i. (c.shared_slice_known-1.given i).fits) c.args.positions.now c.requires.1.are (place_6 c) c.requires.2 kept_5
+  first_5 = kind_kept_first (over_6 c) c.requires.0 (λ i. (c.shared_slice_known-1.given i).fits) c.args.positions.now c.requires.1.are
+      (place_6 c) c.requires.2 kept_5
 
   size_5 : length (bytes_in (form_6 c) (source_6 c) (whole_6 c)) ≡ length (whole_6 c) + line_bytes (form_6 c)
   size_5 = length_bytes_in (form_6 c) (source_6 c) (kind_of (slot_at (over_6 c) (place_6 c))) (whole_6 c) first_5.0 first_5.1
-
-  some_5 : 1 ≤ length (whole_6 c)
-  some_5 = omega (arith, ap length first_5.1)
 
   room_5 : c.args.at + (2 * (length (whole_6 c) + line_bytes (form_6 c)) + 1) ≤ length c.args.out.now
   room_5 = omega (arith, c.requires.3, ap length line_is_5, length_line (bytes_in (form_6 c) (source_6 c) (whole_6 c)), size_5)
 
 -- a frame begins with its statement's kind
-begins : (c : goal.After-shared_slice_known-2-1-unread) → (get_or c.frame_at-frame.result.now 0 0 ≡ kind_of (slot_at (over_3 c) (place_3 c))) × (0 < length c.frame_at-frame.result.now)
+begins : (c : goal.After-shared_slice_known-2-1-unread) → (get_or c.frame_at-frame.result.now 0 0 ≡ kind_of
+    (slot_at (over_3 c) (place_3 c))) × (0 < length c.frame_at-frame.result.now)
 begins c =
     let k = kind_of (slot_at (over_3 c) (place_3 c)) in
     let one = kept_2 c in
     let up : k ≡ suc (k - 1) = omega arith in
-    let first_byte = ap (λ l. get_or l 0 0) c.frame_at-frame.ensures ∙ first_is (over_3 c) c.requires.0.held (place_3 c) c.requires.2 (k - 1) up ∙ sym up in
+    let first_byte = ap (λ l. get_or l 0 0) c.frame_at-frame.ensures ∙ first_is (over_3 c) c.requires.0.held (place_3 c) c.requires.2
+    (k - 1) up ∙ sym up in
     (first_byte, get_in c.frame_at-frame.result.now 0 0 (λ e. omega (arith, first_byte)))
 
 -- a frame begins with its statement's kind
-begins_2 : (c : goal.After-slice_known-4-1) → (get_or c.frame_at-frame.result.now 0 0 ≡ kind_of (slot_at (over_6 c) (place_6 c))) × (0 < length c.frame_at-frame.result.now)
+begins_2 : (c : goal.After-slice_known-4-1) → (get_or c.frame_at-frame.result.now 0 0 ≡ kind_of (slot_at (over_6 c) (place_6 c)))
+    × (0 < length c.frame_at-frame.result.now)
 begins_2 c =
     let k = kind_of (slot_at (over_6 c) (place_6 c)) in
     let one = kept_5 c in
     let up : k ≡ suc (k - 1) = omega arith in
-    let first_byte = ap (λ l. get_or l 0 0) c.frame_at-frame.ensures ∙ first_is (over_6 c) c.requires.0.held (place_6 c) c.requires.2 (k - 1) up ∙ sym up in
+    let first_byte = ap (λ l. get_or l 0 0) c.frame_at-frame.ensures ∙ first_is (over_6 c) c.requires.0.held (place_6 c) c.requires.2
+    (k - 1) up ∙ sym up in
     (first_byte, get_in c.frame_at-frame.result.now 0 0 (λ e. omega (arith, first_byte)))
 
 -- what was put, with the kind and the source line before it
-sourced_is : (s : goal.After-slice_known-4-1) (k b : ℕ) (r d₁ d₂ : List ℕ) (e : ℕ) → b ≡ line_bytes (form_6 s) → whole_6 s ≡ k ∷ r → Put s.args.out.now (s.args.at + 2 * b) (whole_6 s) d₁ e
-    → s.args.at + 2 * (length (whole_6 s) + line_bytes (form_6 s)) ≤ length s.args.out.now → d₂ ≡ sourced (form_6 s) k (source_6 s) d₁ s.args.at
+sourced_is : (s : goal.After-slice_known-4-1) (k b : ℕ) (r d₁ d₂ : List ℕ) (e : ℕ) → b ≡ line_bytes (form_6 s) → whole_6 s ≡ k ∷ r
+    → Put s.args.out.now (s.args.at + 2 * b) (whole_6 s) d₁ e
+    → s.args.at + 2 * (length (whole_6 s) + line_bytes (form_6 s)) ≤ length s.args.out.now → d₂ ≡ sourced (form_6 s) k (source_6 s) d₁
+    s.args.at
     → Put s.args.out.now s.args.at (bytes_in (form_6 s) (source_6 s) (whole_6 s)) d₂ e
 sourced_is s k b r d₁ d₂ e n w p h z =
     rw (z, w) (put_source (form_6 s) s.args.out.now s.args.at k (source_6 s) r d₁ e (rw (n, w) at p) (omega (arith, h, ap length w)))
@@ -263,7 +239,8 @@ sourced_is s k b r d₁ d₂ e n w p h z =
 pub returns-then-is_gone : goal.returns-then-is_gone
 returns-then-is_gone c =
     let none : line_at (form c) c.args.lines.now (over c) (place c) ≡ [] =
-    line_gone (form c) (source c) (program_of (over c)) (slot_at (over c) (place c)) (ap kind_of (slot_gone (over c) (place c) (leb-true _ _ (sym c.is_gone.ensures ∙ c.if-is_gone.true)))) in
+    line_gone (form c) (source c) (program_of (over c)) (slot_at (over c) (place c))
+    (ap kind_of (slot_gone (over c) (place c) (leb-true _ _ (sym c.is_gone.ensures ∙ c.if-is_gone.true)))) in
     (sym (laid_nothing c.args.out.now c.args.at) ∙ ap (laid c.args.out.now c.args.at) (sym none), omega (arith, ap length none))
 
 pub put_statement-end-requires : goal.put_statement-end-requires
@@ -288,6 +265,7 @@ returns c =
     let e = c.end_line in
     let kind = (begins_2 c).0 in
     let put = sourced_is c (kind_of (slot_at (over_6 c) (place_6 c))) b.result (first_5 c).0 p.new.out q.new.out p.result
-    b.ensures.0 (first_5 c).1 p.ensures (omega (arith, room_5 c)) (q.ensures ∙ ap (λ (k : ℕ). sourced (form_6 c) k (source_6 c) p.new.out c.args.at) kind) in
+    b.ensures.0 (first_5 c).1 p.ensures (omega (arith, room_5 c)) (q.ensures ∙ ap (λ (k : ℕ). sourced (form_6 c) k (source_6 c) p.new.out
+    c.args.at) kind) in
     put_line c.args.out.now c.args.at (bytes_in (form_6 c) (source_6 c) (whole_6 c)) q.new.out p.result e.new.out e.result
     (line_at (form_6 c) c.args.lines.now (over_6 c) (place_6 c)) put e.ensures.0 e.ensures.1 (line_is_5 c) c.requires.3

@@ -16,10 +16,12 @@ five : length (mark_of new_form) ≡ 5
 five = length_line (0x7D ∷ 0x02 ∷ [])
 
 -- the digits and the line feed
-both : (d d₁ d₂ : List ℕ) (r : ℕ) → 5 ≤ length d → d₁ ≡ laid d 0 (hex_of (0x7D ∷ 0x02 ∷ [])) → d₂ ≡ laid d₁ 4 (10 ∷ []) → r ≡ 5 → (d₂ ≡ laid d 0 (mark_of new_form)) × (r ≡ length (mark_of new_form))
+both : (d d₁ d₂ : List ℕ) (r : ℕ) → 5 ≤ length d → d₁ ≡ laid d 0 (hex_of (0x7D ∷ 0x02 ∷ [])) → d₂ ≡ laid d₁ 4 (10 ∷ []) → r ≡ 5
+    → (d₂ ≡ laid d 0 (mark_of new_form)) × (r ≡ length (mark_of new_form))
 unfolding line_of
 both d d₁ d₂ r h a b e = (
-  b ∙ ap (λ (l : List ℕ). laid l 4 (10 ∷ [])) a ∙ laid_more d (hex_of (0x7D ∷ 0x02 ∷ [])) (10 ∷ []) 0 4 (omega (arith, length_hex (0x7D ∷ 0x02 ∷ []))) (omega arith),
+  b ∙ ap (λ (l : List ℕ). laid l 4 (10 ∷ [])) a ∙ laid_more d (hex_of (0x7D ∷ 0x02 ∷ [])) (10 ∷ []) 0 4
+      (omega (arith, length_hex (0x7D ∷ 0x02 ∷ []))) (omega arith),
   e ∙ sym five,
 )
 

@@ -50,11 +50,13 @@ part_2 c = take (c.own_end-e.result - 2) (drop 2 c.args.frame.now)
 
 part_length : (c : goal.After-put_bytes-arg-2-1) → length (part c) ≡ own_end c.args.frame.now - 2
 part_length c =
-    length-take-le (c.own_end-e.result - 2) (drop 2 c.args.frame.now) (omega (arith, ends_at_2 c, bounds_4 c, length-drop 2 c.args.frame.now)) ∙ ap (λ n. n - 2) (ends_at_2 c)
+    length-take-le (c.own_end-e.result - 2) (drop 2 c.args.frame.now)
+    (omega (arith, ends_at_2 c, bounds_4 c, length-drop 2 c.args.frame.now)) ∙ ap (λ n. n - 2) (ends_at_2 c)
 
 part_length_2 : (c : goal.After-slice_known-4-1) → length (part_2 c) ≡ own_end c.args.frame.now - 2
 part_length_2 c =
-    length-take-le (c.own_end-e.result - 2) (drop 2 c.args.frame.now) (omega (arith, ends_at_3 c, bounds_5 c, length-drop 2 c.args.frame.now)) ∙ ap (λ n. n - 2) (ends_at_3 c)
+    length-take-le (c.own_end-e.result - 2) (drop 2 c.args.frame.now)
+    (omega (arith, ends_at_3 c, bounds_5 c, length-drop 2 c.args.frame.now)) ∙ ap (λ n. n - 2) (ends_at_3 c)
 
 pub put_byte-requires : goal.put_byte-requires
 put_byte-requires c = omega (arith, bounds c, c.requires.1)
@@ -84,7 +86,8 @@ returns c =
     let own = length_own a.form a.place.0 a.frame.now c.requires.0 in
     record {
       is =
-          c.put_bytes.ensures ∙ ap (λ l. laid l (a.at + 4) (hex_of (part_2 c))) (second ∙ ap (λ l. laid l (a.at + 2) (hex_byte a.form)) first)
+          c.put_bytes.ensures ∙ ap (λ l. laid l (a.at + 4) (hex_of (part_2 c))) (second ∙ ap (λ l. laid l (a.at + 2) (hex_byte a.form))
+          first)
           ∙ put_head a.out.now a.at 1 a.form (part_2 c) (omega (arith, part_length_2 c, bounds_5 c, c.requires.1))
           ∙ ap (λ n. laid a.out.now a.at (hex_of (1 ∷ a.form ∷ take (n - 2) (drop 2 a.frame.now)))) (ends_at_3 c);
       ends = omega (arith, ends_at_3 c, own);

@@ -86,7 +86,8 @@ module _ (c : goal.After-slice_known-in_default-1) where
   frame_2 : whole_2 c ≡ c.frame_at-frame.result.now
   frame_2 =
       bytes_other (over_2 c) c.args.positions.now (place_2 c)
-      (no_instr (over_2 c) (place_2 c) c.slot_at.result (stands_2 c) (opened c.in_default.in_default-own.keys2)) ∙ sym c.frame_at-frame.ensures
+      (no_instr (over_2 c) (place_2 c) c.slot_at.result (stands_2 c) (opened c.in_default.in_default-own.keys2))
+      ∙ sym c.frame_at-frame.ensures
 
   room_2 : c.args.at + 2 * length c.frame_at-frame.result.now ≤ length c.args.out.now
   room_2 = omega (arith, c.requires.3, ap length frame_2)
@@ -121,7 +122,8 @@ put_instruction-requires c =
     let is = one c in
     let from = get_or (carry_in c.args.state.now) (place_3 c) 0 in (
       drawn (over_3 c) c.requires.0 (place_3 c) c.requires.2 is,
-      λ t h. c.requires.1.low (get_or (owners_in c.args.state.now) from 0) (c.requires.0.owned from (c.requires.0.carried (place_3 c) c.requires.2 is t).inside h),
+      λ t h. c.requires.1.low (get_or (owners_in c.args.state.now) from 0)
+          (c.requires.0.owned from (c.requires.0.carried (place_3 c) c.requires.2 is t).inside h),
       omega (arith, c.requires.3, ap length (instruction c)),
     )
 

@@ -21,25 +21,15 @@ module _ (s : goal.After-widen) where
   place = s.args.from.0
 
   abbrev target : List ℕ
-  target = target_bytes s.args.frames.now (starts_in s.args.state.now) (owners_in s.args.state.now) (offsets_in s.args.state.now) s.args.positions.now place
-
-  abbrev frame : List ℕ
-  frame = frame_at s.args.frames.now (starts_in s.args.state.now) place
+  target = target_bytes s.args.frames.now (starts_in s.args.state.now) (owners_in s.args.state.now) (offsets_in s.args.state.now)
+      s.args.positions.now place
 
   abbrev number : ℕ
   number = get_or s.args.positions.now (get_or (owners_in s.args.state.now) place 0) 0 + get_or (offsets_in s.args.state.now) place 0
 
   as_number : get_or (owners_in s.args.state.now) place 0 < no_owner → target ≡ 0 ∷ four number
-  as_number h = target_inner s.args.frames.now (starts_in s.args.state.now) (owners_in s.args.state.now) (offsets_in s.args.state.now) s.args.positions.now place h
-
-  as_written : no_owner ≤ get_or (owners_in s.args.state.now) place 0 → target ≡ drop (own_end frame) frame
-  as_written h = target_own s.args.frames.now (starts_in s.args.state.now) (owners_in s.args.state.now) (offsets_in s.args.state.now) s.args.positions.now place h
-
-  within : own_end frame ≤ length frame
-  within = (end_within place frame s.requires.1.reads).1
-
-  inside : place < 1024
-  inside = omega (arith, s.requires.1.inside, s.requires.0.few)
+  as_number h = target_inner s.args.frames.now (starts_in s.args.state.now) (owners_in s.args.state.now) (offsets_in s.args.state.now)
+      s.args.positions.now place h
 
 -- the target's bytes, and the frame of its place
 module _ (s : goal.After-slice_known-then-owner-lt-NO_OWNER-1) where
@@ -47,51 +37,26 @@ module _ (s : goal.After-slice_known-then-owner-lt-NO_OWNER-1) where
   place_2 = s.args.from.0
 
   abbrev target_2 : List ℕ
-  target_2 = target_bytes s.args.frames.now (starts_in s.args.state.now) (owners_in s.args.state.now) (offsets_in s.args.state.now) s.args.positions.now place_2
-
-  abbrev frame_2 : List ℕ
-  frame_2 = frame_at s.args.frames.now (starts_in s.args.state.now) place_2
+  target_2 = target_bytes s.args.frames.now (starts_in s.args.state.now) (owners_in s.args.state.now) (offsets_in s.args.state.now)
+      s.args.positions.now place_2
 
   abbrev number_2 : ℕ
   number_2 = get_or s.args.positions.now (get_or (owners_in s.args.state.now) place_2 0) 0 + get_or (offsets_in s.args.state.now) place_2 0
 
   as_number_2 : get_or (owners_in s.args.state.now) place_2 0 < no_owner → target_2 ≡ 0 ∷ four number_2
-  as_number_2 h = target_inner s.args.frames.now (starts_in s.args.state.now) (owners_in s.args.state.now) (offsets_in s.args.state.now) s.args.positions.now place_2 h
-
-  as_written_2 : no_owner ≤ get_or (owners_in s.args.state.now) place_2 0 → target_2 ≡ drop (own_end frame_2) frame_2
-  as_written_2 h = target_own s.args.frames.now (starts_in s.args.state.now) (owners_in s.args.state.now) (offsets_in s.args.state.now) s.args.positions.now place_2 h
-
-  within_2 : own_end frame_2 ≤ length frame_2
-  within_2 = (end_within place_2 frame_2 s.requires.1.reads).1
-
-  inside_2 : place_2 < 1024
-  inside_2 = omega (arith, s.requires.1.inside, s.requires.0.few)
+  as_number_2 h = target_inner s.args.frames.now (starts_in s.args.state.now) (owners_in s.args.state.now) (offsets_in s.args.state.now)
+      s.args.positions.now place_2 h
 
 -- the target's bytes, and the frame of its place
 module _ (s : goal.After-put_bytes-arg-1) where
   abbrev place_3 : ℕ
   place_3 = s.args.from.0
 
-  abbrev target_3 : List ℕ
-  target_3 = target_bytes s.args.frames.now (starts_in s.args.state.now) (owners_in s.args.state.now) (offsets_in s.args.state.now) s.args.positions.now place_3
-
   abbrev frame_3 : List ℕ
   frame_3 = frame_at s.args.frames.now (starts_in s.args.state.now) place_3
 
-  abbrev number_3 : ℕ
-  number_3 = get_or s.args.positions.now (get_or (owners_in s.args.state.now) place_3 0) 0 + get_or (offsets_in s.args.state.now) place_3 0
-
-  as_number_3 : get_or (owners_in s.args.state.now) place_3 0 < no_owner → target_3 ≡ 0 ∷ four number_3
-  as_number_3 h = target_inner s.args.frames.now (starts_in s.args.state.now) (owners_in s.args.state.now) (offsets_in s.args.state.now) s.args.positions.now place_3 h
-
-  as_written_3 : no_owner ≤ get_or (owners_in s.args.state.now) place_3 0 → target_3 ≡ drop (own_end frame_3) frame_3
-  as_written_3 h = target_own s.args.frames.now (starts_in s.args.state.now) (owners_in s.args.state.now) (offsets_in s.args.state.now) s.args.positions.now place_3 h
-
   within_3 : own_end frame_3 ≤ length frame_3
   within_3 = (end_within place_3 frame_3 s.requires.1.reads).1
-
-  inside_3 : place_3 < 1024
-  inside_3 = omega (arith, s.requires.1.inside, s.requires.0.few)
 
 -- the target's bytes, and the frame of its place
 module _ (s : goal.After-put_bytes-arg-2-1) where
@@ -99,25 +64,15 @@ module _ (s : goal.After-put_bytes-arg-2-1) where
   place_4 = s.args.from.0
 
   abbrev target_4 : List ℕ
-  target_4 = target_bytes s.args.frames.now (starts_in s.args.state.now) (owners_in s.args.state.now) (offsets_in s.args.state.now) s.args.positions.now place_4
+  target_4 = target_bytes s.args.frames.now (starts_in s.args.state.now) (owners_in s.args.state.now) (offsets_in s.args.state.now)
+      s.args.positions.now place_4
 
   abbrev frame_4 : List ℕ
   frame_4 = frame_at s.args.frames.now (starts_in s.args.state.now) place_4
 
-  abbrev number_4 : ℕ
-  number_4 = get_or s.args.positions.now (get_or (owners_in s.args.state.now) place_4 0) 0 + get_or (offsets_in s.args.state.now) place_4 0
-
-  as_number_4 : get_or (owners_in s.args.state.now) place_4 0 < no_owner → target_4 ≡ 0 ∷ four number_4
-  as_number_4 h = target_inner s.args.frames.now (starts_in s.args.state.now) (owners_in s.args.state.now) (offsets_in s.args.state.now) s.args.positions.now place_4 h
-
   as_written_4 : no_owner ≤ get_or (owners_in s.args.state.now) place_4 0 → target_4 ≡ drop (own_end frame_4) frame_4
-  as_written_4 h = target_own s.args.frames.now (starts_in s.args.state.now) (owners_in s.args.state.now) (offsets_in s.args.state.now) s.args.positions.now place_4 h
-
-  within_4 : own_end frame_4 ≤ length frame_4
-  within_4 = (end_within place_4 frame_4 s.requires.1.reads).1
-
-  inside_4 : place_4 < 1024
-  inside_4 = omega (arith, s.requires.1.inside, s.requires.0.few)
+  as_written_4 h = target_own s.args.frames.now (starts_in s.args.state.now) (owners_in s.args.state.now) (offsets_in s.args.state.now)
+      s.args.positions.now place_4 h
 
 -- the target's bytes, and the frame of its place
 module _ (s : goal.After-slice_known-2-1) where
@@ -125,25 +80,18 @@ module _ (s : goal.After-slice_known-2-1) where
   place_5 = s.args.from.0
 
   abbrev target_5 : List ℕ
-  target_5 = target_bytes s.args.frames.now (starts_in s.args.state.now) (owners_in s.args.state.now) (offsets_in s.args.state.now) s.args.positions.now place_5
+  target_5 = target_bytes s.args.frames.now (starts_in s.args.state.now) (owners_in s.args.state.now) (offsets_in s.args.state.now)
+      s.args.positions.now place_5
 
   abbrev frame_5 : List ℕ
   frame_5 = frame_at s.args.frames.now (starts_in s.args.state.now) place_5
 
-  abbrev number_5 : ℕ
-  number_5 = get_or s.args.positions.now (get_or (owners_in s.args.state.now) place_5 0) 0 + get_or (offsets_in s.args.state.now) place_5 0
-
-  as_number_5 : get_or (owners_in s.args.state.now) place_5 0 < no_owner → target_5 ≡ 0 ∷ four number_5
-  as_number_5 h = target_inner s.args.frames.now (starts_in s.args.state.now) (owners_in s.args.state.now) (offsets_in s.args.state.now) s.args.positions.now place_5 h
-
   as_written_5 : no_owner ≤ get_or (owners_in s.args.state.now) place_5 0 → target_5 ≡ drop (own_end frame_5) frame_5
-  as_written_5 h = target_own s.args.frames.now (starts_in s.args.state.now) (owners_in s.args.state.now) (offsets_in s.args.state.now) s.args.positions.now place_5 h
+  as_written_5 h = target_own s.args.frames.now (starts_in s.args.state.now) (owners_in s.args.state.now) (offsets_in s.args.state.now)
+      s.args.positions.now place_5 h
 
   within_5 : own_end frame_5 ≤ length frame_5
   within_5 = (end_within place_5 frame_5 s.requires.1.reads).1
-
-  inside_5 : place_5 < 1024
-  inside_5 = omega (arith, s.requires.1.inside, s.requires.0.few)
 
 -- the target became an inner label, or stands as written
 low_owner : (c : goal.After-widen) → get_or (owners_in c.args.state.now) (place c) 0 < no_owner
@@ -175,15 +123,19 @@ ends_at_3 : (c : goal.After-slice_known-2-1) → c.own_end-e.result ≡ own_end 
 ends_at_3 c = c.own_end-e.ensures ∙ ap own_end c.frame_at-frame.ensures
 
 -- what is left of the frame is the target
-part_is : (c : goal.After-put_bytes-arg-2-1) → let r = c.frame_at-frame.result.now in take (length r - c.own_end-e.result) (drop c.own_end-e.result r) ≡ target_4 c
+part_is : (c : goal.After-put_bytes-arg-2-1) → let r = c.frame_at-frame.result.now in take (length r - c.own_end-e.result)
+    (drop c.own_end-e.result r) ≡ target_4 c
 part_is c =
-    rest_is c.own_end-e.result c.frame_at-frame.result.now ∙ ap (λ k. drop k c.frame_at-frame.result.now) (ends_at_2 c) ∙ ap (drop (own_end (frame_4 c))) c.frame_at-frame.ensures
+    rest_is c.own_end-e.result c.frame_at-frame.result.now ∙ ap (λ k. drop k c.frame_at-frame.result.now) (ends_at_2 c)
+    ∙ ap (drop (own_end (frame_4 c))) c.frame_at-frame.ensures
     ∙ sym (as_written_4 c (high_owner c))
 
 -- what is left of the frame is the target
-part_is_2 : (c : goal.After-slice_known-2-1) → let r = c.frame_at-frame.result.now in take (length r - c.own_end-e.result) (drop c.own_end-e.result r) ≡ target_5 c
+part_is_2 : (c : goal.After-slice_known-2-1) → let r = c.frame_at-frame.result.now in take (length r - c.own_end-e.result)
+    (drop c.own_end-e.result r) ≡ target_5 c
 part_is_2 c =
-    rest_is c.own_end-e.result c.frame_at-frame.result.now ∙ ap (λ k. drop k c.frame_at-frame.result.now) (ends_at_3 c) ∙ ap (drop (own_end (frame_5 c))) c.frame_at-frame.ensures
+    rest_is c.own_end-e.result c.frame_at-frame.result.now ∙ ap (λ k. drop k c.frame_at-frame.result.now) (ends_at_3 c)
+    ∙ ap (drop (own_end (frame_5 c))) c.frame_at-frame.ensures
     ∙ sym (as_written_5 c (high_owner_2 c))
 
 rest_length : (c : goal.After-slice_known-2-1) → length c.frame_at-frame.result.now - c.own_end-e.result ≡ length (target_5 c)
@@ -202,7 +154,8 @@ returns-then-owner-lt-NO_OWNER c =
     ap (λ k. get_or a.positions.now k 0 + c.widen.result) c.owner_at-owner.ensures
     ∙ ap (λ n. get_or a.positions.now (get_or (owners_in a.state.now) (place_2 c) 0) 0 + n) c.widen.ensures.0 in
     record {
-      is = c.put_number.ensures ∙ ap (λ n. laid a.out.now a.at (hex_of (0 ∷ four n))) sum ∙ ap (λ l. laid a.out.now a.at (hex_of l)) (sym inner);
+      is = c.put_number.ensures ∙ ap (λ n. laid a.out.now a.at (hex_of (0 ∷ four n))) sum ∙ ap (λ l. laid a.out.now a.at (hex_of l))
+          (sym inner);
       ends = omega (arith, ap length inner);
     }
 

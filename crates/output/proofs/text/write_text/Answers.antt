@@ -26,13 +26,6 @@ module _ (s : goal.After-put_mark-arg-1) where
   abbrev sources : List ℕ
   sources = take s.args.count s.args.lines.now
 
-  -- the lines up to that of place i have room
-  room : (i : ℕ) → i < s.args.count → length (lines_to form sources over i) + length (line_at form sources over i) ≤ length s.args.out.now
-  room i l = omega (arith, length_more over form sources i, lines_within over form sources (i + 1) (omega arith), s.requires.2)
-
-  same_line : (i : ℕ) → i < s.args.count → line_at form s.args.lines.now over i ≡ line_at form sources over i
-  same_line i l = ap (λ (n : ℕ). line_in form n (program_of over) (slot_at over i)) (sym (get_or-take s.args.count s.args.lines.now i 0 l))
-
 -- the tables and the source lines at a start
 module _ (s : goal.After-slice_known-2-1) where
   abbrev over_2 : Slots
@@ -43,13 +36,6 @@ module _ (s : goal.After-slice_known-2-1) where
 
   abbrev sources_2 : List ℕ
   sources_2 = take s.args.count s.args.lines.now
-
-  -- the lines up to that of place i have room
-  room_2 : (i : ℕ) → i < s.args.count → length (lines_to form_2 sources_2 over_2 i) + length (line_at form_2 sources_2 over_2 i) ≤ length s.args.out.now
-  room_2 i l = omega (arith, length_more over_2 form_2 sources_2 i, lines_within over_2 form_2 sources_2 (i + 1) (omega arith), s.requires.2)
-
-  same_line_2 : (i : ℕ) → i < s.args.count → line_at form_2 s.args.lines.now over_2 i ≡ line_at form_2 sources_2 over_2 i
-  same_line_2 i l = ap (λ (n : ℕ). line_in form_2 n (program_of over_2) (slot_at over_2 i)) (sym (get_or-take s.args.count s.args.lines.now i 0 l))
 
 -- the tables and the source lines at a start
 module _ (s : goal.After-put_line-arg-1) where
@@ -63,11 +49,18 @@ module _ (s : goal.After-put_line-arg-1) where
   sources_3 = take s.args.count s.args.lines.now
 
   -- the lines up to that of place i have room
-  room_3 : (i : ℕ) → i < s.args.count → length (lines_to form_3 sources_3 over_3 i) + length (line_at form_3 sources_3 over_3 i) ≤ length s.args.out.now
-  room_3 i l = omega (arith, length_more over_3 form_3 sources_3 i, lines_within over_3 form_3 sources_3 (i + 1) (omega arith), s.requires.2)
+  room_3 : (i : ℕ) → i < s.args.count → length (lines_to form_3 sources_3 over_3 i) + length (line_at form_3 sources_3 over_3 i) ≤ length
+      s.args.out.now
+  room_3 i l = omega (
+    arith,
+    length_more over_3 form_3 sources_3 i,
+    lines_within over_3 form_3 sources_3 (i + 1) (omega arith),
+    s.requires.2,
+  )
 
   same_line_3 : (i : ℕ) → i < s.args.count → line_at form_3 s.args.lines.now over_3 i ≡ line_at form_3 sources_3 over_3 i
-  same_line_3 i l = ap (λ (n : ℕ). line_in form_3 n (program_of over_3) (slot_at over_3 i)) (sym (get_or-take s.args.count s.args.lines.now i 0 l))
+  same_line_3 i l = ap (λ (n : ℕ). line_in form_3 n (program_of over_3) (slot_at over_3 i))
+      (sym (get_or-take s.args.count s.args.lines.now i 0 l))
 
 -- the tables and the source lines at a start
 module _ (s : goal.After-slice_known-in-loop-i-1) where
@@ -81,11 +74,18 @@ module _ (s : goal.After-slice_known-in-loop-i-1) where
   sources_4 = take s.args.count s.args.lines.now
 
   -- the lines up to that of place i have room
-  room_4 : (i : ℕ) → i < s.args.count → length (lines_to form_4 sources_4 over_4 i) + length (line_at form_4 sources_4 over_4 i) ≤ length s.args.out.now
-  room_4 i l = omega (arith, length_more over_4 form_4 sources_4 i, lines_within over_4 form_4 sources_4 (i + 1) (omega arith), s.requires.2)
+  room_4 : (i : ℕ) → i < s.args.count → length (lines_to form_4 sources_4 over_4 i) + length (line_at form_4 sources_4 over_4 i) ≤ length
+      s.args.out.now
+  room_4 i l = omega (
+    arith,
+    length_more over_4 form_4 sources_4 i,
+    lines_within over_4 form_4 sources_4 (i + 1) (omega arith),
+    s.requires.2,
+  )
 
   same_line_4 : (i : ℕ) → i < s.args.count → line_at form_4 s.args.lines.now over_4 i ≡ line_at form_4 sources_4 over_4 i
-  same_line_4 i l = ap (λ (n : ℕ). line_in form_4 n (program_of over_4) (slot_at over_4 i)) (sym (get_or-take s.args.count s.args.lines.now i 0 l))
+  same_line_4 i l = ap (λ (n : ℕ). line_in form_4 n (program_of over_4) (slot_at over_4 i))
+      (sym (get_or-take s.args.count s.args.lines.now i 0 l))
 
 -- the tables and the source lines at a start
 module _ (s : goal.After-loop-i) where
@@ -98,15 +98,14 @@ module _ (s : goal.After-loop-i) where
   abbrev sources_5 : List ℕ
   sources_5 = take s.args.count s.args.lines.now
 
-  -- the lines up to that of place i have room
-  room_5 : (i : ℕ) → i < s.args.count → length (lines_to form_5 sources_5 over_5 i) + length (line_at form_5 sources_5 over_5 i) ≤ length s.args.out.now
-  room_5 i l = omega (arith, length_more over_5 form_5 sources_5 i, lines_within over_5 form_5 sources_5 (i + 1) (omega arith), s.requires.2)
-
-  same_line_5 : (i : ℕ) → i < s.args.count → line_at form_5 s.args.lines.now over_5 i ≡ line_at form_5 sources_5 over_5 i
-  same_line_5 i l = ap (λ (n : ℕ). line_in form_5 n (program_of over_5) (slot_at over_5 i)) (sym (get_or-take s.args.count s.args.lines.now i 0 l))
-
 pub put_mark-first-requires : goal.put_mark-first-requires
-put_mark-first-requires c = omega (arith, lines_within (over c) (form c) (sources c) 0 (omega arith), ap length (lines_none (over c) (form c) (sources c)), c.requires.2)
+put_mark-first-requires c = omega (
+  arith,
+  lines_within (over c) (form c) (sources c) 0 (omega arith),
+  ap length
+      (lines_none (over c) (form c) (sources c)),
+  c.requires.2,
+)
 
 pub loop-i-init : goal.loop-i-init
 loop-i-init c =
@@ -116,8 +115,19 @@ loop-i-init c =
 pub put_line-end-requires : goal.put_line-end-requires
 put_line-end-requires c =
     let l = c.loop-i in
-    let t = c.loop-i-test.true in
-    (c.requires.0, c.requires.1, t, omega (arith, room_3 c l.i t, ap length (same_line_3 c l.i t), l.invariant.1, l.invariant.3, c.put_mark-first.auto.out))
+    let t = c.loop-i-test.true in (
+      c.requires.0,
+      c.requires.1,
+      t,
+      omega (
+        arith,
+        room_3 c l.i t,
+        ap length (same_line_3 c l.i t),
+        l.invariant.1,
+        l.invariant.3,
+        c.put_mark-first.auto.out,
+      ),
+    )
 
 pub loop-i-preserved : goal.loop-i-preserved
 loop-i-preserved c =
@@ -132,8 +142,10 @@ loop-i-preserved c =
       omega (arith, p.ensures.1, ap length same, length_more (over_4 c) (form_4 c) (sources_4 c) l.i, l.invariant.1),
       λ d z n h.
           p.ensures.0 ∙ ap (laid l.out l.at) same
-          ∙ ap (λ (x : List ℕ). laid x l.at line) (l.invariant.2 d z n (omega (arith, h, length_more (over_4 c) (form_4 c) (sources_4 c) l.i)))
-          ∙ laid_more d before line 0 l.at (omega (arith, l.invariant.1)) (omega (arith, l.invariant.1, h, length_more (over_4 c) (form_4 c) (sources_4 c) l.i))
+          ∙ ap (λ (x : List ℕ). laid x l.at line)
+          (l.invariant.2 d z n (omega (arith, h, length_more (over_4 c) (form_4 c) (sources_4 c) l.i)))
+          ∙ laid_more d before line 0 l.at (omega (arith, l.invariant.1))
+          (omega (arith, l.invariant.1, h, length_more (over_4 c) (form_4 c) (sources_4 c) l.i))
           ∙ ap (laid d 0) (sym (lines_more (over_4 c) (form_4 c) (sources_4 c) l.i)),
       p.auto.out ∙ l.invariant.3,
     )
@@ -146,6 +158,11 @@ returns c =
     let d = c.args.out.now in
     let e : l.i ≡ c.args.count = omega arith in
     let first = c.put_mark-first.ensures.0 ∙ ap (laid d 0) (sym (lines_none (over_5 c) w ns)) in
-    let all : length (lines_to w ns (over_5 c) l.i) ≤ length d = omega (arith, lines_within (over_5 c) w ns l.i (omega arith), c.requires.2) in
-    l.invariant.2 d first c.put_mark-first.auto.out all ∙ ap (λ n. laid d 0 (lines_to w ns (over_5 c) n)) e ∙ ap (laid d 0) (lines_all (over_5 c) w ns)
+    let all : length (lines_to w ns (over_5 c) l.i) ≤ length d = omega (
+      arith,
+      lines_within (over_5 c) w ns l.i (omega arith),
+      c.requires.2,
+    ) in
+    l.invariant.2 d first c.put_mark-first.auto.out all ∙ ap (λ n. laid d 0 (lines_to w ns (over_5 c) n)) e ∙ ap (laid d 0)
+    (lines_all (over_5 c) w ns)
     ∙ laid_front d (listing_of (beside_in c.args.marked c.args.lines.now c.args.count) (over_5 c))

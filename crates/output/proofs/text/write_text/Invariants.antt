@@ -12,9 +12,11 @@ use Rattle.output.proofs.text.write_text.Given as goal
 abbrev pub invariant-loop-i : goal.invariant-loop-i
 invariant-loop-i l =
     (l.i ≤ l.count) × (l.at ≡ length (lines_to (form_of l.marked) (take l.count l.lines) (table_of l.frames l.state l.count) l.i))
-    × ((d : List ℕ) → l.initial.out ≡ laid d 0 (lines_to (form_of l.marked) (take l.count l.lines) (table_of l.frames l.state l.count) 0) → length l.initial.out ≡ length d
+    × ((d : List ℕ) → l.initial.out ≡ laid d 0 (lines_to (form_of l.marked) (take l.count l.lines) (table_of l.frames l.state l.count) 0)
+    → length l.initial.out ≡ length d
     → length (lines_to (form_of l.marked) (take l.count l.lines) (table_of l.frames l.state l.count) l.i) ≤ length d
-    → l.out ≡ laid d 0 (lines_to (form_of l.marked) (take l.count l.lines) (table_of l.frames l.state l.count) l.i)) × (length l.out ≡ length l.initial.out)
+    → l.out ≡ laid d 0 (lines_to (form_of l.marked) (take l.count l.lines) (table_of l.frames l.state l.count) l.i))
+    × (length l.out ≡ length l.initial.out)
 
 abbrev pub decreases-loop-i : goal.decreases-loop-i
 decreases-loop-i l = l.count - l.i
