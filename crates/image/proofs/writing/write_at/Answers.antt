@@ -297,7 +297,7 @@ write_items-requires-in-Words c =
     let d = data_here_2 c Words _ _ c.in-Words.is in
     (d.read, d.count, c.requires.0.sound.held.few, d.beside, omega (arith, c.requires.2 (omega (arith, d.some, d.size)), d.size, q_is_3 c))
 
--- a that.before.before.before.before.before.before is gone has no bytes
+-- a slot that is gone has no bytes
 pub returns-in-Gone : goal.returns-in-Gone
 returns-in-Gone c b e =
     let gone_is = none_stands (here_4 c).slots (place_4 c) c.slot_at.result (stands_4 c) c.in-Gone.is in
