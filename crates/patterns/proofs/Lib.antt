@@ -8,3 +8,4 @@ pub mod Folds
 pub mod Order
 pub mod Naming
 pub mod Contexts
+pub mod Trampolines
