@@ -1,21 +1,20 @@
 -- "Show that any two results allowed by the contract coincide": the answer, and every byte of the room. Assumes nothing.
-use mathlib.Core.Path.{◌≡◌, refl, sym, ap, ◌∙◌, subst}
-use mathlib.Core.Logic.{◌⊎◌, inl, inr}
-use mathlib.Core.List.{List, [], ◌∷◌, ◌++◌}
+use mathlib.Core.Path.{◌≡◌, refl, sym, ap, subst}
+use mathlib.Core.List.{List, ◌∷◌}
 use mathlib.Core.Bool.{Bool, true, false}
-use Prim.Native.Nat.{ℕ, suc, ◌+◌, ◌*◌, ◌≤◌, ◌<◌}
+use Prim.Native.Nat.{ℕ, suc, ◌+◌, ◌*◌, ◌≤◌}
 use native.Mathlib.Omega.{arith}
 use lib.Dec.{ltb}
 use lib.IntN.{pos}
-use lib.ListN.{length, take, drop, take-append-drop}
+use lib.ListN.{length, drop, take-append-drop}
 use borrow.Author.Tests.{ltb-true, ltb-false}
 use Rattle.laws.proofs.Tests.{clash, both_ways}
 use Rattle.rules.specs.declared.Answer.{Answer}
 use Rattle.rules.specs.declared.Refusal.{Refusal}
-use Rattle.rules.specs.declared.Refusal.TheVariants.{Limit, Room, Column}
+use Rattle.rules.specs.declared.Refusal.TheVariants.{Column}
 use Rattle.rules.specs.Answers.{at_place, Judged, ok, no}
 use Rattle.rules.specs.Programs.{Stmt, Program}
-use Rattle.rules.specs.Listing.{Line, lines_of}
+use Rattle.rules.specs.Listing.{Line}
 use Rattle.rules.specs.Output.{frame_of}
 use Rattle.grammar.specs.Reading as reading
 use Rattle.grammar.specs.Reading.{WrongAt, Fitting}

@@ -1,18 +1,15 @@
 -- The line that a text begins with, judged in its order: each answer of the code is what `Judges` says. Assumes nothing.
-use mathlib.Core.Path.{◌≡◌, refl, sym, ap, ◌∙◌, subst}
-use mathlib.Core.Bool.{true, false}
+use mathlib.Core.Path.{◌≡◌, sym, ap, ◌∙◌, subst}
+use mathlib.Core.Bool.{true}
 use mathlib.Core.List.{List}
-use Prim.Native.Nat.{ℕ, suc, ◌+◌, ◌*◌, ◌≤◌, ◌<◌}
-use native.Mathlib.Numerals.{add-one}
+use Prim.Native.Nat.{ℕ, ◌+◌, ◌*◌, ◌≤◌, ◌<◌}
 use native.Mathlib.Omega.{arith}
 use lib.IntN.{pos}
 use lib.ListN.{length, take}
 use lib.Seq.{length-take-le}
 use borrow.Author.Tests.{lt-ltb, le-ltb}
 use Rattle.rules.specs.declared.Refusal.TheVariants.{Limit, Column}
-use Rattle.rules.specs.Answers.{at_place, ok, no}
-use Rattle.rules.specs.Programs.{Stmt}
-use Rattle.rules.specs.Output.{frame_of}
+use Rattle.rules.specs.Answers.{at_place, no}
 use Rattle.listing.specs.Lines.{line_length, first_line}
 use Rattle.listing.proofs.FirstLine.{line_within}
 use Rattle.grammar.specs.Reading as reading

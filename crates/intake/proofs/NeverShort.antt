@@ -1,13 +1,12 @@
 -- A room of 49,152 characters and 1,024 line feeds is never too short for a listing that was read. Assumes nothing.
-use mathlib.Core.Path.{◌≡◌, ap, ◌∙◌}
-use mathlib.Core.List.{List, []}
-use Prim.Native.Nat.{ℕ, suc, ◌+◌, ◌*◌, ◌≤◌}
+use mathlib.Core.List.{List}
+use Prim.Native.Nat.{ℕ, ◌+◌, ◌≤◌}
 use native.Mathlib.Omega.{arith}
-use lib.ListN.{length, length-append}
+use lib.ListN.{length}
 use Rattle.rules.specs.Answers.{ok}
 use Rattle.rules.specs.Programs.{Program}
 use Rattle.rules.specs.Listing.{Line, lines_of}
-use Rattle.rules.specs.Output.{frame_of, text_of, lines_in}
+use Rattle.rules.specs.Output.{text_of, lines_in}
 use Rattle.intake.specs.Intake as intake
 use Rattle.intake.specs.Intake.{Takes, listing_of}
 use Rattle.intake.proofs.Steps.{kept, length_front}

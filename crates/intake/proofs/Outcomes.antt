@@ -1,5 +1,5 @@
 -- What the entry leaves, case by case. Assumes nothing.
-use mathlib.Core.Path.{◌≡◌, refl, sym, ap, ◌∙◌, subst}
+use mathlib.Core.Path.{◌≡◌, refl, sym, ap, ◌∙◌}
 use mathlib.Core.Bool.{Bool, true, false, cond}
 use mathlib.Core.List.{List}
 use Prim.Native.Nat.{ℕ, ◌≤◌, ◌<◌}
@@ -11,7 +11,6 @@ use Rattle.rules.specs.declared.Answer.TheVariants.{Done, Refused}
 use Rattle.rules.specs.declared.Refusal.{Refusal}
 use Rattle.rules.specs.declared.Refusal.TheVariants.{Room}
 use Rattle.rules.specs.Answers.{Judged, ok, no}
-use Rattle.rules.specs.Programs.{Program}
 use Rattle.rules.specs.Listing.{lines_of}
 use Rattle.digits.proofs.Left.{refused, written}
 use Rattle.intake.specs.Intake.{Takes, listing_of, in_room, Leaves}

@@ -1,5 +1,5 @@
 -- Whole lines computed from the definitions, on both sides of each edge: the frame, or the column. A theorem says `T test` and is proved by `tt`.
-use mathlib.Core.List.{List, [], ◌∷◌}
+use mathlib.Core.List.{[], ◌∷◌}
 use mathlib.Core.Option.{Option, none, some}
 use mathlib.Core.Bool.{Bool, false, ◌&&◌}
 use Prim.Native.Nat.{ℕ, ◌-◌}

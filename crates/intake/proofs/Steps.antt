@@ -13,13 +13,13 @@ use Rattle.rules.specs.Answers.{Judged, ok, no}
 use Rattle.rules.specs.Programs.{Stmt, Program}
 use Rattle.rules.specs.Listing.{Line, lines_of, old_form}
 use Rattle.rules.specs.Output.{frame_of, line_of, lines_in, text_of}
-use Rattle.listing.specs.Lines.{line_length, after_line, first_line}
+use Rattle.listing.specs.Lines.{after_line, first_line}
 use Rattle.listing.proofs.FirstLine.{lines_are, rest_ended}
 use Rattle.digits.proofs.Rooms.{length_line}
 use Rattle.intake.specs.Intake as intake
 use Rattle.intake.specs.Intake.{Judges, Takes, listing_of}
 use Rattle.intake.specs.Turns.{Framed, Counted}
-use Rattle.intake.proofs.Coincide.{one_judged, one_taken}
+use Rattle.intake.proofs.Coincide.{one_judged}
 
 -- ---- the listing of one statement more
 

@@ -1,5 +1,5 @@
 -- What the code says of one line of a text, and of all lines.
-use Rattle.std.specs.Prelude.{◌≡◌, true, List, ℕ, suc, ◌≤◌, ◌<◌, length, take}
+use Rattle.std.specs.Prelude.{◌≡◌, List, ℕ, suc, ◌≤◌, ◌<◌, length, take}
 use Rattle.rules.specs.Answers.{ok, no}
 use Rattle.rules.specs.Programs.{Placeℕ, Stmt, Program}
 use Rattle.rules.specs.Listing.{lines_of}
