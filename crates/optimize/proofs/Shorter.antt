@@ -13,7 +13,7 @@ use Rattle.laws.specs.Lists.{is_one_of}
 use Rattle.laws.proofs.Tests.{or_true, false_true}
 use Rattle.laws.specs.Options.{or_else, given, first_of, bind}
 use Rattle.rules.specs.Forms.{form_at, is_transfer, operands_at, jmp, jmpf, br, call, callf}
-use Rattle.rules.specs.Programs.{Placeℕ, Stmt, gone, instr, label, variable, comment, org, bytes, words, pad, on_instr, as_instr, args_of, Program, at, kind_of}
+use Rattle.rules.specs.Programs.{Placeℕ, Stmt, gone, instr, label, variable, comment, org, bytes, words, pad, on_instr, as_instr, args_of, Program, kind_of}
 use Rattle.rules.specs.declared.Settings.{Settings}
 use Rattle.rules.specs.Names.{Entry}
 use Rattle.rules.specs.Rewriting.{is_change_jump, no_interior_label_at, candidate, shorter, shrink_at}
