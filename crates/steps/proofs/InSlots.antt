@@ -33,7 +33,7 @@ module _ (t : Slots) (i : Placeℕ) where
   seat_past l = sym (ap seat_of (past_program t i l))
 
   plain : (s : Stmt) → (kind_of s ≡ 1 → ⊥) → seat_of s ≡ none
-  plain = by_instr (λ s. (kind_of s ≡ 1 → ⊥) → seat_of s ≡ none) (λ f xs c n. absurd (n refl)) (λ s e n. other none _ s e)
+  plain = by_instr (λ s. (kind_of s ≡ 1 → ⊥) → seat_of s ≡ none) (λ f xs c n. absurd (n refl)) (λ s e n. other none (λ x. record { form = x.form; carried = x.carried }) s e)
 
   -- no instruction
   pub seat_plain : i < t.count → (kind_of (slot_at t i) ≡ 1 → ⊥) → none ≡ seat_of (at (program_of t) i)
