@@ -1,22 +1,18 @@
--- One argument by its plan, and all of them. Assumes nothing.
+-- One argument by its plan. Assumes nothing.
 use mathlib.Core.Path.{◌≡◌, refl, sym, ap, ◌∙◌, subst}
-use mathlib.Core.List.{List, [], ◌∷◌, ◌++◌, append-nil}
+use mathlib.Core.List.{List, [], ◌∷◌, ◌++◌}
 use mathlib.Core.Option.{none}
 use mathlib.Core.Bool.{Bool, true, false, ◌&&◌, cond}
 use Prim.Native.Nat.{ℕ, zero, suc, ◌+◌, ◌-◌, ◌≤◌, ◌<◌}
-use native.Mathlib.Numerals.{add-one}
 use native.Mathlib.Omega.{arith}
 use lib.Dec.{eqb, leb}
-use lib.ListN.{length, drop, set, length-set, length-drop, drop_of_length-le}
-use lib.Seq.{drop-drop, take-set-lt}
+use lib.ListN.{length, drop, length-drop}
+use lib.Seq.{drop-drop}
 use borrow.Author.Tests.{eqb-true, eqb-false, ne_eqb, le-leb, lt-leb}
-use Rattle.laws.specs.Lists.{each, total}
-use Rattle.laws.proofs.Lists.{each_append, total_append}
 use Rattle.laws.proofs.Tests.{and_both, first_false, second_false, true_false}
 use Rattle.rules.specs.Expressions.{Expr, bytes_of}
 use Rattle.rules.specs.Forms.{operands_at}
-use Rattle.rules.specs.Programs.{Operand, register, value, in_operand, Stmt, instr}
-use Rattle.rules.specs.Output.{operand_bytes, frame_of}
+use Rattle.rules.specs.Programs.{Operand, register, value, Stmt}
 use Rattle.grammar.specs.Reading.{look}
 use Rattle.grammar.specs.Going as going
 use Rattle.grammar.specs.Going.{Read, got, stuck, whole, alone, Goes, class_of, other, start, start_by}
@@ -25,18 +21,14 @@ use Rattle.leaves.specs.declared.Found.TheVariants as found
 use Rattle.plans.specs.Plans as plans
 use Rattle.plans.specs.Plans.{Plan, done, fork, expression, either, Walks}
 use Rattle.plans.specs.Words.{some?}
-use Rattle.plans.specs.Families.{Mark, hash, at, plain, narrow, register_plan, marks, mark_plan, argument, behind, args_plan, family_of}
-use Rattle.laying.specs.Laying.{long, Stands, Added, Termed}
-use Rattle.laying.proofs.Laying.{nothing_stands}
-use Rattle.laying.specs.declared.Told.{Told}
-use Rattle.laying.specs.declared.Told.TheVariants.{Frame, Wrong}
-use Rattle.laying.specs.Speaking.{Spoken}
+use Rattle.plans.specs.Families.{Mark, hash, at, plain, narrow, register_plan, marks, mark_plan, argument, behind, args_plan}
+use Rattle.laying.specs.Laying.{long, Added, Termed}
 use Rattle.laying.proofs.Speaking.{first_byte, fork_byte, fork_wrong}
 use Rattle.arguing.specs.declared.Arg.{Arg}
 use Rattle.arguing.specs.declared.Arg.TheVariants.{Ends, Not}
 use Rattle.marks.specs.Narrowing.{mark_by, mark_number, agree, chosen}
-use Rattle.arguing.specs.Answers.{ArgEnds, Argued, form_bytes, longs, Valued, Registered, FormEnd}
-use Rattle.marks.proofs.Narrowing.{step_law, none_law, some_law, done_law, more_law, at_most_three}
+use Rattle.arguing.specs.Answers.{Argued, Valued, Registered}
+use Rattle.marks.proofs.Narrowing.{step_law, none_law, some_law}
 
 -- ---- no expression begins with a mark
 
@@ -54,16 +46,19 @@ no_expression (b ∷ t) c e q = lift (going.nones (ap (λ x. start_by x b t) (ap
 -- ---- one argument, by what it begins with
 
 module _ (can : Mark → Bool) (f : Mark → Operand → Plan) (s : List ℕ) (k : ℕ) where
-  marked : (b : Bool) (c : ℕ) (o : Read Stmt) → look (drop k s) ≡ suc c → marks can (suc c) ≡ true → Walks (mark_plan f (suc c)) (drop (k + 1) s) o → Walks (argument b can f) (drop k s) o
+  marked : (b : Bool) (c : ℕ) (o : Read Stmt) → look (drop k s) ≡ suc c → marks can (suc c) ≡ true
+      → Walks (mark_plan f (suc c)) (drop (k + 1) s) o → Walks (argument b can f) (drop k s) o
   marked true c o e p w =
       subst (λ t. Walks (either (marks can) (mark_plan f) (λ e. f plain (value e))) t o) (sym (first_byte (drop k s) c e))
       (plans.Walks.marked p (subst (λ t. Walks (mark_plan f (suc c)) t o) (sym (drop-drop 1 k s)) w))
   marked false c o e p w = fork_byte none (marks can) (mark_plan f) s k c o e p w
 
-  pub hash_walk : (b : Bool) (o : Read Stmt) → look (drop k s) ≡ 35 → can hash ≡ true → Walks (expression (λ e. f hash (value e))) (drop (k + 1) s) o → Walks (argument b can f) (drop k s) o
+  pub hash_walk : (b : Bool) (o : Read Stmt) → look (drop k s) ≡ 35 → can hash ≡ true
+      → Walks (expression (λ e. f hash (value e))) (drop (k + 1) s) o → Walks (argument b can f) (drop k s) o
   hash_walk b o e p w = marked b 34 o e (rw p) w
 
-  pub at_walk : (b : Bool) (o : Read Stmt) → look (drop k s) ≡ 64 → can at ≡ true → Walks (register_plan (λ r. f at (register r))) (drop (k + 1) s) o → Walks (argument b can f) (drop k s) o
+  pub at_walk : (b : Bool) (o : Read Stmt) → look (drop k s) ≡ 64 → can at ≡ true
+      → Walks (register_plan (λ r. f at (register r))) (drop (k + 1) s) o → Walks (argument b can f) (drop k s) o
   at_walk b o e p w = marked b 63 o e p w
 
   -- neither mark
@@ -72,14 +67,17 @@ module _ (can : Mark → Bool) (f : Mark → Operand → Plan) (s : List ℕ) (k
 
   pub plain_walk : (e : Expr) (r : List ℕ) (o : Read Stmt) → (look (drop k s) ≡ 35 → ⊥) → (look (drop k s) ≡ 64 → ⊥) → can plain ≡ true
       → Goes (whole 5) (drop k s) (got e r) → Walks (f plain (value e)) r o → Walks (argument (can plain) can f) (drop k s) o
-  plain_walk e r o p q c g w = subst (λ b. Walks (argument b can f) (drop k s) o) (sym c) (plans.Walks.bare (plain_marks (look (drop k s)) p q) g w)
+  plain_walk e r o p q c g w = subst (λ b. Walks (argument b can f) (drop k s) o) (sym c)
+      (plans.Walks.bare (plain_marks (look (drop k s)) p q) g w)
 
   pub plain_stuck : (r : List ℕ) → (look (drop k s) ≡ 35 → ⊥) → (look (drop k s) ≡ 64 → ⊥) → can plain ≡ true
       → Goes (whole 5) (drop k s) (stuck r) → Walks (argument (can plain) can f) (drop k s) (stuck r)
-  plain_stuck r p q c g = subst (λ b. Walks (argument b can f) (drop k s) (stuck r)) (sym c) (plans.Walks.bareless (plain_marks (look (drop k s)) p q) g)
+  plain_stuck r p q c g = subst (λ b. Walks (argument b can f) (drop k s) (stuck r)) (sym c)
+      (plans.Walks.bareless (plain_marks (look (drop k s)) p q) g)
 
   -- nothing goes on so
-  pub none_walk : (b : Bool) → marks can (look (drop k s)) ≡ false → (b ≡ true → Goes (whole 5) (drop k s) (stuck (drop k s))) → Walks (argument b can f) (drop k s) (stuck (drop k s))
+  pub none_walk : (b : Bool) → marks can (look (drop k s)) ≡ false → (b ≡ true → Goes (whole 5) (drop k s) (stuck (drop k s)))
+      → Walks (argument b can f) (drop k s) (stuck (drop k s))
   none_walk true p g = plans.Walks.bareless p (g refl)
   none_walk false p g = fork_wrong (marks can) (mark_plan f) (drop k s) p
 
@@ -125,15 +123,19 @@ module _ (s : List ℕ) (k f j : ℕ) (b a : List ℕ) (at : ℕ) (lf : f < 70) 
   -- none of them goes on with the mark
   pub not_so : (m : ℕ) → Marked (look (drop k s)) m → m < 3 → 69 < chosen f j m → Argued s k f j b a at (Not k)
   unfolding args_plan class_of
-  not_so m w l g =
-      (λ n xs. none_walk Can (λ m x. behind (args_plan n) (narrow m (agree f j)) (xs ++ (x ∷ []))) s k (Can plain) (misses m w (none_law f j m lf lj l g)) (λ c. nothing m w (none_law f j m lf lj l g) c), h)
+  not_so m w l g = (
+    λ n xs. none_walk Can (λ m x. behind (args_plan n) (narrow m (agree f j)) (xs ++ (x ∷ []))) s k (Can plain)
+        (misses m w (none_law f j m lf lj l g)) (λ c. nothing m w (none_law f j m lf lj l g) c),
+    h,
+  )
     where
       misses : (m : ℕ) → Marked (look (drop k s)) m → Can (mark_by m) ≡ false → marks Can (look (drop k s)) ≡ false
       misses m (is_hash e) q = rw (e, q)
       misses m (is_at e) q = rw (e, q)
       misses m (is_plain p r) q = rw (ne_eqb (look (drop k s)) 35 p, ne_eqb (look (drop k s)) 64 r)
 
-      nothing : (m : ℕ) → Marked (look (drop k s)) m → Can (mark_by m) ≡ false → Can plain ≡ true → Goes (whole 5) (drop k s) (stuck (drop k s))
+      nothing : (m : ℕ) → Marked (look (drop k s)) m → Can (mark_by m) ≡ false → Can plain ≡ true
+          → Goes (whole 5) (drop k s) (stuck (drop k s))
       nothing m (is_hash e) q c = no_expression (drop k s) 35 e refl
       nothing m (is_at e) q c = no_expression (drop k s) 64 e refl
       nothing m (is_plain p r) q c = true_false (sym c ∙ q)
@@ -153,25 +155,41 @@ module _ (s : List ℕ) (k f j : ℕ) (b a : List ℕ) (at : ℕ) (lf : f < 70) 
     Next n xs m x = behind (args_plan n) (narrow m (agree f j)) (xs ++ (x ∷ []))
 
     -- what is read behind an argument of the mark
-    next_walk : (n : ℕ) (xs : List Operand) (x : Operand) (t : List ℕ) (o : Read Stmt) → Walks (behind (args_plan n) (agree g (suc j)) (xs ++ (x ∷ []))) t o → Walks (Next n xs (mark_by m) x) t o
+    next_walk : (n : ℕ) (xs : List Operand) (x : Operand) (t : List ℕ) (o : Read Stmt)
+        → Walks (behind (args_plan n) (agree g (suc j)) (xs ++ (x ∷ []))) t o → Walks (Next n xs (mark_by m) x) t o
     next_walk n xs x t o w = subst (λ ws. Walks (behind (args_plan n) ws (xs ++ (x ∷ []))) t o) (sym ways) w
 
-    valued_ends : (k' : ℕ) (x : Expr) (n to : ℕ) → Goes (whole 5) (drop k' s) (got x (drop n s)) → n ≤ length s → Added b a at to (bytes_of x) (long x)
-        → ((i : ℕ) (xs : List Operand) (o : Read Stmt) → Walks (Next i xs (mark_by m) (value x)) (drop n s) o → Walks (args_plan (suc i) (agree f j) xs) (drop k s) o)
+    valued_ends : (k' : ℕ) (x : Expr) (n to : ℕ) → Goes (whole 5) (drop k' s) (got x (drop n s)) → n ≤ length s
+        → Added b a at to (bytes_of x) (long x)
+        → ((i : ℕ) (xs : List Operand) (o : Read Stmt) → Walks (Next i xs (mark_by m) (value x)) (drop n s) o
+        → Walks (args_plan (suc i) (agree f j) xs) (drop k s) o)
         → Argued s k f j b a at (Ends g n to)
     valued_ends k' x n to q l d w =
-        record { x = value x; form = lg; more = left_more; within = l; added = d; leads = λ i xs o v. w i xs o (next_walk i xs (value x) (drop n s) o v) }
+        record {
+          x = value x;
+          form = lg;
+          more = left_more;
+          within = l;
+          added = d;
+          leads =
+              λ i xs o v. w i xs o (next_walk i xs (value x) (drop n s) o v);
+        }
 
-  pub hash_argued : (g : ℕ) (r : Found) → g ≡ chosen f j 0 → g < 70 → look (drop k s) ≡ 35 → Termed s (k + 1) b a at r → Argued s k f j b a at (Valued g r)
+  pub hash_argued : (g : ℕ) (r : Found) → g ≡ chosen f j 0 → g < 70 → look (drop k s) ≡ 35 → Termed s (k + 1) b a at r
+      → Argued s k f j b a at (Valued g r)
   unfolding args_plan
   hash_argued g (found.Ends n to) e l c (x, (q, (z, d))) =
       valued_ends g 0 e (omega arith) l (k + 1) x n to q z d
       (λ i xs o v.
       hash_walk Can (Next g 0 e (omega arith) l i xs) s k (Can plain) o c (can g 0 e (omega arith) l) (plans.Walks.tree q v))
-  hash_argued g (found.Stuck n) e l c (q, z) =
-      (λ i xs. hash_walk Can (Next g 0 e (omega arith) l i xs) s k (Can plain) (stuck (drop n s)) c (can g 0 e (omega arith) l) (plans.Walks.treeless q), z)
+  hash_argued g (found.Stuck n) e l c (q, z) = (
+    λ i xs. hash_walk Can (Next g 0 e (omega arith) l i xs) s k (Can plain) (stuck (drop n s)) c (can g 0 e (omega arith) l)
+        (plans.Walks.treeless q),
+    z,
+  )
 
-  pub plain_argued : (g : ℕ) (r : Found) → g ≡ chosen f j 2 → g < 70 → (look (drop k s) ≡ 35 → ⊥) → (look (drop k s) ≡ 64 → ⊥) → Termed s k b a at r → Argued s k f j b a at (Valued g r)
+  pub plain_argued : (g : ℕ) (r : Found) → g ≡ chosen f j 2 → g < 70 → (look (drop k s) ≡ 35 → ⊥) → (look (drop k s) ≡ 64 → ⊥)
+      → Termed s k b a at r → Argued s k f j b a at (Valued g r)
   unfolding args_plan
   plain_argued g (found.Ends n to) e l p q (x, (y, (z, d))) =
       valued_ends g 2 e (omega arith) l k x n to y z d
@@ -179,7 +197,8 @@ module _ (s : List ℕ) (k f j : ℕ) (b a : List ℕ) (at : ℕ) (lf : f < 70) 
   plain_argued g (found.Stuck n) e l p q (y, z) =
       (λ i xs. plain_stuck Can (Next g 2 e (omega arith) l i xs) s k (drop n s) p q (can g 2 e (omega arith) l) y, z)
 
-  pub at_argued : (g : ℕ) (r : Arg) → g ≡ chosen f j 1 → g < 70 → look (drop k s) ≡ 64 → Registered s (k + 1) g b a at r → Argued s k f j b a at r
+  pub at_argued : (g : ℕ) (r : Arg) → g ≡ chosen f j 1 → g < 70 → look (drop k s) ≡ 64 → Registered s (k + 1) g b a at r
+      → Argued s k f j b a at r
   unfolding args_plan
   at_argued g (Ends i n to) e l c (q, (r, (z, (d, w)))) =
       subst (λ y. Argued s k f j b a at (Ends y n to)) (sym q)
@@ -191,10 +210,14 @@ module _ (s : List ℕ) (k f j : ℕ) (b a : List ℕ) (at : ℕ) (lf : f < 70) 
         added = d;
         leads = λ i xs o v.
             at_walk Can (Next g 1 e (omega arith) l i xs) s k (Can plain) o c (can g 1 e (omega arith) l)
-            (w (λ r. Next g 1 e (omega arith) l i xs (mark_by 1) (register r)) o (next_walk g 1 e (omega arith) l i xs (register r) (drop n s) o v));
+            (w (λ r. Next g 1 e (omega arith) l i xs (mark_by 1) (register r)) o
+            (next_walk g 1 e (omega arith) l i xs (register r) (drop n s) o v));
       })
-  at_argued g (Not n) e l c (w, z) =
-      (λ i xs. at_walk Can (Next g 1 e (omega arith) l i xs) s k (Can plain) (stuck (drop n s)) c (can g 1 e (omega arith) l) (w (λ r. Next g 1 e (omega arith) l i xs (mark_by 1) (register r))), z)
+  at_argued g (Not n) e l c (w, z) = (
+    λ i xs. at_walk Can (Next g 1 e (omega arith) l i xs) s k (Can plain) (stuck (drop n s)) c (can g 1 e (omega arith) l)
+        (w (λ r. Next g 1 e (omega arith) l i xs (mark_by 1) (register r))),
+    z,
+  )
 
 -- ---- a register
 
@@ -213,18 +236,25 @@ byte_past s k d e h = omega (arith, some (drop k s) (omega arith), length-drop k
 
 module _ (s : List ℕ) (k f : ℕ) (b a : List ℕ) (at : ℕ) where
   pub no_letter : k ≤ length s → (look (drop k s) ≡ 82 → ⊥) → Registered s k f b a at (Not k)
-  no_letter h n = (λ next. fork_wrong (λ c. eqb c 82) (λ c. fork none (λ d. leb 48 d && leb d 51) (λ d. next (d - 48))) (drop k s) (ne_eqb (look (drop k s)) 82 n), h)
+  no_letter h n = (
+    λ next. fork_wrong (λ c. eqb c 82) (λ c. fork none (λ d. leb 48 d && leb d 51) (λ d. next (d - 48))) (drop k s)
+        (ne_eqb (look (drop k s)) 82 n),
+    h,
+  )
 
   module _ (e : look (drop k s) ≡ 82) where
-    pub no_digit : k + 1 ≤ length s → leb 48 (look (drop (k + 1) s)) && leb (look (drop (k + 1) s)) 51 ≡ false → Registered s k f b a at (Not (k + 1))
+    pub no_digit : k + 1 ≤ length s → leb 48 (look (drop (k + 1) s)) && leb (look (drop (k + 1) s)) 51 ≡ false
+        → Registered s k f b a at (Not (k + 1))
     no_digit h q = (
       λ next.
-          fork_byte none (λ c. eqb c 82) (λ c. fork none (λ d. leb 48 d && leb d 51) (λ d. next (d - 48))) s k 81 (stuck (drop (k + 1) s)) e refl
+          fork_byte none (λ c. eqb c 82) (λ c. fork none (λ d. leb 48 d && leb d 51) (λ d. next (d - 48))) s k 81 (stuck (drop (k + 1) s)) e
+          refl
           (fork_wrong (λ d. leb 48 d && leb d 51) (λ d. next (d - 48)) (drop (k + 1) s) q),
       h,
     )
 
-    pub is_register : (d to : ℕ) → d ≡ look (drop (k + 1) s) → 48 ≤ d → d ≤ 51 → k + 1 + 1 ≤ length s → Added b a at to ((d - 48) ∷ []) 0 → Registered s k f b a at (Ends f (k + 1 + 1) to)
+    pub is_register : (d to : ℕ) → d ≡ look (drop (k + 1) s) → 48 ≤ d → d ≤ 51 → k + 1 + 1 ≤ length s → Added b a at to ((d - 48) ∷ []) 0
+        → Registered s k f b a at (Ends f (k + 1 + 1) to)
     is_register zero to q l u h w = absurd (omega arith)
     is_register (suc d) to q l u h w = (
       refl,
@@ -236,130 +266,9 @@ module _ (s : List ℕ) (k f : ℕ) (b a : List ℕ) (at : ℕ) where
             w,
             λ next o v.
                 fork_byte none (λ c. eqb c 82) (λ c. fork none (λ d. leb 48 d && leb d 51) (λ d. next (d - 48))) s k 81 o e refl
-                (fork_byte none (λ d. leb 48 d && leb d 51) (λ d. next (d - 48)) s (k + 1) d o (sym q) (and_both (leb 48 (suc d)) (leb (suc d) 51) (le-leb 48 (suc d) l) (le-leb (suc d) 51 u)) v),
+                (fork_byte none (λ d. leb 48 d && leb d 51) (λ d. next (d - 48)) s (k + 1) d o (sym q)
+                (and_both (leb 48 (suc d)) (leb (suc d) 51) (le-leb 48 (suc d) l) (le-leb (suc d) 51 u)) v),
           ),
         ),
       ),
     )
-
--- ---- the form is stored behind the kind
-
-pub form_stands : (b : List ℕ) (f to : ℕ) → length b ≡ 120 → (xs : List Operand) (l : ℕ) → Stands b to (form_bytes 0 xs) l → Stands (set b 1 f) to (form_bytes f xs) l
-form_stands b f to e xs l w =
-    record {
-      size = length-set b 1 f ∙ e;
-      within = w.within;
-      front = λ h.
-          let k : 1 < to = omega (arith, w.ends h) in take-set-lt to b 1 f k ∙ ap (λ x. set x 1 f) (w.front h);
-      ends = w.ends;
-      short = w.short;
-      over = w.over;
-    }
-
--- ---- so far: j arguments are read, and stand; the line is of form f or one that agrees with it
-
-pub record SoFar (form : ℕ) (s : List ℕ) (k : ℕ) (b : List ℕ) (at i f j : ℕ) : Type 0 where
-  pub xs : List Operand
-  pub known : f < 70
-  pub few : j < 3
-  pub stands : Stands b at (form_bytes 0 xs) (longs xs)
-  pub leads : (o : Read Stmt) → Walks (args_plan (3 - j) (agree f j) xs) (drop i s) o → Walks (args_plan 3 (family_of form) []) (drop k s) o
-
-pub none_yet : (form : ℕ) (s : List ℕ) (k : ℕ) (b₀ b₁ b₂ : List ℕ) (p q : ℕ) → form < 70 → length b₀ ≡ 120 → Added b₀ b₁ 0 p (1 ∷ []) 0
-    → Added b₁ b₂ p q (0 ∷ []) 0 → SoFar form s k b₂ q k form 0
-unfolding each total agree
-none_yet form s k b₀ b₁ b₂ p q h e x y =
-    record { xs = []; known = h; few = omega arith; stands = y.adds (1 ∷ []) 0 (x.adds [] 0 (nothing_stands b₀ e)); leads = λ o w. w }
-
-module _ (form : ℕ) (s : List ℕ) (k : ℕ) (b a : List ℕ) (at i f j : ℕ) (w : SoFar form s k b at i f j) (r : Arg) (x : Argued s i f j b a at r) where
-  size : 3 - j ≡ suc (2 - j)
-  size = omega (arith, w.few)
-
-  step : (o : Read Stmt) → Walks (args_plan (suc (2 - j)) (agree f j) w.xs) (drop i s) o → Walks (args_plan 3 (family_of form) []) (drop k s) o
-  step o v = w.leads o (subst (λ n. Walks (args_plan n (agree f j) w.xs) (drop i s) o) (sym size) v)
-
-  pub arg_wrong : (n : ℕ) → r ≡ Not n → Spoken (args_plan 3 (family_of form) []) s k a (Wrong n)
-  arg_wrong n q =
-      let y = subst (λ z. Argued s i f j b a at z) q x in (step (stuck (drop n s)) (y.0 (2 - j) w.xs), y.1)
-
-  module _ (g n to : ℕ) (q : r ≡ Ends g n to) where
-    ends : ArgEnds s i f j b a at g n to
-    ends = subst (λ z. Argued s i f j b a at z) q x
-
-    pub arg_most : n ≤ length s
-    arg_most = ends.within
-
-    pub arg_form : g < 70
-    arg_form = ends.form
-
-    pub arg_size : length a ≡ 120
-    arg_size = ends.added.size
-
-    pub arg_to : to ≤ 121
-    arg_to = ends.added.within
-
-    more : List Operand
-    more = w.xs ++ (ends.x ∷ [])
-
-    more_stands : Stands a to (form_bytes 0 more) (longs more)
-    unfolding more each total
-    more_stands =
-        let y : Operand = ends.x in
-        let v : Stands a to (form_bytes 0 w.xs ++ operand_bytes y) (longs w.xs + in_operand long y) = ends.added.adds (form_bytes 0 w.xs) (longs w.xs) w.stands in
-        let u : in_operand long y ≡ in_operand long y + 0 = omega arith in
-        subst (λ z. Stands a to (1 ∷ 0 ∷ z) (longs (w.xs ++ (y ∷ []))))
-        (ap (λ z. each (λ x. operand_bytes x) w.xs ++ z) (sym (append-nil (operand_bytes y))) ∙ sym (each_append (λ x. operand_bytes x) w.xs (y ∷ [])))
-        (subst (λ l. Stands a to (1 ∷ 0 ∷ (each (λ x. operand_bytes x) w.xs ++ operand_bytes y)) l)
-        (ap (λ z. longs w.xs + z) u ∙ sym (total_append (in_operand long) w.xs (y ∷ []))) v)
-
-    behind_walk : (o : Read Stmt) → Walks (behind (args_plan (2 - j)) (agree g (suc j)) more) (drop n s) o → Walks (args_plan 3 (family_of form) []) (drop k s) o
-    unfolding more
-    behind_walk o v = step o (ends.leads (2 - j) w.xs o v)
-
-    -- the last argument
-    pub arg_last : (c : List ℕ) (z : Told) → length (operands_at g) ≡ j + 1 → FormEnd (length s) n g a c to z → Spoken (args_plan 3 (family_of form) []) s k c z
-    unfolding frame_of
-    arg_last c (Frame m) e (l, (u, v)) =
-        let d = done_law (args_plan (2 - j)) g j more ends.form w.few (e ∙ add-one j) in (
-          instr g more 0,
-          (
-            behind_walk (got (instr g more 0) []) (subst (λ p. Walks p (drop n s) (got (instr g more 0) [])) (sym d) (subst (λ t. Walks (done (instr g more 0)) t (got (instr g more 0) [])) (sym (drop_of_length-le s l)) plans.Walks.last)),
-            subst (λ y. Stands c y (form_bytes g more) (longs more)) (sym u) (v more (longs more) more_stands),
-          ),
-        )
-    arg_last c (Wrong m) e (l, u) =
-        let d = done_law (args_plan (2 - j)) g j more ends.form w.few (e ∙ add-one j) in
-        subst (λ y. Spoken (args_plan 3 (family_of form) []) s k c (Wrong y)) (sym u)
-        (behind_walk (stuck (drop n s)) (subst (λ p. Walks p (drop n s) (stuck (drop n s))) (sym d) (over (instr g more 0) (drop n s) (omega (arith, length-drop n s)))), ends.within)
-      where
-        over : (x : Stmt) (t : List ℕ) → 1 ≤ length t → Walks (done x) t (stuck t)
-        over x [] h = absurd (omega arith)
-        over x (c ∷ t) h = plans.Walks.over
-
-    module _ (e : length (operands_at g) ≡ j + 1 → ⊥) where
-      comma : behind (args_plan (2 - j)) (agree g (suc j)) more ≡ fork none (λ c. eqb c 44) (λ c. args_plan (2 - j) (agree g (suc j)) more)
-      comma = more_law (args_plan (2 - j)) g j more ends.form w.few ends.more (λ z. e (z ∙ sym (add-one j)))
-
-      pub arg_other : (look (drop n s) ≡ 44 → ⊥) → Spoken (args_plan 3 (family_of form) []) s k a (Wrong n)
-      arg_other d = (
-        behind_walk (stuck (drop n s)) (subst (λ p. Walks p (drop n s) (stuck (drop n s))) (sym comma)
-            (fork_wrong (λ c. eqb c 44) (λ c. args_plan (2 - j) (agree g (suc j)) more) (drop n s) (ne_eqb (look (drop n s)) 44 d))),
-        ends.within,
-      )
-
-      pub arg_next : look (drop n s) ≡ 44 → SoFar form s k a to (n + 1) g (j + 1)
-      arg_next d =
-          let u : 3 - (j + 1) ≡ 2 - j = omega (arith, w.few) in
-          record {
-            xs = more;
-            known = ends.form;
-            few = omega (arith, e', ends.more, at_most_three g ends.form);
-            stands = more_stands;
-            leads = λ o v.
-                behind_walk o (subst (λ p. Walks p (drop n s) o) (sym comma)
-                (fork_byte none (λ c. eqb c 44) (λ c. args_plan (2 - j) (agree g (suc j)) more) s n 43 o d refl
-                (subst (λ m. Walks (args_plan (2 - j) (agree g m) more) (drop (n + 1) s) o) (add-one j) (subst (λ m. Walks (args_plan m (agree g (j + 1)) more) (drop (n + 1) s) o) u v))));
-          }
-        where
-          e' : (length (operands_at g) ≡ j + 1) → ⊥
-          e' = e

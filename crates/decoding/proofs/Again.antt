@@ -91,9 +91,11 @@ again : (i : Placeℕ) (j : ℕ) (n : Addressℕ) (d : Kind) (z : ℤ) (v : ℕ)
     → field i j n d z ≡ ok v → Again n d z v
 unfolding field
 again i j n Reg z v m g e = ranged n Reg 4 z v (λ x. refl) refl (omega arith) (g refl) e
-again i j n I8 z v m g e = let t = require_ok (below 256 z) (Range (at_place i) j z) (ok (nat z)) v e in ranged n I8 256 z v (λ x. refl) refl
+again i j n I8 z v m g e = let t = require_ok (below 256 z) (Range (at_place i) j z) (ok (nat z)) v e in
+    ranged n I8 256 z v (λ x. refl) refl
     (omega arith) t.0 t.1
-again i j n D9 z v m g e = let t = require_ok (below 512 z) (Range (at_place i) j z) (ok (nat z)) v e in ranged n D9 512 z v (λ x. refl) refl
+again i j n D9 z v m g e = let t = require_ok (below 512 z) (Range (at_place i) j z) (ok (nat z)) v e in
+    ranged n D9 512 z v (λ x. refl) refl
     (omega arith) t.0 t.1
 again i j n Bit z v m g e = let t = require_ok (below 8 z) (Range (at_place i) j z) (ok (nat z)) v e in ranged n Bit 8 z v (λ x. refl) refl
     (omega arith) t.0 t.1

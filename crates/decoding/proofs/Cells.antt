@@ -26,7 +26,8 @@ module _ (a b c : ℕ) where
   says (digits l n) [] = refl
   says bit (x ∷ s) = at_bit (eqb x 91) (eqb x 32) (says letter s) (says bit s)
     where
-      at_bit : (t u : Bool) → read_pattern a b c letter s ≡ worths (read_cells letter s) → read_pattern a b c bit s ≡ worths (read_cells bit s)
+      at_bit : (t u : Bool) → read_pattern a b c letter s ≡ worths (read_cells letter s)
+          → read_pattern a b c bit s ≡ worths (read_cells bit s)
           → cond t (read_pattern a b c letter s) (cond u ([] ∷ read_pattern a b c bit s) (onto_byte (x - 48) (read_pattern a b c bit s)))
           ≡ worths (cond t (read_cells letter s) (cond u ([] ∷ read_cells bit s) (onto_row (fixed (x - 48)) (read_cells bit s))))
       at_bit true u e d = e
@@ -41,7 +42,8 @@ module _ (a b c : ℕ) where
     where
       at_digit : (t : Bool) → read_pattern a b c bit s ≡ worths (read_cells bit s)
           → read_pattern a b c (digits l (n * 10 + (x - 48))) s ≡ worths (read_cells (digits l (n * 10 + (x - 48))) s)
-          → cond t (onto_byte (argument a b c l / 2 ^ n % 2) (read_pattern a b c bit s)) (read_pattern a b c (digits l (n * 10 + (x - 48))) s)
+          → cond t (onto_byte (argument a b c l / 2 ^ n % 2) (read_pattern a b c bit s))
+          (read_pattern a b c (digits l (n * 10 + (x - 48))) s)
           ≡ worths (cond t (onto_row (held l n) (read_cells bit s)) (read_cells (digits l (n * 10 + (x - 48))) s))
       at_digit true d e = ap (onto_byte (argument a b c l / 2 ^ n % 2)) d ∙ onto (read_cells bit s)
         where

@@ -1,4 +1,5 @@
--- Each byte begins one form (Tables). A form is written as the bytes that it was read from (Rows, Fields), and read again from those that it was
+-- Each byte begins one form (Tables). A form is written as the bytes that it was read from (Rows, Fields), and read again from those that
+-- it was
 -- written as (Written, Again).
 pub mod Bytes
 pub mod Tables

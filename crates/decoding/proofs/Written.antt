@@ -91,14 +91,16 @@ byte_low row h =
     let z : 0 * 2 ^ length row ≡ 0 = omega arith in
     omega (arith, p.is)
 
-flat_back : (rows : List (List ℕ)) → every (λ row. is_row row) rows ≡ true → bits_of (map (λ row. byte_of row) rows) ≡ each (λ row. row) rows
+flat_back : (rows : List (List ℕ)) → every (λ row. is_row row) rows ≡ true
+    → bits_of (map (λ row. byte_of row) rows) ≡ each (λ row. row) rows
 unfolding every each bits_of
 flat_back [] h = refl
 flat_back (r ∷ rs) h =
     let t = and_true (is_row r) (every (λ row. is_row row) rs) h in
     rw (byte_back r t.0, flat_back rs t.1)
 
-pub bytes_low : (rows : List (List ℕ)) → every (λ row. is_row row) rows ≡ true → every (λ b. ltb b 256) (map (λ row. byte_of row) rows) ≡ true
+pub bytes_low : (rows : List (List ℕ)) → every (λ row. is_row row) rows ≡ true
+    → every (λ b. ltb b 256) (map (λ row. byte_of row) rows) ≡ true
 unfolding every
 bytes_low [] h = refl
 bytes_low (r ∷ rs) h =
@@ -212,7 +214,8 @@ module _ (f : ℕ) (l : f < 70) (a b c : ℕ) (rest : List ℕ) where
   rows_good = ap (every (λ row. is_row row)) (cells_say a b c f) ∙ worth_rows a b c (cells_of f) cell_rows
 
   pub written_length : length written ≡ size_at f
-  written_length = length-map rows (λ row. byte_of row) ∙ ap (λ (x : List (List ℕ)). length x) (cells_say a b c f) ∙ length-map (cells_of f) _
+  written_length = length-map rows (λ row. byte_of row) ∙ ap (λ (x : List (List ℕ)). length x) (cells_say a b c f)
+      ∙ length-map (cells_of f) _
       ∙ (shaped f l).rows
 
   pub written_bytes : every (λ b. ltb b 256) written ≡ true

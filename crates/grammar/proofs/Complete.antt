@@ -100,14 +100,16 @@ plain_read n [] d v e = absurd (omega (arith, d.some))
 plain_read n (c ∷ w) d v e =
     leafs {t = c ∷ (w ++ v)} {o = got (num (pos n)) v}
     (rw (class_digit c (first_digit c w d.digits).0)
-    (ap (λ x. leaf (on_got (λ v. num (pos v)) x)) (digits_all 2147483647 0 (c ∷ w) v d.digits (omega (arith, d.is, d.within)) e ∙ ap (λ x. got x v) d.is)))
+    (ap (λ x. leaf (on_got (λ v. num (pos v)) x)) (digits_all 2147483647 0 (c ∷ w) v d.digits (omega (arith, d.is, d.within)) e
+    ∙ ap (λ x. got x v) d.is)))
 
 minus_read : (n : ℕ) (w : List ℕ) → Decimal 2147483648 n w → Complete 0 (num (neg_ℤ (pos n))) (45 ∷ w)
 unfolding start class_of
 minus_read n w d v e =
     leafs {t = 45 ∷ (w ++ v)} {o = got (num (neg_ℤ (pos n))) v}
     (rw (digit_look 2147483648 n w v d)
-    (ap (λ x. leaf (on_got (λ v. num (neg_ℤ (pos v))) x)) (digits_all 2147483648 0 w v d.digits (omega (arith, d.is, d.within)) e ∙ ap (λ x. got x v) d.is)))
+    (ap (λ x. leaf (on_got (λ v. num (neg_ℤ (pos v))) x)) (digits_all 2147483648 0 w v d.digits (omega (arith, d.is, d.within)) e
+    ∙ ap (λ x. got x v) d.is)))
 
 name_read : (n : ℕ) (w v : List ℕ) → length w ≡ 5 → Decimal 32767 n w → fixed 32767 5 0 (w ++ v) ≡ got n v
 name_read n w v l d = fixed_all 32767 5 0 w v d.digits (omega (arith, d.is, d.within)) l ∙ ap (λ x. got x v) d.is
@@ -118,7 +120,8 @@ sign_read o m n e t q x ih v k =
     let y : List ℕ = (spaces n ++ t) ++ v in
     let s : skip y ≡ skip (t ++ v) = ap skip (append_assoc (spaces n) t v) ∙ skip_over n (t ++ v) in
     subst (λ z. Goes alone z (got (one o e) v)) (sym (append_assoc (spaces m) (sign1 o ∷ (spaces n ++ t)) v))
-    (signs {o = got e v} o (sign_starts o m y (touch_look o (spaces n ++ t) y (same n) q)) (subst (λ z. Goes alone z (got e v)) (sym s) (bared (ih v k))))
+    (signs {o = got e v} o (sign_starts o m y (touch_look o (spaces n ++ t) y (same n) q))
+    (subst (λ z. Goes alone z (got e v)) (sym s) (bared (ih v k))))
   where
     same : (n : ℕ) → look (spaces n ++ t) ≡ look ((spaces n ++ t) ++ v)
     same zero = sym (head_look x v)
@@ -147,7 +150,8 @@ gap_none e (suc n) v c = on c.follows
         ap (λ x. cond (not (is_some (infix_of (look x)))) (stuck x) (got e x)) s
         ∙ ap (λ b. cond (not b) (stuck v) (got e v)) h
 
-to_whole : (l : ℕ) (e : Expr) (w : List ℕ) → Complete l e w → (n : ℕ) (v : List ℕ) → Below (suc l) v → Clear n v → Goes (whole l) (w ++ (spaces n ++ v)) (got e v)
+to_whole : (l : ℕ) (e : Expr) (w : List ℕ) → Complete l e w → (n : ℕ) (v : List ℕ) → Below (suc l) v → Clear n v
+    → Goes (whole l) (w ++ (spaces n ++ v)) (got e v)
 to_whole zero e w ih n v b c = subst (λ x. Goes (whole 0) (w ++ (spaces n ++ v)) x) (gap_none e n v c) (ends (ih (spaces n ++ v) (clear n)))
   where
     clear : (n : ℕ) → is_decimal (look (spaces n ++ v)) ≡ false
@@ -181,7 +185,8 @@ joined_read l o m n e d s t h ih jh k v out b c g =
     subst (λ y. Goes (whole (suc l)) y out) (sym (four s (spaces m) (spaces n) t (spaces k ++ v)))
     (ih m (sign2 o ∷ (spaces n ++ y)) out (λ j q. op_other j o (λ p. omega arith))
     (record { digit = sign_digit o; space = sign_space o; follows = inr (ap is_some (infix_sign o)) })
-    (agains {q = v} {d = d} o (op_at_lem (suc l) o h) (subst (λ y. Goes (whole l) y (got d v)) (sym z) (bared (to_whole l d t jh k v b c))) g))
+    (agains {q = v} {d = d} o (op_at_lem (suc l) o h) (subst (λ y. Goes (whole l) y (got d v)) (sym z) (bared (to_whole l d t jh k v b c)))
+    g))
   where
     four : (s a b c v : List ℕ) → (s ++ (a ++ (sign2 o ∷ (b ++ c)))) ++ v ≡ s ++ (a ++ (sign2 o ∷ (b ++ (c ++ v))))
     four s a b c v = simp append_assoc
@@ -189,7 +194,8 @@ joined_read l o m n e d s t h ih jh k v out b c g =
 pub complete : {l : ℕ} {e : Expr} {w : List ℕ} → Exp l e w → Complete l e w
 complete (number (reading.plain {v = n} {t = t} d)) = plain_read n t d
 complete (number (reading.minus {v = n} {t = t} d)) = minus_read n t d
-complete (named (reading.global {n = n} {t = t} l d)) = λ v k. leafs (start_global (t ++ v) ∙ ap (λ x. leaf (on_got (λ n. name n) x)) (name_read n t v l d))
+complete (named (reading.global {n = n} {t = t} l d)) = λ v k. leafs (start_global (t ++ v)
+    ∙ ap (λ x. leaf (on_got (λ n. name n) x)) (name_read n t v l d))
 complete (named (reading.local {n = n} {t = t} l d)) =
     λ v k. leafs (start_local (t ++ v) ∙ ap (λ x. leaf (on_got (λ n. name (0x8000 + n)) x)) (name_read n t v l d))
 complete (signed {e = e} {t = t} o m n q x) = sign_read o m n e t q x (complete x)
@@ -206,7 +212,8 @@ pub record Stop (v : List ℕ) : Type 0 where
 
 pub read_whole : {e : Expr} {w : List ℕ} → Exp 5 e w → (v : List ℕ) → Stop v → Goes (whole 5) (w ++ v) (got e v)
 read_whole {e} {w} x v s =
-    complete x 0 v (got e v) (λ k h. rw s.operator) (record { digit = s.digit; space = s.space; follows = inl refl }) (stops (rw s.operator))
+    complete x 0 v (got e v) (λ k h. rw s.operator) (record { digit = s.digit; space = s.space; follows = inl refl })
+    (stops (rw s.operator))
 
 stop_end : Stop []
 unfolding infix_of

@@ -61,14 +61,17 @@ module _ (g : Mode → List ℕ → Option (Read Expr)) (sound : (m : Mode) (t :
       on (some y) z e = subst (λ x. Goes alone t x) (some_is (on_got (one s) y) o e) (signs s q (sound alone (skip r) y z))
   by_start_lem (nothing r) t o q e = subst (λ x. Goes alone t x) (some_is (stuck r) o e) (nones q)
 
-  by_op_lem : (x : Option Op2) (l : ℕ) (e : Expr) (r : List ℕ) (o : Read Expr) → op_at (suc l) (look r) ≡ x → by_op g x l e r ≡ some o → Goes (rest l e) r o
+  by_op_lem : (x : Option Op2) (l : ℕ) (e : Expr) (r : List ℕ) (o : Read Expr) → op_at (suc l) (look r) ≡ x → by_op g x l e r ≡ some o
+      → Goes (rest l e) r o
   by_op_lem none l e r o q h = subst (λ x. Goes (rest l e) r x) (some_is (got e r) o h) (stops q)
   by_op_lem (some p) l e r o q h = on (g (whole l) (skip (drop 1 r))) refl h
     where
-      on : (a : Option (Read Expr)) → g (whole l) (skip (drop 1 r)) ≡ a → then a (λ d q. g (rest l (two p e d)) q) ≡ some o → Goes (rest l e) r o
+      on : (a : Option (Read Expr)) → g (whole l) (skip (drop 1 r)) ≡ a → then a (λ d q. g (rest l (two p e d)) q) ≡ some o
+          → Goes (rest l e) r o
       on none z h = clash (cc)
       on (some (got d y)) z h = agains p q (sound (whole l) (skip (drop 1 r)) (got d y) z) (sound (rest l (two p e d)) y o h)
-      on (some (stuck y)) z h = subst (λ x. Goes (rest l e) r x) (some_is (stuck y) o h) (breaks p q (sound (whole l) (skip (drop 1 r)) (stuck y) z))
+      on (some (stuck y)) z h = subst (λ x. Goes (rest l e) r x) (some_is (stuck y) o h)
+          (breaks p q (sound (whole l) (skip (drop 1 r)) (stuck y) z))
 
   by_mode_lem : (m : Mode) (t : List ℕ) (o : Read Expr) → by_mode g m t ≡ some o → Goes m t o
   by_mode_lem alone t o e = by_start_lem (start t) t o refl e

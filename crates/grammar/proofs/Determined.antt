@@ -92,7 +92,8 @@ determined (stops {r = r} {e = e} {l = l} q) x g = sym (subst (λ y. ByOp y l e 
 determined (agains {r = r} {q = q} {e = e} {d = d} {l = l} {o = o} p z g h) x k =
     on (subst (λ y. ByOp y l e r x) z (inv k)) (λ y w. determined g y w) (λ w. determined h x w)
   where
-    on : ByOp (some p) l e r x → ((y : Read Expr) → Goes (whole l) (skip (drop 1 r)) y → got d q ≡ y) → (Goes (rest l (two p e d)) q x → o ≡ x) → o ≡ x
+    on : ByOp (some p) l e r x → ((y : Read Expr) → Goes (whole l) (skip (drop 1 r)) y → got d q ≡ y)
+        → (Goes (rest l (two p e d)) q x → o ≡ x) → o ≡ x
     on (inl (d, (q, (k, z)))) same more = more (subst (λ y. Going l (λ a. two p e a) x y) (sym (same (got d q) k)) z)
     on (inr (q, (k, z))) same more = let b = same (stuck q) k in clash (cc)
 determined (breaks {r = r} {q = q} {e = e} {l = l} p z g) x k = on (subst (λ y. ByOp y l e r x) z (inv k)) (λ y w. determined g y w)

@@ -35,7 +35,8 @@ unfolding digits
 digits_stop most v [] e = refl
 digits_stop most v (d ∷ t) e = rw e
 
-pub digits_step : (most v d : ℕ) (t : List ℕ) → is_decimal d ≡ true → leb (next v d) most ≡ true → digits most v (d ∷ t) ≡ digits most (next v d) t
+pub digits_step : (most v d : ℕ) (t : List ℕ) → is_decimal d ≡ true → leb (next v d) most ≡ true
+    → digits most v (d ∷ t) ≡ digits most (next v d) t
 unfolding digits
 digits_step most v d t e f = rw (e, f)
 
@@ -71,7 +72,8 @@ unfolding digits worth every
 fine_digits most v [] h = idle [] (refl, (refl, h)) (λ u k. digits_stop most v u (ap is_decimal (sym k)))
 fine_digits most v (d ∷ t) h = on (is_decimal d) refl (leb (next v d) most) refl (λ k. fine_digits most (next v d) t k)
   where
-    on : (b : Bool) → is_decimal d ≡ b → (c : Bool) → leb (next v d) most ≡ c → (next v d ≤ most → FineDigits most (next v d) t (digits most (next v d) t))
+    on : (b : Bool) → is_decimal d ≡ b → (c : Bool) → leb (next v d) most ≡ c
+        → (next v d ≤ most → FineDigits most (next v d) t (digits most (next v d) t))
         → FineDigits most v (d ∷ t) (cond b (cond c (digits most (next v d) t) (stuck (d ∷ t))) (got v (d ∷ t)))
     on true p true q ih = push_digit most v d t p q (digits most (next v d) t) (ih (leb-true (next v d) most q))
     on true p false q ih = idle (d ∷ t) (refl, h) (λ u k. digits_over most v d u p q k)
@@ -83,7 +85,8 @@ unfolding worth
 worth_up v [] = omega arith
 worth_up v (d ∷ t) = omega (arith, worth_up (next v d) t)
 
-pub digits_all : (most v : ℕ) (w r : List ℕ) → AllDigits w → worth v w ≤ most → is_decimal (look r) ≡ false → digits most v (w ++ r) ≡ got (worth v w) r
+pub digits_all : (most v : ℕ) (w r : List ℕ) → AllDigits w → worth v w ≤ most → is_decimal (look r) ≡ false
+    → digits most v (w ++ r) ≡ got (worth v w) r
 unfolding worth
 digits_all most v [] r p h e = digits_stop most v r e
 digits_all most v (d ∷ w) r p h e =
@@ -135,7 +138,8 @@ abbrev pub FineFixed : (most k v : ℕ) → List ℕ → Read ℕ → Type 0
 FineFixed most k v t (got n r) = Took t r (λ w. Full most k v n w) (λ x u. fixed most k v x ≡ got n u)
 FineFixed most k v t (stuck r) = Took t r (λ w. Part most k v w) (λ x u. fixed most k v x ≡ stuck u)
 
-push_fixed : (most k v d : ℕ) (t : List ℕ) → may most k v d ≡ true → (o : Read ℕ) → FineFixed most k (next v d) t o → FineFixed most (suc k) v (d ∷ t) o
+push_fixed : (most k v d : ℕ) (t : List ℕ) → may most k v d ≡ true → (o : Read ℕ) → FineFixed most k (next v d) t o
+    → FineFixed most (suc k) v (d ∷ t) o
 unfolding worth
 push_fixed most k v d t p (got n r) a =
     let q = and_true (is_decimal d) (leb (next v d * tens k) most) p in

@@ -49,7 +49,8 @@ Fine alone t (stuck r) = Took t r (λ w. Can 0 w) (λ x u. Goes alone x (stuck u
 Fine (whole l) t (got e r) = Took t r (λ w. Trails l e r w) (λ x u. Goes (whole l) x (got e u))
 Fine (whole l) t (stuck r) = Took t r (λ w. Ahead l w) (λ x u. Goes (whole l) x (stuck u))
 Fine (rest l d) t (got e r) =
-    Took t r (λ w. (s : List ℕ) (n : ℕ) → Exp (suc l) d s → (n ≡ 0) ⊎ HasOp t → Trails (suc l) e r (s ++ (spaces n ++ w))) (λ x u. Goes (rest l d) x (got e u))
+    Took t r (λ w. (s : List ℕ) (n : ℕ) → Exp (suc l) d s → (n ≡ 0) ⊎ HasOp t
+    → Trails (suc l) e r (s ++ (spaces n ++ w))) (λ x u. Goes (rest l d) x (got e u))
 Fine (rest l d) t (stuck r) =
     Took t r (λ w. (s : List ℕ) (n : ℕ) → Exp (suc l) d s → Ahead (suc l) (s ++ (spaces n ++ w))) (λ x u. Goes (rest l d) x (stuck u))
 
@@ -73,7 +74,8 @@ can_5 w (behind e text n p x) =
       more = 124 ∷ (48 ∷ []);
       tree = two Or e (num (pos 0));
       good =
-          subst (λ y. Exp 5 (two Or e (num (pos 0))) y) (sym (ap (λ y. y ++ (124 ∷ (48 ∷ []))) p ∙ append_assoc text (spaces n) (124 ∷ (48 ∷ []))))
+          subst (λ y. Exp 5 (two Or e (num (pos 0))) y) (sym (ap (λ y. y ++ (124 ∷ (48 ∷ []))) p
+          ∙ append_assoc text (spaces n) (124 ∷ (48 ∷ []))))
           (joined Or n 0 refl x (tighter (tighter (tighter (tighter nought)))));
     }
 
@@ -126,7 +128,8 @@ closes x e (c ∷ z) true q a =
     closed w v p g = subst (λ y. Exp 0 e (y ++ (c ∷ []))) (sym p) (subst (λ y. Exp 0 e (40 ∷ (v ++ (y ∷ [])))) (sym f) (parens g))
 closes x e r false q a =
     push 40 x r a (λ w s m. in_brackets w (can_5 w (trails_ahead 5 e r w m)))
-    (λ y u k k' g. subst (λ b. Goes alone (40 ∷ y) (cond b (got e (drop 1 u)) (stuck u))) (ap (λ c. eqb c 41) (sym k') ∙ q) (opens (paren_starts y) g))
+    (λ y u k k' g. subst (λ b. Goes alone (40 ∷ y) (cond b (got e (drop 1 u)) (stuck u))) (ap (λ c. eqb c 41) (sym k')
+    ∙ q) (opens (paren_starts y) g))
 
 open_fine : (x : List ℕ) (o : Read Expr) → Fine (whole 5) x o → Fine alone (40 ∷ x) (close o)
 open_fine x (got e r) a = closes x e r (eqb (look r) 41) refl a
@@ -148,7 +151,8 @@ sign_fine : (s : Op1) (m : ℕ) (x : List ℕ) → touches s x ≡ false → (o 
 sign_fine s m x e (got d r) a =
     leading {P = λ w. Exp 0 (one s d) w} {G = λ y u. Goes alone y (got (one s d) u)} m (sign1 s ∷ x) r
     (push {G = λ y u. Goes alone (skip y) (got d u)} (sign1 s) x r
-    (spaced {Q = λ w. (n : ℕ) × ((v : List ℕ) × ((w ≡ spaces n ++ v) × Exp 0 d v))} {H = λ y u. Goes alone (skip y) (got d u)} x r a (λ n w q p. (n, (w, (refl, p)))) (λ y u k k' g. g))
+    (spaced {Q = λ w. (n : ℕ) × ((v : List ℕ) × ((w ≡ spaces n ++ v) × Exp 0 d v))} {H = λ y u. Goes alone (skip y) (got d u)} x r a
+    (λ n w q p. (n, (w, (refl, p)))) (λ y u k k' g. g))
     (λ w q p. means w p.0 p.1.0 q p.1.1.0 p.1.1.1) (λ y u k k' g. sign_goes s x y (got d u) e k g m))
   where
     means : (w : List ℕ) (n : ℕ) (v : List ℕ) → x ≡ w ++ r → w ≡ spaces n ++ v → Exp 0 d v → Exp 0 (one s d) (spaces m ++ (sign1 s ∷ w))
@@ -162,7 +166,8 @@ sign_fine s m x e (got d r) a =
 sign_fine s m x e (stuck r) a =
     leading {P = λ w. Can 0 w} {G = λ y u. Goes alone y (stuck u)} m (sign1 s ∷ x) r
     (push {G = λ y u. Goes alone (skip y) (stuck u)} (sign1 s) x r
-    (spaced {Q = λ w. (n : ℕ) × ((v : List ℕ) × ((w ≡ spaces n ++ v) × Can 0 v))} {H = λ y u. Goes alone (skip y) (stuck u)} x r a (λ n w q p. (n, (w, (refl, p)))) (λ y u k k' g. g))
+    (spaced {Q = λ w. (n : ℕ) × ((v : List ℕ) × ((w ≡ spaces n ++ v) × Can 0 v))} {H = λ y u. Goes alone (skip y) (stuck u)} x r a
+    (λ n w q p. (n, (w, (refl, p)))) (λ y u k k' g. g))
     (λ w q p. subst (λ y. Can 0 (spaces m ++ (sign1 s ∷ y))) (sym p.1.1.0) (means p.0 p.1.0 (q ∙ ap (λ y. y ++ r) p.1.1.0) p.1.1.1))
     (λ y u k k' g. sign_goes s x y (stuck u) e k g m))
   where
@@ -190,13 +195,15 @@ sign_fine s m x e (stuck r) a =
 
 -- nothing that an operand begins with: behind spaces a sign could stand, and behind them and a minus a space
 blank_can : (w : List ℕ) (n : ℕ) → (w ≡ spaces n) ⊎ (w ≡ spaces n ++ (45 ∷ [])) → Can 0 w
-blank_can w n (inl p) = subst (λ y. Can 0 y) (sym p) (record { more = 62 ∷ (48 ∷ []); tree = one Upper (num (pos 0)); good = signed Upper n 0 refl nought })
+blank_can w n (inl p) = subst (λ y. Can 0 y) (sym p)
+    (record { more = 62 ∷ (48 ∷ []); tree = one Upper (num (pos 0)); good = signed Upper n 0 refl nought })
 blank_can w n (inr p) =
     subst (λ y. Can 0 y) (sym p)
     (record {
       more = 32 ∷ (48 ∷ []);
       tree = one Negate (num (pos 0));
-      good = subst (λ y. Exp 0 (one Negate (num (pos 0))) y) (sym (append_assoc (spaces n) (45 ∷ []) (32 ∷ (48 ∷ [])))) (signed Negate n 1 refl nought);
+      good = subst (λ y. Exp 0 (one Negate (num (pos 0))) y) (sym (append_assoc (spaces n) (45 ∷ []) (32 ∷ (48 ∷ []))))
+          (signed Negate n 1 refl nought);
     })
 
 none_fine : (t r : List ℕ) → start t ≡ nothing r → Fine alone t (stuck r)
@@ -207,13 +214,16 @@ none_fine t r e = turn t r (start_nothing t r e) (λ w s p. blank_can w p.0 p.1)
 abbrev tested : List ℕ → List ℕ → Bool
 tested r q = eqb (look r) 32 && not (is_some (infix_of (look q)))
 
-gap_fine : (t : List ℕ) (e : Expr) (r : List ℕ) → Fine alone t (got e r) → (b : Bool) → tested r (skip r) ≡ b → Fine (whole 0) t (cond b (stuck (skip r)) (got e (skip r)))
+gap_fine : (t : List ℕ) (e : Expr) (r : List ℕ) → Fine alone t (got e r) → (b : Bool) → tested r (skip r) ≡ b
+    → Fine (whole 0) t (cond b (stuck (skip r)) (got e (skip r)))
 gap_fine t e r a b q = on b q
   where
-    goes : (b : Bool) → tested r (skip r) ≡ b → (x y u : List ℕ) → look r ≡ look y → look (skip r) ≡ look u → skip y ≡ u → Goes alone x (got e y)
+    goes : (b : Bool) → tested r (skip r) ≡ b → (x y u : List ℕ) → look r ≡ look y → look (skip r) ≡ look u → skip y ≡ u
+        → Goes alone x (got e y)
         → Goes (whole 0) x (cond b (stuck u) (got e u))
     goes b q x y u k m s g =
-        subst (λ b. Goes (whole 0) x (cond b (stuck u) (got e u))) (ap (λ c. eqb c 32 && not (is_some (infix_of (look u)))) (sym k) ∙ ap (λ c. eqb (look r) 32 && not (is_some (infix_of c))) (sym m) ∙ q)
+        subst (λ b. Goes (whole 0) x (cond b (stuck u) (got e u))) (ap (λ c. eqb c 32 && not (is_some (infix_of (look u)))) (sym k)
+        ∙ ap (λ c. eqb (look r) 32 && not (is_some (infix_of c))) (sym m) ∙ q)
         (subst (λ v. Goes (whole 0) x (cond (tested y v) (stuck v) (got e v))) s (ends g))
 
     on : (b : Bool) → tested r (skip r) ≡ b → Fine (whole 0) t (cond b (stuck (skip r)) (got e (skip r)))
@@ -222,16 +232,19 @@ gap_fine t e r a b q = on b q
       where
         follows : (n : ℕ) → r ≡ spaces n ++ skip r → (n ≡ 0) ⊎ HasOp (skip r)
         follows zero s = inl refl
-        follows (suc n) s = inr (not-false (is_some (infix_of (look (skip r)))) (subst (λ c. eqb c 32 && not (is_some (infix_of (look (skip r)))) ≡ false) (ap look s) q))
+        follows (suc n) s = inr (not-false (is_some (infix_of (look (skip r))))
+            (subst (λ c. eqb c 32 && not (is_some (infix_of (look (skip r)))) ≡ false) (ap look s) q))
 
 -- ---- chains
 
 -- an expression of level l, and what follows it in a chain of level l + 1
-chain_fine : (l : ℕ) (t : List ℕ) (e : Expr) (r : List ℕ) (o : Read Expr) → Fine (whole l) t (got e r) → Fine (rest l e) r o → Fine (whole (suc l)) t o
+chain_fine : (l : ℕ) (t : List ℕ) (e : Expr) (r : List ℕ) (o : Read Expr) → Fine (whole l) t (got e r) → Fine (rest l e) r o
+    → Fine (whole (suc l)) t o
 chain_fine l t e r (got d q) a b =
     after t r q a b
     (λ w v s m f.
-    subst (λ y. Trails (suc l) d q y) (sym (ap (λ y. y ++ v) m.is ∙ append_assoc m.text (spaces m.n) v)) (f m.text m.n (tighter m.good) m.follows))
+    subst (λ y. Trails (suc l) d q y) (sym (ap (λ y. y ++ v) m.is ∙ append_assoc m.text (spaces m.n) v))
+    (f m.text m.n (tighter m.good) m.follows))
     (λ x y u k k' g h. firsts g h)
 chain_fine l t e r (stuck q) a b =
     after t r q a b
@@ -248,17 +261,21 @@ stop_fine l e r q =
 regroup : (s a b c d v : List ℕ) (o : ℕ) → (s ++ (a ++ (o ∷ (b ++ c)))) ++ (d ++ v) ≡ s ++ (a ++ (o ∷ (b ++ ((c ++ d) ++ v))))
 regroup s a b c d v o = simp append_assoc
 
-again_fine : (l : ℕ) (p : Op2) (e : Expr) (x : List ℕ) (d : Expr) (q : List ℕ) (o : Read Expr) → level_of p ≡ suc l → Fine (whole l) (skip x) (got d q)
+again_fine : (l : ℕ) (p : Op2) (e : Expr) (x : List ℕ) (d : Expr) (q : List ℕ) (o : Read Expr) → level_of p ≡ suc l
+    → Fine (whole l) (skip x) (got d q)
     → Fine (rest l (two p e d)) q o → Fine (rest l e) (sign2 p ∷ x) o
 again_fine l p e x d q (got e' r) h a b =
     push (sign2 p) x r
-    (spaced {Q = λ w. (m : ℕ) × ((v : List ℕ) × ((w ≡ spaces m ++ v) × ((s : List ℕ) (n k : ℕ) → Exp (suc l) e s → Trails (suc l) e' r (s ++ (spaces n ++ (sign2 p ∷ (spaces k ++ v)))))))}
+    (spaced {Q = λ w. (m : ℕ)
+    × ((v : List ℕ) × ((w ≡ spaces m ++ v) × ((s : List ℕ) (n k : ℕ) → Exp (suc l) e s
+    → Trails (suc l) e' r (s ++ (spaces n ++ (sign2 p ∷ (spaces k ++ v)))))))}
     {H = λ y u. (z : List ℕ) × (Goes (whole l) (skip y) (got d z) × Goes (rest l (two p e d)) z (got e' u))} x r
     (after {R = λ w. (s : List ℕ) (n m : ℕ) → Exp (suc l) e s → Trails (suc l) e' r (s ++ (spaces n ++ (sign2 p ∷ (spaces m ++ w))))}
     {I = λ y u. (z : List ℕ) × (Goes (whole l) y (got d z) × Goes (rest l (two p e d)) z (got e' u))} (skip x) q r a b
     (λ w v z t f s n m g.
     subst (λ y. Trails (suc l) e' r y)
-    (regroup s (spaces n) (spaces m) t.text (spaces t.n) v (sign2 p) ∙ ap (λ y. s ++ (spaces n ++ (sign2 p ∷ (spaces m ++ (y ++ v))))) (sym t.is))
+    (regroup s (spaces n) (spaces m) t.text (spaces t.n) v (sign2 p)
+    ∙ ap (λ y. s ++ (spaces n ++ (sign2 p ∷ (spaces m ++ (y ++ v))))) (sym t.is))
     (f (s ++ (spaces n ++ (sign2 p ∷ (spaces m ++ t.text)))) t.n (joined p n m h g t.good) t.follows))
     (λ y z u k k' g g'. (z, (g, g'))))
     (λ m w z f. (m, (w, (refl, f)))) (λ y u k k' g. g))
@@ -266,40 +283,48 @@ again_fine l p e x d q (got e' r) h a b =
     (λ y u k k' g. agains p (op_at_lem (suc l) p h) g.1.0 g.1.1)
 again_fine l p e x d q (stuck r) h a b =
     push (sign2 p) x r
-    (spaced {Q = λ w. (m : ℕ) × ((v : List ℕ) × ((w ≡ spaces m ++ v) × ((s : List ℕ) (n k : ℕ) → Exp (suc l) e s → Ahead (suc l) (s ++ (spaces n ++ (sign2 p ∷ (spaces k ++ v)))))))}
+    (spaced {Q = λ w. (m : ℕ)
+    × ((v : List ℕ) × ((w ≡ spaces m ++ v) × ((s : List ℕ) (n k : ℕ) → Exp (suc l) e s
+    → Ahead (suc l) (s ++ (spaces n ++ (sign2 p ∷ (spaces k ++ v)))))))}
     {H = λ y u. (z : List ℕ) × (Goes (whole l) (skip y) (got d z) × Goes (rest l (two p e d)) z (stuck u))} x r
     (after {R = λ w. (s : List ℕ) (n m : ℕ) → Exp (suc l) e s → Ahead (suc l) (s ++ (spaces n ++ (sign2 p ∷ (spaces m ++ w))))}
     {I = λ y u. (z : List ℕ) × (Goes (whole l) y (got d z) × Goes (rest l (two p e d)) z (stuck u))} (skip x) q r a b
     (λ w v z t f s n m g.
     subst (λ y. Ahead (suc l) y)
-    (regroup s (spaces n) (spaces m) t.text (spaces t.n) v (sign2 p) ∙ ap (λ y. s ++ (spaces n ++ (sign2 p ∷ (spaces m ++ (y ++ v))))) (sym t.is))
+    (regroup s (spaces n) (spaces m) t.text (spaces t.n) v (sign2 p)
+    ∙ ap (λ y. s ++ (spaces n ++ (sign2 p ∷ (spaces m ++ (y ++ v))))) (sym t.is))
     (f (s ++ (spaces n ++ (sign2 p ∷ (spaces m ++ t.text)))) t.n (joined p n m h g t.good)))
     (λ y z u k k' g g'. (z, (g, g'))))
     (λ m w z f. (m, (w, (refl, f)))) (λ y u k k' g. g))
     (λ w z m. λ s n g. subst (λ y. Ahead (suc l) (s ++ (spaces n ++ (sign2 p ∷ y)))) (sym m.1.1.0) (m.1.1.1 s n m.0 g))
     (λ y u k k' g. agains p (op_at_lem (suc l) p h) g.1.0 g.1.1)
 
-break_fine : (l : ℕ) (p : Op2) (e : Expr) (x q : List ℕ) → level_of p ≡ suc l → Fine (whole l) (skip x) (stuck q) → Fine (rest l e) (sign2 p ∷ x) (stuck q)
+break_fine : (l : ℕ) (p : Op2) (e : Expr) (x q : List ℕ) → level_of p ≡ suc l → Fine (whole l) (skip x) (stuck q)
+    → Fine (rest l e) (sign2 p ∷ x) (stuck q)
 break_fine l p e x q h a =
     push (sign2 p) x q
-    (spaced {Q = λ w. (m : ℕ) × ((v : List ℕ) × ((w ≡ spaces m ++ v) × Ahead l v))} {H = λ y u. Goes (whole l) (skip y) (stuck u)} x q a (λ m w z f. (m, (w, (refl, f)))) (λ y u k k' g. g))
+    (spaced {Q = λ w. (m : ℕ) × ((v : List ℕ) × ((w ≡ spaces m ++ v) × Ahead l v))} {H = λ y u. Goes (whole l) (skip y) (stuck u)} x q a
+    (λ m w z f. (m, (w, (refl, f)))) (λ y u k k' g. g))
     (λ w z m. λ s n g. subst (λ y. Ahead (suc l) (s ++ (spaces n ++ (sign2 p ∷ y)))) (sym m.1.1.0) (ahead s n m.0 m.1.0 g m.1.1.1))
     (λ y u k k' g. breaks p (op_at_lem (suc l) p h) g)
   where
     three : (s a b c v : List ℕ) (o : ℕ) → (s ++ (a ++ (o ∷ (b ++ c)))) ++ v ≡ s ++ (a ++ (o ∷ (b ++ (c ++ v))))
     three s a b c v o = simp append_assoc
 
-    ahead : (s : List ℕ) (n m : ℕ) (v : List ℕ) → Exp (suc l) e s → Ahead l v → Ahead (suc l) (s ++ (spaces n ++ (sign2 p ∷ (spaces m ++ v))))
+    ahead : (s : List ℕ) (n m : ℕ) (v : List ℕ) → Exp (suc l) e s → Ahead l v
+        → Ahead (suc l) (s ++ (spaces n ++ (sign2 p ∷ (spaces m ++ v))))
     ahead s n m v g (inside c) =
         inside
         (record {
           more = c.more;
           tree = two p e c.tree;
-          good = subst (λ y. Exp (suc l) (two p e c.tree) y) (sym (three s (spaces n) (spaces m) v c.more (sign2 p))) (joined p n m h g c.good);
+          good = subst (λ y. Exp (suc l) (two p e c.tree) y) (sym (three s (spaces n) (spaces m) v c.more (sign2 p)))
+              (joined p n m h g c.good);
         })
     ahead s n m v g (behind d text k z x) =
         behind (two p e d) (s ++ (spaces n ++ (sign2 p ∷ (spaces m ++ text)))) k
-        (ap (λ y. s ++ (spaces n ++ (sign2 p ∷ (spaces m ++ y)))) z ∙ sym (three s (spaces n) (spaces m) text (spaces k) (sign2 p))) (joined p n m h g x)
+        (ap (λ y. s ++ (spaces n ++ (sign2 p ∷ (spaces m ++ y)))) z ∙ sym (three s (spaces n) (spaces m) text (spaces k) (sign2 p)))
+        (joined p n m h g x)
 
 -- ---- the whole
 

@@ -59,11 +59,13 @@ module _ (s : List ℕ) (most v i : ℕ) where
   pub digits_end : length s ≤ i → digits most v (drop i s) ≡ got v (drop i s)
   digits_end h = digits_stop most v (drop i s) (ap is_decimal (look_end s i h))
 
-  pub digits_go : i < length s → is_decimal (get_or s i 0) ≡ true → next v (get_or s i 0) ≤ most → digits most v (drop i s) ≡ digits most (next v (get_or s i 0)) (drop (i + 1) s)
+  pub digits_go : i < length s → is_decimal (get_or s i 0) ≡ true → next v (get_or s i 0) ≤ most
+      → digits most v (drop i s) ≡ digits most (next v (get_or s i 0)) (drop (i + 1) s)
   digits_go h e k =
       ap (digits most v) (drop_more s i h) ∙ digits_step most v (get_or s i 0) (drop (i + 1) s) e (le-leb (next v (get_or s i 0)) most k)
 
-  pub digits_big : i < length s → is_decimal (get_or s i 0) ≡ true → most < next v (get_or s i 0) → digits most v (drop i s) ≡ stuck (drop i s)
+  pub digits_big : i < length s → is_decimal (get_or s i 0) ≡ true → most < next v (get_or s i 0)
+      → digits most v (drop i s) ≡ stuck (drop i s)
   digits_big h e k = digits_over most v (get_or s i 0) (drop i s) e (lt-leb (next v (get_or s i 0)) most k) (sym (look_at s i h))
 
 module _ (s : List ℕ) (most k v i : ℕ) where
@@ -79,12 +81,14 @@ module _ (s : List ℕ) (most k v i : ℕ) where
 
   pub fixed_no : i < length s → is_decimal (get_or s i 0) ≡ false → fixed most (suc k) v (drop i s) ≡ stuck (drop i s)
   fixed_no h e =
-      fixed_stop most k v (get_or s i 0) (drop i s) (first_false (is_decimal (get_or s i 0)) (leb (next v (get_or s i 0) * tens k) most) e) (sym (look_at s i h))
+      fixed_stop most k v (get_or s i 0) (drop i s) (first_false (is_decimal (get_or s i 0)) (leb (next v (get_or s i 0) * tens k) most) e)
+      (sym (look_at s i h))
 
   pub fixed_big : i < length s → most < next v (get_or s i 0) * tens k → fixed most (suc k) v (drop i s) ≡ stuck (drop i s)
   fixed_big h e =
       fixed_stop most k v (get_or s i 0) (drop i s)
-      (second_false (is_decimal (get_or s i 0)) (leb (next v (get_or s i 0) * tens k) most) (lt-leb (next v (get_or s i 0) * tens k) most e)) (sym (look_at s i h))
+      (second_false (is_decimal (get_or s i 0)) (leb (next v (get_or s i 0) * tens k) most)
+      (lt-leb (next v (get_or s i 0) * tens k) most e)) (sym (look_at s i h))
 
 -- how large a power of ten is
 tens_pos : (k : ℕ) → 1 ≤ tens k

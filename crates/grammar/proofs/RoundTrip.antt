@@ -69,7 +69,8 @@ unfolding digits_of power
 written zero n h = rw (lt-ltb n 10 (omega arith)) (written_one n (omega arith))
 written (suc k) n h = on (ltb n 10) refl (written k (n / 10) (omega arith))
   where
-    on : (b : Bool) → ltb n 10 ≡ b → Written (n / 10) (digits_of (suc k) (n / 10)) → Written n (cond b ((48 + n) ∷ []) (digits_of (suc k) (n / 10) ++ ((48 + n % 10) ∷ [])))
+    on : (b : Bool) → ltb n 10 ≡ b → Written (n / 10) (digits_of (suc k) (n / 10))
+        → Written n (cond b ((48 + n) ∷ []) (digits_of (suc k) (n / 10) ++ ((48 + n % 10) ∷ [])))
     on true e w = written_one n (ltb-true n 10 e)
     on false e w = written_more n (digits_of (suc k) (n / 10)) w
 
@@ -83,8 +84,10 @@ five_is n h =
     record {
       some = omega arith;
       digits =
-          more_digits (48 + n / 10000) ((48 + n / 1000 % 10) ∷ (48 + n / 100 % 10) ∷ (48 + n / 10 % 10) ∷ (48 + n % 10) ∷ []) (d (n / 10000) (omega arith))
-          (more_digits (48 + n / 1000 % 10) ((48 + n / 100 % 10) ∷ (48 + n / 10 % 10) ∷ (48 + n % 10) ∷ []) (d (n / 1000 % 10) (omega arith))
+          more_digits (48 + n / 10000) ((48 + n / 1000 % 10) ∷ (48 + n / 100 % 10) ∷ (48 + n / 10 % 10) ∷ (48 + n % 10) ∷ [])
+          (d (n / 10000) (omega arith))
+          (more_digits (48 + n / 1000 % 10) ((48 + n / 100 % 10) ∷ (48 + n / 10 % 10) ∷ (48 + n % 10) ∷ [])
+          (d (n / 1000 % 10) (omega arith))
           (more_digits (48 + n / 100 % 10) ((48 + n / 10 % 10) ∷ (48 + n % 10) ∷ []) (d (n / 100 % 10) (omega arith))
           (more_digits (48 + n / 10 % 10) ((48 + n % 10) ∷ []) (d (n / 10 % 10) (omega arith)) (one_digit (n % 10) (omega arith)))));
       is = five_worth n;
@@ -100,13 +103,16 @@ five_is n h =
     step : (a m : ℕ) → a ≡ m / 10 → 10 * a + (48 + m % 10 - 48) ≡ m
     step a m e = omega arith
 
-    five_worth : (n : ℕ) → 10 * (10 * (10 * (10 * (10 * 0 + (48 + n / 10000 - 48)) + (48 + n / 1000 % 10 - 48)) + (48 + n / 100 % 10 - 48)) + (48 + n / 10 % 10 - 48)) + (48 + n % 10 - 48) ≡ n
+    five_worth : (n : ℕ) → 10 * (10 * (10 * (10 * (10 * 0 + (48 + n / 10000 - 48)) + (48 + n / 1000 % 10 - 48)) + (48 + n / 100 % 10 - 48))
+        + (48 + n / 10 % 10 - 48)) + (48 + n % 10 - 48) ≡ n
     five_worth n =
         let a0 : 10 * 0 + (48 + n / 10000 - 48) ≡ n / 1000 / 10 = lead (n / 10000) ∙ tenth n in
         let a1 = step (10 * 0 + (48 + n / 10000 - 48)) (n / 1000) a0 in
         let a2 = step (10 * (10 * 0 + (48 + n / 10000 - 48)) + (48 + n / 1000 % 10 - 48)) (n / 100) (a1 ∙ tenth2 n) in
-        let a3 = step (10 * (10 * (10 * 0 + (48 + n / 10000 - 48)) + (48 + n / 1000 % 10 - 48)) + (48 + n / 100 % 10 - 48)) (n / 10) (a2 ∙ tenth3 n) in
-        step (10 * (10 * (10 * (10 * 0 + (48 + n / 10000 - 48)) + (48 + n / 1000 % 10 - 48)) + (48 + n / 100 % 10 - 48)) + (48 + n / 10 % 10 - 48)) n a3
+        let a3 = step (10 * (10 * (10 * 0 + (48 + n / 10000 - 48)) + (48 + n / 1000 % 10 - 48)) + (48 + n / 100 % 10 - 48)) (n / 10) (a2
+        ∙ tenth3 n) in
+        step (10 * (10 * (10 * (10 * 0 + (48 + n / 10000 - 48)) + (48 + n / 1000 % 10 - 48)) + (48 + n / 100 % 10 - 48))
+        + (48 + n / 10 % 10 - 48)) n a3
       where
         tenth : (n : ℕ) → n / 10000 ≡ n / 1000 / 10
         tenth n = omega arith
@@ -128,7 +134,8 @@ name_is n h = on (ltb n 0x8000) refl
     on true e = reading.global (size n) (five_is n (omega (arith, ltb-true n 0x8000 e)))
     on false e =
         let k : 0x8000 + (n - 0x8000) ≡ n = omega (arith, ltb-false n 0x8000 e) in
-        subst (λ x. reading.Name x (46 ∷ 108 ∷ five (n - 0x8000))) k (reading.local (size (n - 0x8000)) (five_is (n - 0x8000) (omega arith)))
+        subst (λ x. reading.Name x (46 ∷ 108 ∷ five (n - 0x8000))) k
+        (reading.local (size (n - 0x8000)) (five_is (n - 0x8000) (omega arith)))
 
 -- ---- trees
 
@@ -162,10 +169,12 @@ as_operand (one o e) s x = parens x
 pub reads_back : (e : Expr) → Fine e → Exp 5 e (expr_text e)
 unfolding expr_text
 reads_back (num (pos n)) s = lift5 (number (reading.plain (decimal_is 2147483647 n (omega (arith, s.sfits)) (omega (arith, s.sfits)))))
-reads_back (num (negsuc n)) s = lift5 (number (reading.minus (decimal_is 2147483648 (suc n) (omega (arith, s.sfits)) (omega (arith, s.sfits)))))
+reads_back (num (negsuc n)) s =
+    lift5 (number (reading.minus (decimal_is 2147483648 (suc n) (omega (arith, s.sfits)) (omega (arith, s.sfits)))))
 reads_back (name n) s = lift5 (named (name_is n s))
 reads_back (two o e d) s =
-    whole_two o e d (closed e (expr_text e)) (closed d (expr_text d)) (as_operand e s.0 (reads_back e s.0)) (as_operand d s.1 (reads_back d s.1))
+    whole_two o e d (closed e (expr_text e)) (closed d (expr_text d)) (as_operand e s.0 (reads_back e s.0))
+    (as_operand d s.1 (reads_back d s.1))
 reads_back (one o e) s = lift5 (signed o 0 0 (apart o (expr_text e ++ (41 ∷ []))) (parens (reads_back e s)))
 
 -- two different trees have different texts

@@ -76,7 +76,8 @@ spaced {G = G} {H = H} t r a f g =
           subst (λ x. H x u) (sym (append_assoc (spaces n) a.w u)) (g y u same k (subst (λ x. G x u) (sym skips) (a.alike u k)));
     }
 
-pub leading : {P : List ℕ → Type 0} {G : List ℕ → List ℕ → Type 0} (n : ℕ) (t r : List ℕ) → Took t r (λ w. P (spaces n ++ w)) (λ x u. G (spaces n ++ x) u)
+pub leading : {P : List ℕ → Type 0} {G : List ℕ → List ℕ → Type 0} (n : ℕ) (t r : List ℕ)
+    → Took t r (λ w. P (spaces n ++ w)) (λ x u. G (spaces n ++ x) u)
     → Took (spaces n ++ t) r P G
 leading {G = G} n t r a =
     record {

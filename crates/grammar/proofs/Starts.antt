@@ -103,15 +103,19 @@ module _ (pre s : List ℕ) (f : ℕ → Expr) (means : (n : ℕ) (w : List ℕ)
 
 -- how each kind of leaf starts
 
-pub start_plain : (c : ℕ) (x : List ℕ) → is_decimal c ≡ true → start (c ∷ x) ≡ leaf (on_got (λ v. num (pos v)) (digits 2147483647 (next 0 c) x))
+pub start_plain : (c : ℕ) (x : List ℕ) → is_decimal c ≡ true
+    → start (c ∷ x) ≡ leaf (on_got (λ v. num (pos v)) (digits 2147483647 (next 0 c) x))
 unfolding start
 start_plain c x e =
-    rw (class_digit c e) (ap (λ y. leaf (on_got (λ v. num (pos v)) y)) (digits_step 2147483647 0 c x e (le-leb (next 0 c) 2147483647 (omega (arith, digit_small c e)))))
+    rw (class_digit c e) (ap (λ y. leaf (on_got (λ v. num (pos v)) y))
+    (digits_step 2147483647 0 c x e (le-leb (next 0 c) 2147483647 (omega (arith, digit_small c e)))))
 
-pub start_minus : (d : ℕ) (x : List ℕ) → is_decimal d ≡ true → start (45 ∷ (d ∷ x)) ≡ leaf (on_got (λ v. num (neg_ℤ (pos v))) (digits 2147483648 (next 0 d) x))
+pub start_minus : (d : ℕ) (x : List ℕ) → is_decimal d ≡ true
+    → start (45 ∷ (d ∷ x)) ≡ leaf (on_got (λ v. num (neg_ℤ (pos v))) (digits 2147483648 (next 0 d) x))
 unfolding start class_of
 start_minus d x e =
-    rw e (ap (λ y. leaf (on_got (λ v. num (neg_ℤ (pos v))) y)) (digits_step 2147483648 0 d x e (le-leb (next 0 d) 2147483648 (omega (arith, digit_small d e)))))
+    rw e (ap (λ y. leaf (on_got (λ v. num (neg_ℤ (pos v))) y))
+    (digits_step 2147483648 0 d x e (le-leb (next 0 d) 2147483648 (omega (arith, digit_small d e)))))
 
 pub start_global : (x : List ℕ) → start (103 ∷ x) ≡ leaf (on_got (λ n. name n) (fixed 32767 5 0 x))
 unfolding start class_of
@@ -140,8 +144,10 @@ fine_leaf (c ∷ t) o e = by (class_of c) (class_is c) e
     by : (k : Class) → Is c k → start_by k c t ≡ leaf o → FineLeaf (c ∷ t) o
     by going.digit p e =
         let s = digits_step 2147483647 0 c t p (le-leb (next 0 c) 2147483647 (omega (arith, digit_small c p))) in
-        subst (λ x. FineLeaf (c ∷ t) x) (ap (λ y. on_got (λ v. num (pos v)) y) (sym s) ∙ leaf_of (on_got (λ v. num (pos v)) (digits 2147483647 0 (c ∷ t))) o e)
-        (number_leaf [] c t 2147483647 (λ v. num (pos v)) p (λ v w d. number (plain d)) (λ x. start_plain c x p) (digits 2147483647 (next 0 c) t)
+        subst (λ x. FineLeaf (c ∷ t) x) (ap (λ y. on_got (λ v. num (pos v)) y) (sym s)
+        ∙ leaf_of (on_got (λ v. num (pos v)) (digits 2147483647 0 (c ∷ t))) o e)
+        (number_leaf [] c t 2147483647 (λ v. num (pos v)) p (λ v w d. number (plain d)) (λ x. start_plain c x p)
+        (digits 2147483647 (next 0 c) t)
         (fine_digits 2147483647 (next 0 c) t (omega (arith, digit_small c p))))
     by going.minus p e = subst (λ x. FineLeaf (x ∷ t) o) (sym p) (minus_leaf t e)
       where
@@ -152,17 +158,20 @@ fine_leaf (c ∷ t) o e = by (class_of c) (class_is c) e
             f : ℕ → Expr
             f v = num (neg_ℤ (pos v))
 
-            on : (b : Bool) → is_decimal d ≡ b → cond b (leaf (on_got f (digits 2147483648 0 (d ∷ x)))) (sign Negate (d ∷ x)) ≡ leaf o → FineLeaf (45 ∷ (d ∷ x)) o
+            on : (b : Bool) → is_decimal d ≡ b → cond b (leaf (on_got f (digits 2147483648 0 (d ∷ x)))) (sign Negate (d ∷ x)) ≡ leaf o
+                → FineLeaf (45 ∷ (d ∷ x)) o
             on true q e =
                 let s = digits_step 2147483648 0 d x q (le-leb (next 0 d) 2147483648 (omega (arith, digit_small d q))) in
                 subst (λ y. FineLeaf (45 ∷ (d ∷ x)) y) (ap (λ y. on_got f y) (sym s) ∙ leaf_of (on_got f (digits 2147483648 0 (d ∷ x))) o e)
-                (number_leaf (45 ∷ []) d x 2147483648 f q (λ v w h. number (minus h)) (λ y. start_minus d y q) (digits 2147483648 (next 0 d) x)
+                (number_leaf (45 ∷ []) d x 2147483648 f q (λ v w h. number (minus h)) (λ y. start_minus d y q)
+                (digits 2147483648 (next 0 d) x)
                 (fine_digits 2147483648 (next 0 d) x (omega (arith, digit_small d q))))
             on false q e = clash (cc)
     by going.global p e =
         subst (λ x. FineLeaf (x ∷ t) o) (sym p)
         (subst (λ y. FineLeaf (103 ∷ t) y) (leaf_of (on_got (λ n. name n) (fixed 32767 5 0 t)) o e)
-        (name_leaf (103 ∷ []) t (λ n. name n) (λ n w l d. named (global l d)) (λ x. start_global x) (fixed 32767 5 0 t) (fine_fixed 32767 5 0 t (lit≤ tt))))
+        (name_leaf (103 ∷ []) t (λ n. name n) (λ n w l d. named (global l d)) (λ x. start_global x) (fixed 32767 5 0 t)
+        (fine_fixed 32767 5 0 t (lit≤ tt))))
     by going.dot p e = subst (λ x. FineLeaf (x ∷ t) o) (sym p) (dot_leaf t e)
       where
         stops : (u : List ℕ) → eqb (look u) 108 ≡ false → FineLeaf (46 ∷ u) (stuck u)
@@ -181,11 +190,13 @@ fine_leaf (c ∷ t) o e = by (class_of c) (class_is c) e
             f : ℕ → Expr
             f n = name (0x8000 + n)
 
-            on : (b : Bool) → eqb d 108 ≡ b → leaf (cond b (on_got f (fixed 32767 5 0 x)) (stuck (d ∷ x))) ≡ leaf o → FineLeaf (46 ∷ (d ∷ x)) o
+            on : (b : Bool) → eqb d 108 ≡ b → leaf (cond b (on_got f (fixed 32767 5 0 x)) (stuck (d ∷ x))) ≡ leaf o
+                → FineLeaf (46 ∷ (d ∷ x)) o
             on true q e =
                 subst (λ y. FineLeaf (46 ∷ (y ∷ x)) o) (sym (eqb-true d 108 q))
                 (subst (λ y. FineLeaf (46 ∷ (108 ∷ x)) y) (leaf_of (on_got f (fixed 32767 5 0 x)) o e)
-                (name_leaf (46 ∷ 108 ∷ []) x f (λ n w l d. named (local l d)) (λ y. start_local y) (fixed 32767 5 0 x) (fine_fixed 32767 5 0 x (lit≤ tt))))
+                (name_leaf (46 ∷ 108 ∷ []) x f (λ n w l d. named (local l d)) (λ y. start_local y) (fixed 32767 5 0 x)
+                (fine_fixed 32767 5 0 x (lit≤ tt))))
             on false q e = subst (λ y. FineLeaf (46 ∷ (d ∷ x)) y) (leaf_of (stuck (d ∷ x)) o e) (stops (d ∷ x) q)
     by going.bracket p e = clash (cc)
     by going.upper p e = clash (cc)
@@ -233,7 +244,8 @@ start_sign s r (c ∷ t) e = by (class_of c) (class_is c) e
     by going.digit p e = clash (cc)
     by going.minus p e = on (is_decimal (look t)) refl e
       where
-        on : (b : Bool) → is_decimal (look t) ≡ b → cond b (leaf (on_got (λ v. num (neg_ℤ (pos v))) (digits 2147483648 0 t))) (sign Negate t) ≡ sign s r
+        on : (b : Bool) → is_decimal (look t) ≡ b
+            → cond b (leaf (on_got (λ v. num (neg_ℤ (pos v))) (digits 2147483648 0 t))) (sign Negate t) ≡ sign s r
             → Signed s r (c ∷ t)
         on true q e = clash (cc)
         on false q e = is Negate e p q
@@ -265,7 +277,8 @@ start_paren (c ∷ t) e = by (class_of c) (class_is c) e
     by going.digit p e = clash (cc)
     by going.minus p e = on (is_decimal (look t)) e
       where
-        on : (b : Bool) → cond b (leaf (on_got (λ v. num (neg_ℤ (pos v))) (digits 2147483648 0 t))) (sign Negate t) ≡ paren → (x : List ℕ) × (c ∷ t ≡ 40 ∷ x)
+        on : (b : Bool) → cond b (leaf (on_got (λ v. num (neg_ℤ (pos v))) (digits 2147483648 0 t))) (sign Negate t) ≡ paren
+            → (x : List ℕ) × (c ∷ t ≡ 40 ∷ x)
         on true e = clash (cc)
         on false e = clash (cc)
     by going.global p e = clash (cc)
@@ -282,7 +295,8 @@ Blank w = (n : ℕ) × ((w ≡ spaces n) ⊎ (w ≡ spaces n ++ (45 ∷ [])))
 
 pub start_nothing : (t r : List ℕ) → start t ≡ nothing r → Took t r (λ w. Blank w) (λ x u. start x ≡ nothing u)
 unfolding start class_of
-start_nothing [] r e = subst (λ y. Took [] y (λ w. Blank w) (λ x u. start x ≡ nothing u)) (text_of e) (idle [] (0, inl refl) (λ u k. at u k))
+start_nothing [] r e = subst (λ y. Took [] y (λ w. Blank w) (λ x u. start x ≡ nothing u)) (text_of e)
+    (idle [] (0, inl refl) (λ u k. at u k))
   where
     text_of : nothing [] ≡ nothing r → [] ≡ r
     text_of e = cc
@@ -308,7 +322,8 @@ start_nothing (c ∷ t) r e = by (class_of c) refl (class_is c) e
     by going.space p i e =
         subst (λ y. Took (y ∷ t) r (λ w. Blank w) (λ x u. start x ≡ nothing u)) (sym i)
         (push {Q = λ w. Blank w} {G = λ y u. led (skip y) ≡ nothing u} {H = λ x u. start x ≡ nothing u} 32 t r
-        (spaced {Q = λ w. Blank w} {H = λ y u. led (skip y) ≡ nothing u} t r (subst (λ x. FineLed (skip t) x) e (fine_led (skip t))) (λ n w q m. blank n w m) (λ y u k k' g. g))
+        (spaced {Q = λ w. Blank w} {H = λ y u. led (skip y) ≡ nothing u} t r (subst (λ x. FineLed (skip t) x) e (fine_led (skip t)))
+        (λ n w q m. blank n w m) (λ y u k k' g. g))
         (λ w q m. further w m.0 m.1) (λ y u k k' g. g))
       where
         blank : (n : ℕ) (w : List ℕ) → (w ≡ []) ⊎ (w ≡ 45 ∷ []) → Blank (spaces n ++ w)
@@ -318,7 +333,8 @@ start_nothing (c ∷ t) r e = by (class_of c) refl (class_is c) e
         further : (w : List ℕ) (n : ℕ) → (w ≡ spaces n) ⊎ (w ≡ spaces n ++ (45 ∷ [])) → Blank (32 ∷ w)
         further w n (inl q) = (suc n, inl (ap (λ x. 32 ∷ x) q))
         further w n (inr q) = (suc n, inr (ap (λ x. 32 ∷ x) q))
-    by going.other p i e = subst (λ y. Took (c ∷ t) y (λ w. Blank w) (λ x u. start x ≡ nothing u)) (text_of e) (idle (c ∷ t) (0, inl refl) (λ u k. at u k))
+    by going.other p i e = subst (λ y. Took (c ∷ t) y (λ w. Blank w) (λ x u. start x ≡ nothing u)) (text_of e)
+        (idle (c ∷ t) (0, inl refl) (λ u k. at u k))
       where
         text_of : nothing (c ∷ t) ≡ nothing r → c ∷ t ≡ r
         text_of e = cc

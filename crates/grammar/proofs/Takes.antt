@@ -17,11 +17,13 @@ front [] r u e = e
 front (c ∷ w) r u e = refl
 
 -- nothing is taken
-pub idle : {P : List ℕ → Type 0} {G : List ℕ → List ℕ → Type 0} (r : List ℕ) → P [] → ((u : List ℕ) → look r ≡ look u → G u u) → Took r r P G
+pub idle : {P : List ℕ → Type 0} {G : List ℕ → List ℕ → Type 0} (r : List ℕ) → P [] → ((u : List ℕ) → look r ≡ look u → G u u)
+    → Took r r P G
 idle r p g = record { w = []; split = refl; means = p; alike = g }
 
 -- a byte before what is taken, and one behind it
-pub push : {P Q : List ℕ → Type 0} {G H : List ℕ → List ℕ → Type 0} (c : ℕ) (t r : List ℕ) → Took t r P G → ((w : List ℕ) → t ≡ w ++ r → P w → Q (c ∷ w))
+pub push : {P Q : List ℕ → Type 0} {G H : List ℕ → List ℕ → Type 0} (c : ℕ) (t r : List ℕ) → Took t r P G
+    → ((w : List ℕ) → t ≡ w ++ r → P w → Q (c ∷ w))
     → ((y u : List ℕ) → look t ≡ look y → look r ≡ look u → G y u → H (c ∷ y) u) → Took (c ∷ t) r Q H
 push c t r a f g =
     record {
@@ -31,7 +33,8 @@ push c t r a f g =
       alike = λ u k. g (a.w ++ u) u (ap look a.split ∙ front a.w r u k) k (a.alike u k);
     }
 
-pub pull : {P Q : List ℕ → Type 0} {G H : List ℕ → List ℕ → Type 0} (c : ℕ) (t r : List ℕ) → Took t (c ∷ r) P G → ((w : List ℕ) → P w → Q (w ++ (c ∷ [])))
+pub pull : {P Q : List ℕ → Type 0} {G H : List ℕ → List ℕ → Type 0} (c : ℕ) (t r : List ℕ) → Took t (c ∷ r) P G
+    → ((w : List ℕ) → P w → Q (w ++ (c ∷ [])))
     → ((x u : List ℕ) → G x (c ∷ u) → H x u) → Took t r Q H
 pull {H = H} c t r a f g =
     record {
@@ -54,7 +57,8 @@ turn t r a f g =
 
 -- one reader after the other
 pub after : {P Q R : List ℕ → Type 0} {G H I : List ℕ → List ℕ → Type 0} (t q r : List ℕ) → Took t q P G → Took q r Q H
-    → ((w v : List ℕ) → q ≡ v ++ r → P w → Q v → R (w ++ v)) → ((x y u : List ℕ) → look q ≡ look y → look r ≡ look u → G x y → H y u → I x u) → Took t r R I
+    → ((w v : List ℕ) → q ≡ v ++ r → P w → Q v → R (w ++ v)) → ((x y u : List ℕ) → look q ≡ look y → look r ≡ look u → G x y → H y u
+    → I x u) → Took t r R I
 after {I = I} t q r a b f g =
     let s : List ℕ → List ℕ = λ u. b.w ++ u in
     record {
@@ -64,5 +68,6 @@ after {I = I} t q r a b f g =
       alike =
           λ u k.
           let m : look q ≡ look (b.w ++ u) = ap look b.split ∙ front b.w r u k in
-          subst (λ (x : List ℕ). I x u) (sym (append_assoc a.w b.w u)) (g (a.w ++ (b.w ++ u)) (b.w ++ u) u m k (a.alike (b.w ++ u) m) (b.alike u k));
+          subst (λ (x : List ℕ). I x u) (sym (append_assoc a.w b.w u))
+          (g (a.w ++ (b.w ++ u)) (b.w ++ u) u m k (a.alike (b.w ++ u) m) (b.alike u k));
     }

@@ -118,7 +118,8 @@ one_taken {i} {sum} (intake.next {ls = ls} {s = s} {p = p} x t) (intake.next {s 
     let e : s ≡ z = same_ok (one_judged x y) in
     both e (one_taken t (subst (λ v. Takes (suc i) (sum + 2 * length (frame_of v)) ls (ok q)) (sym e) u))
   where
-    both : {s z : Stmt} {p q : Program} → s ≡ z → ◌≡◌ {A = Judged Program} (ok p) (ok q) → ◌≡◌ {A = Judged Program} (ok (s ∷ p)) (ok (z ∷ q))
+    both : {s z : Stmt} {p q : Program} → s ≡ z → ◌≡◌ {A = Judged Program} (ok p) (ok q)
+        → ◌≡◌ {A = Judged Program} (ok (s ∷ p)) (ok (z ∷ q))
     both e f = cc
 
 -- of the entry

@@ -89,7 +89,8 @@ walked (either ok next f) [] o e = on (ok 0) refl (goes 200 (whole 5) []) refl e
     on true q a z e below = nothing e
     on false q none z e below = nothing e
     on false q (some (got d r)) z e below = plans.bare q (computed 200 (whole 5) [] (got d r) z) (below d r e)
-    on false q (some (stuck r)) z e below = subst (λ x. Walks (either ok next f) [] x) (is e) (plans.bareless q (computed 200 (whole 5) [] (stuck r) z))
+    on false q (some (stuck r)) z e below = subst (λ x. Walks (either ok next f) [] x) (is e)
+        (plans.bareless q (computed 200 (whole 5) [] (stuck r) z))
 walked (either ok next f) (c ∷ t) o e = on (ok c) refl (goes 200 (whole 5) (c ∷ t)) refl e (walked (next c) t o) (λ d r. walked (f d) r o)
   where
     on : (b : Bool) → ok c ≡ b → (a : Option (Read Expr)) → goes 200 (whole 5) (c ∷ t) ≡ a

@@ -1,4 +1,5 @@
--- Whole lines computed from the definitions, on both sides of each edge: the frame, or the column. A theorem says `T test` and is proved by `tt`.
+-- Whole lines computed from the definitions, on both sides of each edge: the frame, or the column. A theorem says `T test` and is proved by
+-- `tt`.
 use mathlib.Core.List.{[], ◌∷◌}
 use mathlib.Core.Option.{Option, none, some}
 use mathlib.Core.Bool.{Bool, false, ◌&&◌}
@@ -55,10 +56,13 @@ pub names_and_numbers : T (all (
     reads ".align 255,256" "08FF0100" ∷ stops ".align 256,1" 9 ∷ stops ".align 0,257" 11 ∷
     reads ".align 0,001" "08000001" ∷ stops ".align 0,0" 10 ∷
     []))
-unfolding all reads stops walks goes start led class_of digits fixed local skip infix_of same unhex frame_of each bytes_of line_plan word_list trie advance end_of global_plan local_plan org_plan align_plan items_plan multiples hexes comments mnemonics family heads narrow args_plan mnemonic form_at
+unfolding all reads stops walks goes start led class_of digits fixed local skip infix_of same unhex frame_of each bytes_of line_plan
+    word_list trie advance end_of global_plan local_plan org_plan align_plan items_plan multiples hexes comments mnemonics family heads
+    narrow args_plan mnemonic form_at
 names_and_numbers = tt
 
--- "spaces beside operators only"; "( 1)" and a space behind a comma or `#` stand beside what no operator is, which the next byte tells: a prefix
+-- "spaces beside operators only"; "( 1)" and a space behind a comma or `#` stand beside what no operator is, which the next byte tells: a
+-- prefix
 -- sign could have followed. A minus touching a digit is none
 pub spaces : T (all (
     reads "g00000=1  -  2" "0300001100000000010000000002" ∷ reads "g00000=> 5" "030000210000000005" ∷
@@ -68,7 +72,9 @@ pub spaces : T (all (
     stops "add # 5" 6 ∷ stops "mov #1, 2" 8 ∷ stops "add  #5" 5 ∷ stops " nop" 0 ∷ stops "nop " 3 ∷
     stops ".byte 1, -5" 10 ∷ stops "add (  " 7 ∷ stops "be @R1, #2,3" 7 ∷
     []))
-unfolding all reads stops walks goes start led class_of digits fixed local skip infix_of same unhex frame_of each bytes_of line_plan word_list trie advance end_of global_plan local_plan org_plan align_plan items_plan multiples hexes comments mnemonics family heads narrow args_plan mnemonic form_at
+unfolding all reads stops walks goes start led class_of digits fixed local skip infix_of same unhex frame_of each bytes_of line_plan
+    word_list trie advance end_of global_plan local_plan org_plan align_plan items_plan multiples hexes comments mnemonics family heads
+    narrow args_plan mnemonic form_at
 spaces = tt
 
 -- "all grouped to the left; prefix signs bind tightest", with fewer parentheses than are written and with more
@@ -82,7 +88,9 @@ pub grouping : T (all (
     reads "g00000=-g00002*2" "03000012200100020000000002" ∷
     reads "g00000=((5))" "0300000000000005" ∷ stops "g00000=((5)" 11 ∷ stops "g00000=(5))" 10 ∷
     []))
-unfolding all reads stops walks goes start led class_of digits fixed local skip infix_of same unhex frame_of each bytes_of line_plan word_list trie advance end_of global_plan local_plan org_plan align_plan items_plan multiples hexes comments mnemonics family heads narrow args_plan mnemonic form_at
+unfolding all reads stops walks goes start led class_of digits fixed local skip infix_of same unhex frame_of each bytes_of line_plan
+    word_list trie advance end_of global_plan local_plan org_plan align_plan items_plan multiples hexes comments mnemonics family heads
+    narrow args_plan mnemonic form_at
 grouping = tt
 
 -- words, arguments, comments and items
@@ -96,14 +104,19 @@ pub words_and_arguments : T (all (
     reads ".comment" "04" ∷ reads ".comment 0AFF" "040AFF" ∷ stops ".comment " 9 ∷ stops ".comment 0" 10 ∷ stops ".comment 0a" 10 ∷
     reads ".byte 1" "06010000000001" ∷ stops ".byte" 5 ∷ stops ".byte " 6 ∷ stops ".byte 1," 8 ∷ stops ".word #1" 6 ∷
     []))
-unfolding all reads stops walks goes start led class_of digits fixed local skip infix_of same unhex frame_of each bytes_of line_plan word_list trie advance end_of global_plan local_plan org_plan align_plan items_plan multiples hexes comments mnemonics family heads narrow args_plan mnemonic form_at
+unfolding all reads stops walks goes start led class_of digits fixed local skip infix_of same unhex frame_of each bytes_of line_plan
+    word_list trie advance end_of global_plan local_plan org_plan align_plan items_plan multiples hexes comments mnemonics family heads
+    narrow args_plan mnemonic form_at
 words_and_arguments = tt
 
 -- a line of so many items: 16 are good, and "a seventeenth item is 15 at its comma"
 pub items : T (all (
     reads ".byte g00000,g00000,g00000,g00000,g00000,g00000,g00000,g00000,g00000,g00000,g00000,g00000,g00000,g00000,g00000,g00000"
     "0610010000010000010000010000010000010000010000010000010000010000010000010000010000010000010000010000" ∷
-    stops ".byte g00000,g00000,g00000,g00000,g00000,g00000,g00000,g00000,g00000,g00000,g00000,g00000,g00000,g00000,g00000,g00000,g00000" 117 ∷
+    stops ".byte g00000,g00000,g00000,g00000,g00000,g00000,g00000,g00000,g00000,g00000,g00000,g00000,g00000,g00000,g00000,g00000,g00000" 117
+    ∷
     []))
-unfolding all reads stops walks goes start led class_of digits fixed local skip infix_of same unhex frame_of each bytes_of line_plan word_list trie advance end_of global_plan local_plan org_plan align_plan items_plan multiples hexes comments mnemonics family heads narrow args_plan mnemonic form_at
+unfolding all reads stops walks goes start led class_of digits fixed local skip infix_of same unhex frame_of each bytes_of line_plan
+    word_list trie advance end_of global_plan local_plan org_plan align_plan items_plan multiples hexes comments mnemonics family heads
+    narrow args_plan mnemonic form_at
 items = tt

@@ -57,7 +57,12 @@ length_front s p =
 pub length_both : (p r : Program) → length (listing_of p) ≤ length (listing_of (p ++ r))
 length_both p r =
     let e = ap (λ (t : List ℕ). length t) (listing_is (p ++ r) ∙ each_append (λ s. line_of (frame_of s)) p r) in
-    omega (arith, e, length-append (each (λ s. line_of (frame_of s)) p) (each (λ s. line_of (frame_of s)) r), ap (λ (t : List ℕ). length t) (listing_is p))
+    omega (
+      arith,
+      e,
+      length-append (each (λ s. line_of (frame_of s)) p) (each (λ s. line_of (frame_of s)) r),
+      ap (λ (t : List ℕ). length t) (listing_is p),
+    )
 
 -- ---- what the rest gives, behind the statements p
 
@@ -75,14 +80,8 @@ pub record Upto (text : List ℕ) (q i sum : ℕ) (p : Program) : Type 0 where
 
 pub starts : (text : List ℕ) → Upto text 0 0 0 []
 unfolding text_of lines_in
-starts text = record {
-  within = omega arith;
-  few = omega arith;
-  short = omega arith;
-  count = refl;
-  size = refl;
-  goes_on = on;
-}
+starts text =
+    record { within = omega arith; few = omega arith; short = omega arith; count = refl; size = refl; goes_on = on; }
   where
     on : (j : Judged Program) → Takes 0 0 (lines_of text) j → Takes 0 0 (lines_of text) (behind [] j)
     on (ok r) t = t

@@ -21,7 +21,8 @@ nothing_stands a e =
     record { size = e; within = omega arith; front = λ h. refl; ends = λ h. refl; short = λ h. refl; over = λ h l. absurd (omega arith) }
 
 -- no room for x
-pub too_many : (b : List ℕ) (at : ℕ) (x : List ℕ) (longs : ℕ) → length b ≡ 120 → at ≤ 121 → (longs ≡ 0 → 120 < at + length x) → Added b b at 121 x longs
+pub too_many : (b : List ℕ) (at : ℕ) (x : List ℕ) (longs : ℕ) → length b ≡ 120 → at ≤ 121 → (longs ≡ 0 → 120 < at + length x)
+    → Added b b at 121 x longs
 too_many b at x longs e h o =
     record {
       size = e;
@@ -64,11 +65,13 @@ laid_so b a at x e h t =
 
 pub put_so : (b : List ℕ) (at c : ℕ) → length b ≡ 120 → at ≤ 119 → Added b (set b at c) at (at + 1) (c ∷ []) 0
 put_so b at c e h =
-    laid_so b (set b at c) at (c ∷ []) (length-set b at c ∙ e) (omega arith) (ap (λ n. take n (set b at c)) (add-one at) ∙ take-suc-set b at c (omega arith))
+    laid_so b (set b at c) at (c ∷ []) (length-set b at c ∙ e) (omega arith) (ap (λ n. take n (set b at c)) (add-one at)
+    ∙ take-suc-set b at c (omega arith))
 
 -- ---- an expression's bytes
 
-fits : (e : Expr) (room c : List ℕ) (n : ℕ) → Put c room 0 (bytes_of e) n → n ≤ 32 → (long e ≡ 0) × ((length (bytes_of e) ≡ n) × (take n room ≡ bytes_of e))
+fits : (e : Expr) (room c : List ℕ) (n : ℕ) → Put c room 0 (bytes_of e) n → n ≤ 32
+    → (long e ≡ 0) × ((length (bytes_of e) ≡ n) × (take n room ≡ bytes_of e))
 fits e room c n p h =
     let l : n ≡ length (bytes_of e) = omega (arith, p.ends h) in
     (ap (λ y. cond y 0 1) (le-leb (length (bytes_of e)) 32 (omega arith)), (sym l, p.stands h))
@@ -98,7 +101,11 @@ pub record Copying (b a : List ℕ) (at : ℕ) (room : List ℕ) (i : ℕ) : Typ
   pub front : take (at + i) a ≡ take at b ++ take i room
 
 pub copy_none : (b : List ℕ) (at : ℕ) (room : List ℕ) → length b ≡ 120 → Copying b b at room 0
-copy_none b at room e = let z : at + 0 ≡ at = omega arith in record { size = e; front = ap (λ n. take n b) z ∙ sym (append-nil (take at b)) }
+copy_none b at room e = let z : at + 0 ≡ at = omega arith in record {
+  size = e;
+  front = ap (λ n. take n b) z
+      ∙ sym (append-nil (take at b));
+}
 
 pub copy_more : (b a : List ℕ) (at : ℕ) (room : List ℕ) (i : ℕ) → Copying b a at room i → at + i < 120 → i < length room
     → Copying b (set a (at + i) (get_or room i 0)) at room (i + 1)
@@ -111,7 +118,8 @@ copy_more b a at room i w h k =
           ∙ ap (λ y. take at b ++ y) (sym (take-suc room i 0 k)) ∙ ap (λ m. take at b ++ take m room) (sym (add-one i));
     }
 
-pub copied_so : (b a : List ℕ) (at : ℕ) (room : List ℕ) (n : ℕ) → Copying b a at room n → n ≤ 32 → at + n ≤ 120 → Copied b a at (at + n) room n
+pub copied_so : (b a : List ℕ) (at : ℕ) (room : List ℕ) (n : ℕ) → Copying b a at room n → n ≤ 32 → at + n ≤ 120
+    → Copied b a at (at + n) room n
 copied_so b a at room n w h k = record { size = w.size; within = omega arith; adds = adds }
   where
     adds : (e : Expr) (c : List ℕ) → Put c room 0 (bytes_of e) n → Added b a at (at + n) (bytes_of e) (long e)

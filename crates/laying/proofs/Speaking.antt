@@ -27,7 +27,8 @@ use Rattle.laying.specs.Speaking.{Held, Spoken, ends_at, number_of, Counted}
 
 -- ---- a plan that is reached from another
 
-pub through : (P Q : Plan) (s : List ℕ) (k n : ℕ) (a : List ℕ) (r : Told) → ((o : Read Stmt) → Walks Q (drop n s) o → Walks P (drop k s) o) → Spoken Q s n a r → Spoken P s k a r
+pub through : (P Q : Plan) (s : List ℕ) (k n : ℕ) (a : List ℕ) (r : Told) → ((o : Read Stmt) → Walks Q (drop n s) o → Walks P (drop k s) o)
+    → Spoken Q s n a r → Spoken P s k a r
 through P Q s k n a (Frame to) f (x, (w, h)) = (x, (f (got x []) w, h))
 through P Q s k n a (Wrong c) f (w, h) = (f (stuck (drop c s)) w, h)
 
@@ -37,7 +38,8 @@ over_walk : (x : Stmt) (t : List ℕ) → 1 ≤ length t → Walks (done x) t (s
 over_walk x [] h = absurd (omega arith)
 over_walk x (c ∷ t) h = plans.Walks.over
 
-pub done_spoken : (x : Stmt) (s : List ℕ) (k : ℕ) (a : List ℕ) (to : ℕ) → k ≤ length s → Held a to x → Spoken (done x) s k a (ends_at (length s) k to)
+pub done_spoken : (x : Stmt) (s : List ℕ) (k : ℕ) (a : List ℕ) (to : ℕ) → k ≤ length s → Held a to x
+    → Spoken (done x) s k a (ends_at (length s) k to)
 done_spoken x s k a to h w = on (ltb k (length s)) refl
   where
     on : (b : Bool) → ltb k (length s) ≡ b → Spoken (done x) s k a (cond b (Wrong k) (Frame to))
@@ -59,7 +61,8 @@ byte_there s k c e = omega (arith, some (drop k s) e, length-drop k s)
     some [] e = absurd (omega arith)
     some (b ∷ t) e = omega arith
 
-pub fork_byte : (end : Option Stmt) (ok : ℕ → Bool) (f : ℕ → Plan) (s : List ℕ) (k c : ℕ) (o : Read Stmt) → look (drop k s) ≡ suc c → ok (suc c) ≡ true
+pub fork_byte : (end : Option Stmt) (ok : ℕ → Bool) (f : ℕ → Plan) (s : List ℕ) (k c : ℕ) (o : Read Stmt) → look (drop k s) ≡ suc c
+    → ok (suc c) ≡ true
     → Walks (f (suc c)) (drop (k + 1) s) o → Walks (fork end ok f) (drop k s) o
 fork_byte end ok f s k c o e p w =
     subst (λ t. Walks (fork end ok f) t o) (sym (first_byte (drop k s) c e))
@@ -71,7 +74,8 @@ fork_wrong ok f (c ∷ t) e = plans.Walks.wrong e
 
 -- ---- numbers and names
 
-pub decimal_got : (most : ℕ) (f : ℕ → Plan) (t r : List ℕ) (v : ℕ) (o : Read Stmt) → number_of most t ≡ got v r → Walks (f v) r o → Walks (decimal most f) t o
+pub decimal_got : (most : ℕ) (f : ℕ → Plan) (t r : List ℕ) (v : ℕ) (o : Read Stmt) → number_of most t ≡ got v r → Walks (f v) r o
+    → Walks (decimal most f) t o
 unfolding number_of
 decimal_got most f t r v o e w = on (is_decimal (look t)) refl e
   where
@@ -95,21 +99,24 @@ pub no_number : (s : List ℕ) (k most : ℕ) → k ≤ length s → is_decimal 
 unfolding number_of
 no_number s k most h e = (rw e, h)
 
-pub number_is : (s : List ℕ) (k most n v : ℕ) (r : Value) → k ≤ length s → is_decimal (look (drop k s)) ≡ true → Valued (drop k s) (digits most 0 (drop k s)) most r → r ≡ Is n v
+pub number_is : (s : List ℕ) (k most n v : ℕ) (r : Value) → k ≤ length s → is_decimal (look (drop k s)) ≡ true
+    → Valued (drop k s) (digits most 0 (drop k s)) most r → r ≡ Is n v
     → Counted s k most (Is (k + n) v)
 unfolding number_of
 number_is s k most n v r h e w q =
     let y = subst (λ z. Valued (drop k s) (digits most 0 (drop k s)) most z) q w in
     (rw e (y.0 ∙ ap (λ t. got v t) (drop-drop n k s)), (omega (arith, y.1, length-drop k s), y.2))
 
-pub number_not : (s : List ℕ) (k most n : ℕ) (r : Value) → k ≤ length s → is_decimal (look (drop k s)) ≡ true → Valued (drop k s) (digits most 0 (drop k s)) most r → r ≡ Not n
+pub number_not : (s : List ℕ) (k most n : ℕ) (r : Value) → k ≤ length s → is_decimal (look (drop k s)) ≡ true
+    → Valued (drop k s) (digits most 0 (drop k s)) most r → r ≡ Not n
     → Counted s k most (Not (k + n))
 unfolding number_of
 number_not s k most n r h e w q =
     let y = subst (λ z. Valued (drop k s) (digits most 0 (drop k s)) most z) q w in
     (rw e (y.0 ∙ ap stuck (drop-drop n k s)), omega (arith, y.1, length-drop k s))
 
-module _ (f : ℕ → Plan) (s : List ℕ) (k : ℕ) (h : k ≤ length s) (a : List ℕ) (r : Value) (w : Valued (drop k s) (fixed 32767 5 0 (drop k s)) 32767 r) where
+module _ (f : ℕ → Plan) (s : List ℕ) (k : ℕ) (h : k ≤ length s) (a : List ℕ) (r : Value)
+    (w : Valued (drop k s) (fixed 32767 5 0 (drop k s)) 32767 r) where
   pub name_is : (n v : ℕ) → r ≡ Is n v → (k + n ≤ length s) × (v ≤ 32767)
   name_is n v q =
       let y = subst (λ z. Valued (drop k s) (fixed 32767 5 0 (drop k s)) 32767 z) q w in (omega (arith, y.1, length-drop k s), y.2)
@@ -126,7 +133,8 @@ module _ (f : ℕ → Plan) (s : List ℕ) (k : ℕ) (h : k ≤ length s) (a : L
 
 -- ---- a frame's first bytes
 
-pub head_stands : (b₀ b₁ b₂ b₃ : List ℕ) (kind word hi lo p q r : ℕ) → length b₀ ≡ 120 → word < 65536 → Added b₀ b₁ 0 p (kind ∷ []) 0 → Added b₁ b₂ p q (hi ∷ []) 0
+pub head_stands : (b₀ b₁ b₂ b₃ : List ℕ) (kind word hi lo p q r : ℕ) → length b₀ ≡ 120 → word < 65536 → Added b₀ b₁ 0 p (kind ∷ []) 0
+    → Added b₁ b₂ p q (hi ∷ []) 0
     → Added b₂ b₃ q r (lo ∷ []) 0 → hi ≡ word / 256 % 256 → lo ≡ word % 256 → Stands b₃ r (kind ∷ pair word) 0
 head_stands b₀ b₁ b₂ b₃ kind word hi lo p q r e h x y z u v =
     let i : hi ≡ word / 256 = omega arith in

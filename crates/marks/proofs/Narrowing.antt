@@ -83,7 +83,8 @@ ways_true (w ∷ ws) [] e = false_true e
 ways_true (way f ks ∷ ws) (way g ls ∷ vs) e =
     let p = and_true (eqb f g) (same_kinds ks ls && same_ways ws vs) e in
     let q = and_true (same_kinds ks ls) (same_ways ws vs) p.1 in
-    ap (λ x. way x ks ∷ ws) (eqb-true f g p.0) ∙ ap (λ x. way g x ∷ ws) (kinds_true ks ls q.0) ∙ ap (λ x. way g ls ∷ x) (ways_true ws vs q.1)
+    ap (λ x. way x ks ∷ ws) (eqb-true f g p.0) ∙ ap (λ x. way g x ∷ ws) (kinds_true ks ls q.0)
+    ∙ ap (λ x. way g ls ∷ x) (ways_true ws vs q.1)
 
 -- ---- a form's family lies within two places of it, so that the tests compute a few mnemonics and not seventy
 
@@ -119,13 +120,15 @@ chosen_is f j m h = ap (λ ws. lowest (narrow (mark_by m) ws)) (agree_is f j h)
 abbrev step_test : (f j m : ℕ) → Bool
 step_test f j m =
     cond (ltb (near_chosen f j m) 70)
-    (same_ways (narrow (mark_by m) (near_agree f j)) (near_agree (near_chosen f j m) (suc j)) && ltb j (length (operands_at (near_chosen f j m))))
+    (same_ways (narrow (mark_by m) (near_agree f j)) (near_agree (near_chosen f j m) (suc j)) && ltb j
+    (length (operands_at (near_chosen f j m))))
     (not (some? (narrow (mark_by m) (near_agree f j))))
 
 abbrev shape_test : (f j : ℕ) → Bool
 shape_test f j =
     cond (ltb j (length (operands_at f)))
-    (cond (eqb (length (operands_at f)) (suc j)) (same_ways (near_agree f (suc j)) (way f [] ∷ [])) (go_on (near_agree f (suc j)) && some? (near_agree f (suc j))))
+    (cond (eqb (length (operands_at f)) (suc j)) (same_ways (near_agree f (suc j)) (way f [] ∷ []))
+    (go_on (near_agree f (suc j)) && some? (near_agree f (suc j))))
     true
 
 steps : (k : ℕ) → k < 630 → step_test (k / 9) (k % 9 / 3) (k % 3) ≡ true
@@ -146,7 +149,8 @@ step_test_lem f j m a b c =
     let x : k / 9 ≡ f = omega arith in
     let y : k % 9 / 3 ≡ j = omega arith in
     let z : k % 3 ≡ m = omega arith in
-    subst (λ u. step_test u j m ≡ true) x (subst (λ u. step_test (k / 9) u m ≡ true) y (subst (λ u. step_test (k / 9) (k % 9 / 3) u ≡ true) z (steps k (omega arith))))
+    subst (λ u. step_test u j m ≡ true) x (subst (λ u. step_test (k / 9) u m ≡ true) y
+    (subst (λ u. step_test (k / 9) (k % 9 / 3) u ≡ true) z (steps k (omega arith))))
 
 shape_test_lem : (f j : ℕ) → f < 70 → j < 3 → shape_test f j ≡ true
 shape_test_lem f j a b =
@@ -159,20 +163,25 @@ shape_test_lem f j a b =
 step_ways : (f j m : ℕ) → f < 70 → near_chosen f j m < 70 → narrow (mark_by m) (near_agree f j) ≡ near_agree (near_chosen f j m) (suc j)
     → narrow (mark_by m) (agree f j) ≡ agree (chosen f j m) (suc j)
 step_ways f j m a h e =
-    ap (narrow (mark_by m)) (sym (agree_is f j a)) ∙ e ∙ agree_is (near_chosen f j m) (suc j) h ∙ ap (λ g. agree g (suc j)) (chosen_is f j m a)
+    ap (narrow (mark_by m)) (sym (agree_is f j a)) ∙ e ∙ agree_is (near_chosen f j m) (suc j) h
+    ∙ ap (λ g. agree g (suc j)) (chosen_is f j m a)
 
 -- ---- what they say
 
 pub step_law : (f j m : ℕ) → f < 70 → j < 3 → m < 3 → chosen f j m < 70
     → (narrow (mark_by m) (agree f j) ≡ agree (chosen f j m) (suc j)) × (j < length (operands_at (chosen f j m)))
-step_law f j m a b c h = on (ltb (near_chosen f j m) 70) (lt-ltb (near_chosen f j m) 70 (omega (arith, chosen_is f j m a))) (step_test_lem f j m a b c)
+step_law f j m a b c h = on (ltb (near_chosen f j m) 70) (lt-ltb (near_chosen f j m) 70 (omega (arith, chosen_is f j m a)))
+    (step_test_lem f j m a b c)
   where
     on : (y : Bool) → y ≡ true
-        → cond y (same_ways (narrow (mark_by m) (near_agree f j)) (near_agree (near_chosen f j m) (suc j)) && ltb j (length (operands_at (near_chosen f j m)))) (not (some? (narrow (mark_by m) (near_agree f j)))) ≡ true
+        → cond y (same_ways (narrow (mark_by m) (near_agree f j)) (near_agree (near_chosen f j m) (suc j)) && ltb j
+        (length (operands_at (near_chosen f j m)))) (not (some? (narrow (mark_by m) (near_agree f j)))) ≡ true
         → (narrow (mark_by m) (agree f j) ≡ agree (chosen f j m) (suc j)) × (j < length (operands_at (chosen f j m)))
     on true q e =
-        let p = and_true (same_ways (narrow (mark_by m) (near_agree f j)) (near_agree (near_chosen f j m) (suc j))) (ltb j (length (operands_at (near_chosen f j m)))) e in (
-          step_ways f j m a (omega (arith, chosen_is f j m a)) (ways_true (narrow (mark_by m) (near_agree f j)) (near_agree (near_chosen f j m) (suc j)) p.0),
+        let p = and_true (same_ways (narrow (mark_by m) (near_agree f j)) (near_agree (near_chosen f j m) (suc j)))
+        (ltb j (length (operands_at (near_chosen f j m)))) e in (
+          step_ways f j m a (omega (arith, chosen_is f j m a)) (ways_true (narrow (mark_by m) (near_agree f j))
+              (near_agree (near_chosen f j m) (suc j)) p.0),
           subst (λ g. j < length (operands_at g)) (chosen_is f j m a) (ltb-true j (length (operands_at (near_chosen f j m))) p.1),
         )
     on false q e = false_true q
@@ -187,7 +196,8 @@ none_law f j m a b c h =
     no false e = refl
 
     on : (y : Bool) → y ≡ false
-        → cond y (same_ways (narrow (mark_by m) (near_agree f j)) (near_agree (near_chosen f j m) (suc j)) && ltb j (length (operands_at (near_chosen f j m)))) (not (some? (narrow (mark_by m) (near_agree f j)))) ≡ true
+        → cond y (same_ways (narrow (mark_by m) (near_agree f j)) (near_agree (near_chosen f j m) (suc j)) && ltb j
+        (length (operands_at (near_chosen f j m)))) (not (some? (narrow (mark_by m) (near_agree f j)))) ≡ true
         → some? (narrow (mark_by m) (near_agree f j)) ≡ false
     on true q e = true_false q
     on false q e = no (some? (narrow (mark_by m) (near_agree f j))) e
@@ -203,28 +213,35 @@ some_law f j m h = some_lowest (narrow (mark_by m) (agree f j)) h
 pub done_law : (next : List Way → List Operand → Plan) (f j : ℕ) (xs : List Operand) → f < 70 → j < 3 → length (operands_at f) ≡ suc j
     → behind next (agree f (suc j)) xs ≡ done (instr f xs 0)
 done_law next f j xs a b e =
-    ap (λ w. behind next w xs) (sym (agree_is f (suc j) a) ∙ on (ltb j (length (operands_at f))) (lt-ltb j (length (operands_at f)) (omega arith)) (eqb (length (operands_at f)) (suc j)) (eq-eqb (length (operands_at f)) (suc j) e) (shape_test_lem f j a b))
+    ap (λ w. behind next w xs) (sym (agree_is f (suc j) a)
+    ∙ on (ltb j (length (operands_at f))) (lt-ltb j (length (operands_at f)) (omega arith)) (eqb (length (operands_at f)) (suc j))
+    (eq-eqb (length (operands_at f)) (suc j) e) (shape_test_lem f j a b))
   where
     on : (y : Bool) → y ≡ true → (z : Bool) → z ≡ true
-        → cond y (cond z (same_ways (near_agree f (suc j)) (way f [] ∷ [])) (go_on (near_agree f (suc j)) && some? (near_agree f (suc j)))) true ≡ true → near_agree f (suc j) ≡ way f [] ∷ []
+        → cond y (cond z (same_ways (near_agree f (suc j)) (way f [] ∷ [])) (go_on (near_agree f (suc j)) && some? (near_agree f (suc j))))
+        true ≡ true → near_agree f (suc j) ≡ way f [] ∷ []
     on true p true q e = ways_true (near_agree f (suc j)) (way f [] ∷ []) e
     on true p false q e = false_true q
     on false p z q e = false_true p
 
-goes : (next : List Way → List Operand → Plan) (ws : List Way) (xs : List Operand) → go_on ws && some? ws ≡ true → behind next ws xs ≡ fork none (λ c. eqb c 44) (λ c. next ws xs)
+goes : (next : List Way → List Operand → Plan) (ws : List Way) (xs : List Operand) → go_on ws && some? ws ≡ true
+    → behind next ws xs ≡ fork none (λ c. eqb c 44) (λ c. next ws xs)
 goes next [] xs e = refl
 goes next (way f [] ∷ ws) xs e = false_true e
 goes next (way f (k ∷ ks) ∷ ws) xs e = refl
 
-pub more_law : (next : List Way → List Operand → Plan) (f j : ℕ) (xs : List Operand) → f < 70 → j < 3 → j < length (operands_at f) → (length (operands_at f) ≡ suc j → ⊥)
+pub more_law : (next : List Way → List Operand → Plan) (f j : ℕ) (xs : List Operand) → f < 70 → j < 3 → j < length (operands_at f)
+    → (length (operands_at f) ≡ suc j → ⊥)
     → behind next (agree f (suc j)) xs ≡ fork none (λ c. eqb c 44) (λ c. next (agree f (suc j)) xs)
 more_law next f j xs a b h n =
     goes next (agree f (suc j)) xs
     (subst (λ ws. go_on ws && some? ws ≡ true) (agree_is f (suc j) a)
-    (on (ltb j (length (operands_at f))) (lt-ltb j (length (operands_at f)) h) (eqb (length (operands_at f)) (suc j)) (ne_eqb (length (operands_at f)) (suc j) n) (shape_test_lem f j a b)))
+    (on (ltb j (length (operands_at f))) (lt-ltb j (length (operands_at f)) h) (eqb (length (operands_at f)) (suc j))
+    (ne_eqb (length (operands_at f)) (suc j) n) (shape_test_lem f j a b)))
   where
     on : (y : Bool) → y ≡ true → (z : Bool) → z ≡ false
-        → cond y (cond z (same_ways (near_agree f (suc j)) (way f [] ∷ [])) (go_on (near_agree f (suc j)) && some? (near_agree f (suc j)))) true ≡ true
+        → cond y (cond z (same_ways (near_agree f (suc j)) (way f [] ∷ [])) (go_on (near_agree f (suc j)) && some? (near_agree f (suc j))))
+        true ≡ true
         → go_on (near_agree f (suc j)) && some? (near_agree f (suc j)) ≡ true
     on true p true q e = true_false q
     on true p false q e = e
@@ -247,4 +264,5 @@ row_law rows t f j m a b c =
     let e : get_or (get_or rows (k / 9) []) (k % 9) 0 ≡ near_chosen (k / 9) (k % 9 / 3) (k % 3) =
     agree_at (λ k. get_or (get_or rows (k / 9) []) (k % 9) 0) (λ k. near_chosen (k / 9) (k % 9 / 3) (k % 3)) 630 t k (omega arith) in
     ap (λ n. get_or (get_or rows n []) (3 * j + m) 0) (sym x) ∙ ap (λ n. get_or (get_or rows (k / 9) []) n 0) (sym u) ∙ e
-    ∙ ap (λ n. near_chosen n (k % 9 / 3) (k % 3)) x ∙ ap (λ n. near_chosen f n (k % 3)) y ∙ ap (λ n. near_chosen f j n) z ∙ chosen_is f j m a
+    ∙ ap (λ n. near_chosen n (k % 9 / 3) (k % 3)) x ∙ ap (λ n. near_chosen f n (k % 3)) y ∙ ap (λ n. near_chosen f j n) z
+    ∙ chosen_is f j m a

@@ -111,21 +111,25 @@ module _ (word s : List ℕ) (i : ℕ) (g : Going word s i) where
       record {
         within = omega arith;
         fits = omega arith;
-        same = rw (add-one i) (take-suc word i 0 h ∙ ap (λ y. y ++ (get_or word i 0 ∷ [])) g.same ∙ ap (λ y. take i s ++ (y ∷ [])) (sym e) ∙ sym (take-suc s i 0 k));
+        same = rw (add-one i) (take-suc word i 0 h ∙ ap (λ y. y ++ (get_or word i 0 ∷ [])) g.same ∙ ap (λ y. take i s ++ (y ∷ [])) (sym e)
+            ∙ sym (take-suc s i 0 k));
         says = λ z. rw (add-one i, take-suc word i 0 h) (more z);
       }
     where
       more : (z : List ℕ) → said ((take i word ++ (get_or word i 0 ∷ [])) ++ z) ≡ (take i word ++ (get_or word i 0 ∷ [])) ++ said z
       more z =
-          ap said (append_assoc (take i word) (get_or word i 0 ∷ []) z) ∙ g.says (get_or word i 0 ∷ z) ∙ ap (λ y. take i word ++ y) (shown (get_or word i 0) z n)
+          ap said (append_assoc (take i word) (get_or word i 0 ∷ []) z) ∙ g.says (get_or word i 0 ∷ z)
+          ∙ ap (λ y. take i word ++ y) (shown (get_or word i 0) z n)
           ∙ sym (append_assoc (take i word) (get_or word i 0 ∷ []) (said z))
 
   module _ (b : Bool) where
     ends_so : said (drop i word) ≡ [] → Fronted word b s (ended b i (drop i s))
     ends_so e =
-        subst (λ y. Meets b (y ++ tail_of b) s (ended b i (drop i s))) (sym (said_is ∙ ap (λ y. take i word ++ y) e ∙ append-nil (take i word)))
+        subst (λ y. Meets b (y ++ tail_of b) s (ended b i (drop i s))) (sym (said_is ∙ ap (λ y. take i word ++ y) e
+        ∙ append-nil (take i word)))
         (subst (λ y. Meets b (take i word ++ tail_of b) y (ended b i (drop i s))) (sym line_is)
-        (subst (λ n. Meets b (take i word ++ tail_of b) (take i word ++ drop i s) (ended b n (drop i s))) size (word_ends (take i word) (drop i s) b)))
+        (subst (λ n. Meets b (take i word ++ tail_of b) (take i word ++ drop i s) (ended b n (drop i s))) size
+        (word_ends (take i word) (drop i s) b)))
 
     pub ends_space : i < length word → get_or word i 0 ≡ 32 → Fronted word b s (ended b i (drop i s))
     ends_space h e = ends_so (ap said (drop-cons word i 0 h) ∙ ap (λ y. said (y ∷ drop (suc i) word)) e ∙ shut (drop (suc i) word))
@@ -141,9 +145,11 @@ module _ (word s : List ℕ) (i : ℕ) (g : Going word s i) where
         let y : List ℕ = said (drop (suc i) word) ++ tail_of b in
         let q = f y in
         let w : said (drop i word) ≡ c ∷ said (drop (suc i) word) = ap said (drop-cons word i 0 h) ∙ shown c (drop (suc i) word) n in
-        subst (λ x. Meets b x s (Part i)) (sym (ap (λ x. x ++ tail_of b) (said_is ∙ ap (λ x. take i word ++ x) w) ∙ append_assoc (take i word) (c ∷ said (drop (suc i) word)) (tail_of b)))
+        subst (λ x. Meets b x s (Part i)) (sym (ap (λ x. x ++ tail_of b) (said_is ∙ ap (λ x. take i word ++ x) w)
+        ∙ append_assoc (take i word) (c ∷ said (drop (suc i) word)) (tail_of b)))
         (subst (λ x. Meets b (take i word ++ (c ∷ y)) x (Part i)) (sym (line_is ∙ ap (λ x. take i word ++ x) e))
-        (subst (λ m. Meets b (take i word ++ (c ∷ y)) (take i word ++ r) (Part m)) size (word_parts (take i word) (c ∷ y) r b q.0 (omega arith) q.1)))
+        (subst (λ m. Meets b (take i word ++ (c ∷ y)) (take i word ++ r) (Part m)) size
+        (word_parts (take i word) (c ∷ y) r b q.0 (omega arith) q.1)))
 
     pub parts_short : i < length word → (get_or word i 0 ≡ 32 → ⊥) → length s ≤ i → Fronted word b s (Part i)
     parts_short h n k = parts_so h n [] (drop_of_length-le s k) (λ y. (none_left (get_or word i 0) y, λ e. empty y (ap length e)))
@@ -151,8 +157,10 @@ module _ (word s : List ℕ) (i : ℕ) (g : Going word s i) where
         empty : (y : List ℕ) → 0 ≡ suc (length y) → ⊥
         empty y e = omega arith
 
-    pub parts_other : i < length word → (get_or word i 0 ≡ 32 → ⊥) → i < length s → (get_or s i 0 ≡ get_or word i 0 → ⊥) → Fronted word b s (Part i)
-    parts_other h n k d = parts_so h n (get_or s i 0 ∷ drop (suc i) s) (drop-cons s i 0 k) (λ y. (none_alike (get_or word i 0) (get_or s i 0) y (drop (suc i) s) d, λ e. d (heads e)))
+    pub parts_other : i < length word → (get_or word i 0 ≡ 32 → ⊥) → i < length s → (get_or s i 0 ≡ get_or word i 0 → ⊥)
+        → Fronted word b s (Part i)
+    parts_other h n k d = parts_so h n (get_or s i 0 ∷ drop (suc i) s) (drop-cons s i 0 k)
+        (λ y. (none_alike (get_or word i 0) (get_or s i 0) y (drop (suc i) s) d, λ e. d (heads e)))
       where
         heads : {c d : ℕ} {y z : List ℕ} → c ∷ y ≡ d ∷ z → c ≡ d
         heads e = cc
@@ -180,7 +188,8 @@ end_line false i s e h = rw (drop_of_length-le s h)
 pub far_none : (t : List ℕ) → FarTo 0 t 0
 far_none t = record { misses = λ i h. absurd (omega arith); most = λ i h. absurd (omega arith); some = inl refl }
 
-pub far_more : (k : ℕ) (t : List ℕ) (c n : ℕ) → FarTo k t c → Misses (opens (word_at k)) (spelling (word_at k)) t → common (spelling (word_at k)) t ≡ n
+pub far_more : (k : ℕ) (t : List ℕ) (c n : ℕ) → FarTo k t c → Misses (opens (word_at k)) (spelling (word_at k)) t
+    → common (spelling (word_at k)) t ≡ n
     → FarTo (k + 1) t (cond (leb c n) n c)
 far_more k t c n f m e =
     record {
@@ -214,7 +223,8 @@ far_more k t c n f m e =
 
 -- ---- a row of the tables
 
-pub row_meets : (i : ℕ) (word : List ℕ) (b : Bool) (s : List ℕ) (r q : Front) → Spells i word → b ≡ opens (word_at i) → Fronted word b s r → r ≡ q
+pub row_meets : (i : ℕ) (word : List ℕ) (b : Bool) (s : List ℕ) (r q : Front) → Spells i word → b ≡ opens (word_at i) → Fronted word b s r
+    → r ≡ q
     → Meets (opens (word_at i)) (spelling (word_at i)) s q
 row_meets i word b s r q w e f z =
     subst (λ y. Meets (opens (word_at i)) (spelling (word_at i)) s y) z
@@ -225,7 +235,8 @@ row_meets i word b s r q w e f z =
 pub no_local : (c : ℕ) (s : List ℕ) → c ≡ look s → (c ≡ 46 → ⊥) → false ≡ eqb (look s) 46 && eqb (look (drop 1 s)) 108
 no_local c s e n = rw (ne_eqb (look s) 46 (λ q. n (e ∙ q)))
 
-pub maybe_local : (c d : ℕ) (s : List ℕ) → c ≡ look s → c ≡ 46 → d ≡ look (drop 1 s) → eqb d 108 ≡ eqb (look s) 46 && eqb (look (drop 1 s)) 108
+pub maybe_local : (c d : ℕ) (s : List ℕ) → c ≡ look s → c ≡ 46 → d ≡ look (drop 1 s)
+    → eqb d 108 ≡ eqb (look s) 46 && eqb (look (drop 1 s)) 108
 maybe_local c d s e q z = rw (eq-eqb (look s) 46 (sym e ∙ q), ← z)
 
 pub some_there : (s : List ℕ) (c : ℕ) → look s ≡ suc c → 1 ≤ length s

@@ -93,7 +93,8 @@ seventy_in i l h =
 
 form_in : (i : ℕ) → i < 70 → In (word_at i) word_list
 unfolding word_list
-form_in i h = subst (λ w. In w (dot_words ++ mnemonics)) (sym (at_form i h)) (in_second (word_of (mnemonic i) (family_of i)) dot_words mnemonics (form_word i h))
+form_in i h = subst (λ w. In w (dot_words ++ mnemonics)) (sym (at_form i h))
+    (in_second (word_of (mnemonic i) (family_of i)) dot_words mnemonics (form_word i h))
 
 pub number_in : (i : ℕ) → i < 76 → In (word_at i) word_list
 number_in i h = on (ltb i 70) refl
@@ -183,7 +184,8 @@ far_all t c f g l =
     most w (local e) = subst (λ y. common (spelling y) t ≤ c) (sym e) (omega (arith, far_local, f.most 71 (omega arith)))
     most w (numbered i h e) = subst (λ y. common (spelling y) t ≤ c) (sym e) (f.most i h)
 
-    some : (c ≡ 0) ⊎ ((i : ℕ) × ((i < 76) × (common (spelling (word_at i)) t ≡ c))) → (c ≡ 0) ⊎ ((w : Word) × (In w word_list × (common (spelling w) t ≡ c)))
+    some : (c ≡ 0) ⊎ ((i : ℕ) × ((i < 76) × (common (spelling (word_at i)) t ≡ c)))
+        → (c ≡ 0) ⊎ ((w : Word) × (In w word_list × (common (spelling w) t ≡ c)))
     some (inl e) = inl e
     some (inr (i, (h, e))) = inr (word_at i, (number_in i h, e))
 
@@ -226,7 +228,8 @@ dot_opens i l h = from_seventy (λ i. opens (word_at i) ≡ ltb i 75) refl refl 
 pub dot_spelling : (i : ℕ) → 70 ≤ i → i < 76 → i < 75 → spelling (word_at i) ≡ dot_word (i - 66) ++ tail_of (opens (word_at i))
 unfolding word_at dot_word
 dot_spelling i l h =
-    from_seventy (λ i. i < 75 → spelling (word_at i) ≡ dot_word (i - 66) ++ tail_of (opens (word_at i))) (λ k. refl) (λ k. refl) (λ k. refl) (λ k. refl) (λ k. refl)
+    from_seventy (λ i. i < 75 → spelling (word_at i) ≡ dot_word (i - 66) ++ tail_of (opens (word_at i))) (λ k. refl) (λ k. refl) (λ k. refl)
+    (λ k. refl) (λ k. refl)
     (λ k. absurd (omega arith)) i l h
 
 pub last_spelling : (i : ℕ) → i ≡ 75 → spelling (word_at i) ≡ dot_word 4 ++ tail_of (opens (word_at i))
@@ -239,14 +242,16 @@ opening_word m (way f [] ∷ []) e = false_true e
 opening_word m (way f [] ∷ w ∷ ws) e = refl
 opening_word m (way f (k ∷ ks) ∷ ws) e = refl
 
-closing_word : (m : List ℕ) (ws : List Way) (f : ℕ) → opens (word_of m ws) ≡ false → single ws f ≡ true → word_of m ws ≡ closing m (instr f [] 0)
+closing_word : (m : List ℕ) (ws : List Way) (f : ℕ) → opens (word_of m ws) ≡ false → single ws f ≡ true
+    → word_of m ws ≡ closing m (instr f [] 0)
 closing_word m [] f e s = true_false e
 closing_word m (way g [] ∷ []) f e s = ap (λ x. closing m (instr x [] 0)) (eqb-true g f s)
 closing_word m (way g [] ∷ w ∷ ws) f e s = true_false e
 closing_word m (way g (k ∷ ks) ∷ ws) f e s = true_false e
 
 -- a form with arguments opens a line, and one without is a line
-pub with_arguments : (i : ℕ) → i < 70 → 0 < length (operands_at i) → word_at i ≡ opening (mnemonic i ++ (32 ∷ [])) (args_plan 3 (family_of i) [])
+pub with_arguments : (i : ℕ) → i < 70 → 0 < length (operands_at i)
+    → word_at i ≡ opening (mnemonic i ++ (32 ∷ [])) (args_plan 3 (family_of i) [])
 with_arguments i h a = at_form i h ∙ opening_word (mnemonic i) (family_of i) (opens_test i h ∙ lt-ltb 0 (length (operands_at i)) a)
 
 pub without_arguments : (i : ℕ) → i < 70 → length (operands_at i) ≤ 0 → word_at i ≡ closing (mnemonic i) (instr i [] 0)

@@ -32,10 +32,13 @@ use Rattle.laying.proofs.Speaking.{through, first_byte}
 
 -- ---- a word that opens the line, and one that is the line
 
-opened : (x : List ℕ) (P : Plan) (s : List ℕ) (n : ℕ) (a : List ℕ) (r : Told) → In (opening x P) word_list → s ≡ x ++ drop n s → Spoken P s n a r → Spoken line_plan s 0 a r
-opened x P s n a r i e g = through line_plan P s 0 n a r (λ o w. subst (λ t. Walks line_plan t o) (sym e) (line_opens x P (drop n s) o i w)) g
+opened : (x : List ℕ) (P : Plan) (s : List ℕ) (n : ℕ) (a : List ℕ) (r : Told) → In (opening x P) word_list → s ≡ x ++ drop n s
+    → Spoken P s n a r → Spoken line_plan s 0 a r
+opened x P s n a r i e g = through line_plan P s 0 n a r (λ o w. subst (λ t. Walks line_plan t o) (sym e) (line_opens x P (drop n s) o i w))
+    g
 
-closed : (x : List ℕ) (y : Stmt) (s : List ℕ) (a : List ℕ) (to : ℕ) → In (closing x y) word_list → s ≡ x → Held a to y → Spoken line_plan s 0 a (Frame to)
+closed : (x : List ℕ) (y : Stmt) (s : List ℕ) (a : List ℕ) (to : ℕ) → In (closing x y) word_list → s ≡ x → Held a to y
+    → Spoken line_plan s 0 a (Frame to)
 closed x y s a to i e h = (y, (subst (λ t. Walks line_plan t (got y [])) (sym e) (line_closes x y i), h))
 
 -- ---- by number
@@ -51,7 +54,8 @@ module _ (s : List ℕ) (n i : ℕ) (l : i < 76) (m : Matches (opens (word_at i)
   row_opens x P a r e g = let y = opening_at x P e in opened x P s n a r y.0 y.1.1 g
 
   pub row_closes : (x : List ℕ) (y : Stmt) (a : List ℕ) (to : ℕ) → word_at i ≡ closing x y → Held a to y → Spoken line_plan s 0 a (Frame to)
-  row_closes x y a to e h = closed x y s a to (subst (λ w. In w word_list) e (number_in i l)) (subst (λ w. Matches (opens w) (spelling w) s n) e m) h
+  row_closes x y a to e h = closed x y s a to (subst (λ w. In w word_list) e (number_in i l))
+      (subst (λ w. Matches (opens w) (spelling w) s n) e m) h
 
 -- ---- the dot words
 
@@ -83,7 +87,8 @@ pub comment_held : (b a : List ℕ) (to : ℕ) → length b ≡ 120 → Added b 
 unfolding frame_of
 comment_held b a to e x = x.adds [] 0 (nothing_stands b e)
 
-pub form_held : (b₀ b₁ b₂ : List ℕ) (f p to : ℕ) → length b₀ ≡ 120 → Added b₀ b₁ 0 p (1 ∷ []) 0 → Added b₁ b₂ p to (f ∷ []) 0 → Held b₂ to (instr f [] 0)
+pub form_held : (b₀ b₁ b₂ : List ℕ) (f p to : ℕ) → length b₀ ≡ 120 → Added b₀ b₁ 0 p (1 ∷ []) 0 → Added b₁ b₂ p to (f ∷ []) 0
+    → Held b₂ to (instr f [] 0)
 unfolding frame_of each total
 form_held b₀ b₁ b₂ f p to e x y = y.adds (1 ∷ []) 0 (x.adds [] 0 (nothing_stands b₀ e))
 
@@ -96,7 +101,8 @@ dot_in w i = in_first w dot_words mnemonics i
 pub global_spoken : (s : List ℕ) (a : List ℕ) (r : Told) → look s ≡ 103 → Spoken global_plan s 1 a r → Spoken line_plan s 0 a r
 global_spoken s a r e g = opened (codes "g") global_plan s 1 a r (dot_in (opening (codes "g") global_plan) here) (first_byte s 102 e) g
 
-pub local_spoken : (s : List ℕ) (a : List ℕ) (r : Told) → look s ≡ 46 → look (drop 1 s) ≡ 108 → Spoken local_plan s 2 a r → Spoken line_plan s 0 a r
+pub local_spoken : (s : List ℕ) (a : List ℕ) (r : Told) → look s ≡ 46 → look (drop 1 s) ≡ 108 → Spoken local_plan s 2 a r
+    → Spoken line_plan s 0 a r
 local_spoken s a r e q g =
     opened (codes ".l") local_plan s 2 a r (dot_in (opening (codes ".l") local_plan) (there here))
     (first_byte s 45 e ∙ ap (λ t. 46 ∷ t) (first_byte (drop 1 s) 107 q ∙ ap (λ t. 108 ∷ t) (drop-drop 1 1 s))) g

@@ -33,7 +33,8 @@ org_held : (a : List ℕ) (to n : ℕ) → Stands a to (5 ∷ pair n) 0 → Held
 unfolding frame_of
 org_held a to n w = w
 
-pub org_ends : (s : List ℕ) (k : ℕ) (a : List ℕ) (r : Value) (n v to : ℕ) → r ≡ Is n v → Counted s k 65535 r → Stands a to (5 ∷ pair v) 0 → Spoken org_plan s k a (ends_at (length s) n to)
+pub org_ends : (s : List ℕ) (k : ℕ) (a : List ℕ) (r : Value) (n v to : ℕ) → r ≡ Is n v → Counted s k 65535 r → Stands a to (5 ∷ pair v) 0
+    → Spoken org_plan s k a (ends_at (length s) n to)
 unfolding org_plan
 org_ends s k a r n v to q c w =
     let y = subst (λ x. Counted s k 65535 x) q c in
@@ -47,7 +48,8 @@ org_wrong s k a r n q c =
 
 -- ---- pads
 
-pub pad_stands : (b₀ b₁ b₂ b₃ b₄ : List ℕ) (add m hi lo p q r to : ℕ) → length b₀ ≡ 120 → Added b₀ b₁ 0 p (8 ∷ []) 0 → Added b₁ b₂ p q (add ∷ []) 0
+pub pad_stands : (b₀ b₁ b₂ b₃ b₄ : List ℕ) (add m hi lo p q r to : ℕ) → length b₀ ≡ 120 → Added b₀ b₁ 0 p (8 ∷ []) 0
+    → Added b₁ b₂ p q (add ∷ []) 0
     → Added b₂ b₃ q r (hi ∷ []) 0 → Added b₃ b₄ r to (lo ∷ []) 0 → hi ≡ m / 256 → lo ≡ m % 256 → Stands b₄ to (frame_of (pad add m)) 0
 unfolding frame_of
 pad_stands b₀ b₁ b₂ b₃ b₄ add m hi lo p q r to e x y z w u v =
@@ -59,7 +61,8 @@ multiples_is : (f : ℕ → Stmt) (t : List ℕ) (o : Read ℕ) → number_of 25
 unfolding multiples number_of
 multiples_is f t o e = on (is_decimal (look t)) refl e
   where
-    on : (b : Bool) → is_decimal (look t) ≡ b → cond b (digits 256 0 t) (stuck t) ≡ o → cond b (counted f (digits 256 0 t)) (stuck t) ≡ counted f o
+    on : (b : Bool) → is_decimal (look t) ≡ b → cond b (digits 256 0 t) (stuck t) ≡ o
+        → cond b (counted f (digits 256 0 t)) (stuck t) ≡ counted f o
     on true q e = ap (counted f) e
     on false q e = ap (counted f) e
 
@@ -75,8 +78,11 @@ module _ (add : ℕ) (s : List ℕ) (k : ℕ) (a : List ℕ) (r : Value) (c : Co
 
     pub multiple_more : n < length s → Spoken (finish (multiples 256 (pad add))) s k a (Wrong n)
     multiple_more h =
-        let y = subst (λ x. Counted s k 256 x) q c in
-        (plans.Walks.finishes (multiples_is (pad add) (drop k s) (got v (drop n s)) y.0 ∙ on v (drop n s) (omega (arith, length-drop n s))), y.1.0)
+        let y = subst (λ x. Counted s k 256 x) q c in (
+          plans.Walks.finishes (multiples_is (pad add) (drop k s) (got v (drop n s)) y.0
+              ∙ on v (drop n s) (omega (arith, length-drop n s))),
+          y.1.0,
+        )
       where
         on : (v : ℕ) (t : List ℕ) → 1 ≤ length t → counted (pad add) (got v t) ≡ stuck t
         on v [] l = absurd (omega arith)
@@ -86,19 +92,27 @@ module _ (add : ℕ) (s : List ℕ) (k : ℕ) (a : List ℕ) (r : Value) (c : Co
     pub multiple_zero : length s ≤ n → v < 1 → Spoken (finish (multiples 256 (pad add))) s k a (Wrong n)
     multiple_zero h z =
         let y = subst (λ x. Counted s k 256 x) q c in
-        let e : drop n s ≡ [] = drop_of_length-le s h in
-        (plans.Walks.finishes (multiples_is (pad add) (drop k s) (got v (drop n s)) y.0 ∙ ap (λ t. counted (pad add) (got v t)) e ∙ on v z ∙ ap stuck (sym e)), y.1.0)
+        let e : drop n s ≡ [] = drop_of_length-le s h in (
+          plans.Walks.finishes (multiples_is (pad add) (drop k s) (got v (drop n s)) y.0 ∙ ap (λ t. counted (pad add) (got v t)) e ∙ on v z
+              ∙ ap stuck (sym e)),
+          y.1.0,
+        )
       where
         on : (v : ℕ) → v < 1 → counted (pad add) (got v []) ≡ stuck []
         on zero l = refl
         on (suc v) l = absurd (omega arith)
 
-    pub multiple_ends : (to : ℕ) → length s ≤ n → 1 ≤ v → Stands a to (frame_of (pad add v)) 0 → Spoken (finish (multiples 256 (pad add))) s k a (Frame to)
+    pub multiple_ends : (to : ℕ) → length s ≤ n → 1 ≤ v → Stands a to (frame_of (pad add v)) 0
+        → Spoken (finish (multiples 256 (pad add))) s k a (Frame to)
     multiple_ends to h z w =
         let y = subst (λ x. Counted s k 256 x) q c in
         let e : drop n s ≡ [] = drop_of_length-le s h in (
           pad add v,
-          (plans.Walks.finishes (multiples_is (pad add) (drop k s) (got v (drop n s)) y.0 ∙ ap (λ t. counted (pad add) (got v t)) e ∙ on v z), w),
+          (
+            plans.Walks.finishes (multiples_is (pad add) (drop k s) (got v (drop n s)) y.0 ∙ ap (λ t. counted (pad add) (got v t)) e
+                ∙ on v z),
+            w,
+          ),
         )
       where
         on : (v : ℕ) → 1 ≤ v → counted (pad add) (got v []) ≡ got (pad add v) []
@@ -120,13 +134,15 @@ module _ (s : List ℕ) (k : ℕ) (a : List ℕ) (r : Value) (c : Counted s k 25
     pub align_sizes : (n ≤ length s) × (v ≤ 255)
     align_sizes = let y = subst (λ x. Counted s k 255 x) q c in y.1
 
-    pub align_comma : (x : Told) → look (drop n s) ≡ 44 → Spoken (finish (multiples 256 (pad v))) s (n + 1) a x → Spoken (align_plan pad) s k a x
+    pub align_comma : (x : Told) → look (drop n s) ≡ 44 → Spoken (finish (multiples 256 (pad v))) s (n + 1) a x
+        → Spoken (align_plan pad) s k a x
     unfolding align_plan
     align_comma x e g =
         let y = subst (λ x. Counted s k 255 x) q c in
         through (decimal 255 Comma) (finish (multiples 256 (pad v))) s k (n + 1) a x
         (λ o w.
-        decimal_got 255 Comma (drop k s) (drop n s) v o y.0 (fork_byte none (λ c. eqb c 44) (λ c. finish (multiples 256 (pad v))) s n 43 o e refl w)) g
+        decimal_got 255 Comma (drop k s) (drop n s) v o y.0 (fork_byte none (λ c. eqb c 44) (λ c. finish (multiples 256 (pad v))) s n 43 o e
+        refl w)) g
 
     pub align_wrong : (look (drop n s) ≡ 44 → ⊥) → Spoken (align_plan pad) s k a (Wrong n)
     unfolding align_plan

@@ -31,12 +31,14 @@ variable_held : (a : List ℕ) (to n : ℕ) (e : Expr) → Stands a to ((3 ∷ p
 unfolding frame_of
 variable_held a to n e w = let z : 0 + long e ≡ long e = omega arith in subst (λ l. Stands a to (3 ∷ (pair n ++ bytes_of e)) l) z w
 
-pub value_ends : (s : List ℕ) (k : ℕ) (b a : List ℕ) (at : ℕ) (r : Found) (n to m : ℕ) → r ≡ Ends n to → Termed s k b a at r → Stands b at (3 ∷ pair m) 0
+pub value_ends : (s : List ℕ) (k : ℕ) (b a : List ℕ) (at : ℕ) (r : Found) (n to m : ℕ) → r ≡ Ends n to → Termed s k b a at r
+    → Stands b at (3 ∷ pair m) 0
     → Spoken (expression (λ e. done (variable m e))) s k a (ends_at (length s) n to)
 value_ends s k b a at r n to m q w z =
     let y = subst (λ x. Termed s k b a at x) q w in
     let e : Expr = y.0 in
-    through (expression (λ e. done (variable m e))) (done (variable m e)) s k n a (ends_at (length s) n to) (λ o v. plans.Walks.tree y.1.0 v)
+    through (expression (λ e. done (variable m e))) (done (variable m e)) s k n a (ends_at (length s) n to)
+    (λ o v. plans.Walks.tree y.1.0 v)
     (done_spoken (variable m e) s n a to y.1.1.0 (variable_held a to m e (y.1.1.1.adds (3 ∷ pair m) 0 z)))
 
 pub value_wrong : (s : List ℕ) (k : ℕ) (b a : List ℕ) (at : ℕ) (r : Found) (n m : ℕ) → r ≡ Stuck n → Termed s k b a at r
@@ -49,22 +51,31 @@ value_wrong s k b a at r n m q w =
 abbrev Global : ℕ → Plan
 Global n = fork none (λ c. eqb c 58 || eqb c 61) (after_global n)
 
-pub global_label : (s : List ℕ) (k n : ℕ) (a : List ℕ) (r : Told) → look (drop k s) ≡ 58 → Spoken (done (label n)) s (k + 1) a r → Spoken (Global n) s k a r
-global_label s k n a r e g = through (Global n) (done (label n)) s k (k + 1) a r (λ o w. fork_byte none (λ c. eqb c 58 || eqb c 61) (after_global n) s k 57 o e refl w) g
+pub global_label : (s : List ℕ) (k n : ℕ) (a : List ℕ) (r : Told) → look (drop k s) ≡ 58 → Spoken (done (label n)) s (k + 1) a r
+    → Spoken (Global n) s k a r
+global_label s k n a r e g = through (Global n) (done (label n)) s k (k + 1) a r
+    (λ o w. fork_byte none (λ c. eqb c 58 || eqb c 61) (after_global n) s k 57 o e refl w) g
 
-pub global_variable : (s : List ℕ) (k n : ℕ) (a : List ℕ) (r : Told) → look (drop k s) ≡ 61 → Spoken (expression (λ e. done (variable n e))) s (k + 1) a r → Spoken (Global n) s k a r
+pub global_variable : (s : List ℕ) (k n : ℕ) (a : List ℕ) (r : Told) → look (drop k s) ≡ 61
+    → Spoken (expression (λ e. done (variable n e))) s (k + 1) a r → Spoken (Global n) s k a r
 global_variable s k n a r e g =
-    through (Global n) (expression (λ e. done (variable n e))) s k (k + 1) a r (λ o w. fork_byte none (λ c. eqb c 58 || eqb c 61) (after_global n) s k 60 o e refl w) g
+    through (Global n) (expression (λ e. done (variable n e))) s k (k + 1) a r
+    (λ o w. fork_byte none (λ c. eqb c 58 || eqb c 61) (after_global n) s k 60 o e refl w) g
 
-pub global_wrong : (s : List ℕ) (k n : ℕ) (a : List ℕ) → k ≤ length s → (look (drop k s) ≡ 58 → ⊥) → (look (drop k s) ≡ 61 → ⊥) → Spoken (Global n) s k a (Wrong k)
-global_wrong s k n a h p q =
-    (fork_wrong (λ c. eqb c 58 || eqb c 61) (after_global n) (drop k s) (rw (ne_eqb (look (drop k s)) 58 p, ne_eqb (look (drop k s)) 61 q)), h)
+pub global_wrong : (s : List ℕ) (k n : ℕ) (a : List ℕ) → k ≤ length s → (look (drop k s) ≡ 58 → ⊥) → (look (drop k s) ≡ 61 → ⊥)
+    → Spoken (Global n) s k a (Wrong k)
+global_wrong s k n a h p q = (
+  fork_wrong (λ c. eqb c 58 || eqb c 61) (after_global n) (drop k s) (rw (ne_eqb (look (drop k s)) 58 p, ne_eqb (look (drop k s)) 61 q)),
+  h,
+)
 
 abbrev Local : ℕ → Plan
 Local n = fork none (λ c. eqb c 58) (λ c. done (label n))
 
-pub local_label : (s : List ℕ) (k n : ℕ) (a : List ℕ) (r : Told) → look (drop k s) ≡ 58 → Spoken (done (label n)) s (k + 1) a r → Spoken (Local n) s k a r
-local_label s k n a r e g = through (Local n) (done (label n)) s k (k + 1) a r (λ o w. fork_byte none (λ c. eqb c 58) (λ c. done (label n)) s k 57 o e refl w) g
+pub local_label : (s : List ℕ) (k n : ℕ) (a : List ℕ) (r : Told) → look (drop k s) ≡ 58 → Spoken (done (label n)) s (k + 1) a r
+    → Spoken (Local n) s k a r
+local_label s k n a r e g = through (Local n) (done (label n)) s k (k + 1) a r
+    (λ o w. fork_byte none (λ c. eqb c 58) (λ c. done (label n)) s k 57 o e refl w) g
 
 pub local_wrong : (s : List ℕ) (k n : ℕ) (a : List ℕ) → k ≤ length s → (look (drop k s) ≡ 58 → ⊥) → Spoken (Local n) s k a (Wrong k)
 local_wrong s k n a h p = (fork_wrong (λ c. eqb c 58) (λ c. done (label n)) (drop k s) (ne_eqb (look (drop k s)) 58 p), h)

@@ -35,14 +35,16 @@ a_digit d h = on (ltb d 10) refl
         let k : d < 10 = ltb-true d 10 e in
         let t : hex_digit d ≡ 48 + d = rw e in
         record {
-          is = rw t (or_first (leb 48 (48 + d) && leb (48 + d) 57) (leb 65 (48 + d) && leb (48 + d) 70) (and_both (leb 48 (48 + d)) (leb (48 + d) 57) (le-leb 48 (48 + d) (omega arith)) (le-leb (48 + d) 57 (omega arith))));
+          is = rw t (or_first (leb 48 (48 + d) && leb (48 + d) 57) (leb 65 (48 + d) && leb (48 + d) 70)
+              (and_both (leb 48 (48 + d)) (leb (48 + d) 57) (le-leb 48 (48 + d) (omega arith)) (le-leb (48 + d) 57 (omega arith))));
           back = rw (t, le-leb (48 + d) 57 (omega arith)) (omega arith);
         }
     on false e =
         let k : 10 ≤ d = ltb-false d 10 e in
         let t : hex_digit d ≡ 55 + d = rw e in
         record {
-          is = rw t (or_second (leb 48 (55 + d) && leb (55 + d) 57) (leb 65 (55 + d) && leb (55 + d) 70) (and_both (leb 65 (55 + d)) (leb (55 + d) 70) (le-leb 65 (55 + d) (omega arith)) (le-leb (55 + d) 70 (omega arith))));
+          is = rw t (or_second (leb 48 (55 + d) && leb (55 + d) 57) (leb 65 (55 + d) && leb (55 + d) 70)
+              (and_both (leb 65 (55 + d)) (leb (55 + d) 70) (le-leb 65 (55 + d) (omega arith)) (le-leb (55 + d) 70 (omega arith))));
           back = rw (t, lt_leb (55 + d) 57 (omega arith)) (omega arith);
         }
       where
@@ -130,7 +132,8 @@ half : (c : ℕ) → is_digit c ≡ true → hexes (c ∷ []) ≡ stuck []
 unfolding hexes
 half c p = rw p
 
-pair_step : (c d : ℕ) (t : List ℕ) → is_digit c ≡ true → is_digit d ≡ true → hexes (c ∷ d ∷ t) ≡ on_got (λ s. (digit c * 16 + digit d) ∷ s) (hexes t)
+pair_step : (c d : ℕ) (t : List ℕ) → is_digit c ≡ true → is_digit d ≡ true
+    → hexes (c ∷ d ∷ t) ≡ on_got (λ s. (digit c * 16 + digit d) ∷ s) (hexes t)
 unfolding hexes
 pair_step c d t p q = rw (p, q)
 
@@ -148,7 +151,8 @@ unfolding hexes
 zeros = refl
 
 none_read : (c : ℕ) (t : List ℕ) → is_digit c ≡ false → HexHalts (c ∷ t) (c ∷ t)
-none_read c t p = record { w = []; split = refl; more = 48 ∷ 48 ∷ []; line = 0 ∷ []; some = omega arith; good = zeros; alike = λ u k. wrong_alike p k }
+none_read c t p =
+    record { w = []; split = refl; more = 48 ∷ 48 ∷ []; line = 0 ∷ []; some = omega arith; good = zeros; alike = λ u k. wrong_alike p k }
 
 one_read : (c : ℕ) (r : List ℕ) → is_digit c ≡ true → ((u : List ℕ) → Alike r u → hexes (c ∷ u) ≡ stuck u) → HexHalts (c ∷ r) r
 unfolding hexes
@@ -163,12 +167,14 @@ one_read c r p f =
       alike = f;
     }
 
-two_read : (c d : ℕ) (t : List ℕ) → is_digit c ≡ true → is_digit d ≡ true → (o : Read (List ℕ)) → FineHexes t o → FineHexes (c ∷ d ∷ t) (on_got (λ s. (digit c * 16 + digit d) ∷ s) o)
+two_read : (c d : ℕ) (t : List ℕ) → is_digit c ≡ true → is_digit d ≡ true → (o : Read (List ℕ)) → FineHexes t o
+    → FineHexes (c ∷ d ∷ t) (on_got (λ s. (digit c * 16 + digit d) ∷ s) o)
 unfolding every each
 two_read c d t p q (got s r) (z, h) = (
   z,
   record {
-    small = and_both (leb (digit c * 16 + digit d) 255) (every (λ b. leb b 255) s) (le-leb (digit c * 16 + digit d) 255 (omega (arith, (digit_worth c p).less, (digit_worth d q).less))) h.small;
+    small = and_both (leb (digit c * 16 + digit d) 255) (every (λ b. leb b 255) s)
+        (le-leb (digit c * 16 + digit d) 255 (omega (arith, (digit_worth c p).less, (digit_worth d q).less))) h.small;
     text = ap (λ x. c ∷ d ∷ x) h.text ∙ ap (λ x. x ++ each (λ b. hex_byte b) s) (sym (pair_byte c d p q));
   },
 )
@@ -251,10 +257,19 @@ unfolding Alive comments
 comments_alive = ((48 ∷ 48 ∷ [], (comment (0 ∷ []), ap (on_got (λ s. comment s)) zeros)), fine)
   where
     fine : (t : List ℕ) → Finishes comments t (comments t)
-    fine [] = record { w = []; split = refl; more = 48 ∷ 48 ∷ []; line = comment (0 ∷ []); good = ap (on_got (λ s. comment s)) zeros; alike = λ u k. empty_alike k }
+    fine [] = record {
+      w = [];
+      split = refl;
+      more = 48 ∷ 48 ∷ [];
+      line = comment (0 ∷ []);
+      good =
+          ap (on_got (λ s. comment s)) zeros;
+      alike = λ u k. empty_alike k;
+    }
     fine (c ∷ t) = finish_comments c t (hexes (c ∷ t)) (fine_hexes (c ∷ t))
 
-got_comment : (c : ℕ) (t : List ℕ) (s : Stmt) (o : Read (List ℕ)) → FineHexes (c ∷ t) o → on_got (λ s. comment s) o ≡ got s [] → (x : List ℕ) × ((s ≡ comment x) × HexIs x (c ∷ t))
+got_comment : (c : ℕ) (t : List ℕ) (s : Stmt) (o : Read (List ℕ)) → FineHexes (c ∷ t) o → on_got (λ s. comment s) o ≡ got s []
+    → (x : List ℕ) × ((s ≡ comment x) × HexIs x (c ∷ t))
 got_comment c t s (got x r) h e = (x, (is e, h.1))
   where
     is : {a b : Stmt} {r q : List ℕ} → got a r ≡ got b q → b ≡ a
@@ -275,7 +290,8 @@ comment_line s (c ∷ t) (plans.finished e) = on (got_comment c t s (hexes (c �
         subst (λ y. Line y (codes ".comment " ++ (c ∷ t))) (sym z)
         (subst (λ y. Line (comment (b ∷ x)) (codes ".comment " ++ y)) (sym h.text) (reading.commented {s = b ∷ x} h.small))
 
-pub line_comment : (b : ℕ) (s : List ℕ) → every (λ b. leb b 255) (b ∷ s) ≡ true → Reads (finish comments) (comment (b ∷ s)) (each (λ b. hex_byte b) (b ∷ s))
+pub line_comment : (b : ℕ) (s : List ℕ) → every (λ b. leb b 255) (b ∷ s) ≡ true
+    → Reads (finish comments) (comment (b ∷ s)) (each (λ b. hex_byte b) (b ∷ s))
 unfolding each
 line_comment b s e = plans.finished (comments_of (each (λ b. hex_byte b) (b ∷ s)) long ∙ ap (on_got (λ s. comment s)) (hexes_all (b ∷ s) e))
   where

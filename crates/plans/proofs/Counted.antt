@@ -34,7 +34,8 @@ module _ (most : ℕ) (f : ℕ → Stmt) where
   counted_all n t d h =
       let p : is_decimal (look t) ≡ true = subst (λ y. is_decimal (look y) ≡ true) (append-nil t) (digit_head most n t [] d) in
       let e : digits most 0 t ≡ got n [] =
-      subst (λ y. digits most 0 y ≡ got n []) (append-nil t) (digits_all most 0 t [] d.digits (omega (arith, d.is, d.within)) refl ∙ ap (λ x. got x []) d.is) in
+      subst (λ y. digits most 0 y ≡ got n []) (append-nil t) (digits_all most 0 t [] d.digits (omega (arith, d.is, d.within)) refl
+      ∙ ap (λ x. got x []) d.is) in
       ap (λ b. cond b (counted f (digits most 0 t)) (stuck t)) p ∙ ap (counted f) e ∙ from_one n h
 
   -- what begins with digits that are not too many can be finished
@@ -81,14 +82,17 @@ module _ (most : ℕ) (f : ℕ → Stmt) where
   some_digit t o e = ap (λ b. cond b (counted f (digits most 0 t)) (stuck t)) e.0 ∙ ap (counted f) e.1
 
   -- stuck behind a number: at the end if it is 0, at a byte
-  end_alike : (w u : List ℕ) → ((u : List ℕ) → look [] ≡ look u → (is_decimal (look (w ++ u)) ≡ true) × (digits most 0 (w ++ u) ≡ got 0 u)) → Alike [] u → multiples most f (w ++ u) ≡ stuck u
+  end_alike : (w u : List ℕ) → ((u : List ℕ) → look [] ≡ look u → (is_decimal (look (w ++ u)) ≡ true) × (digits most 0 (w ++ u) ≡ got 0 u))
+      → Alike [] u → multiples most f (w ++ u) ≡ stuck u
   end_alike w u g both = some_digit (w ++ []) (got 0 []) (g [] refl)
 
-  byte_alike : (w u : List ℕ) (n c : ℕ) (r : List ℕ) → ((u : List ℕ) → c ≡ look u → (is_decimal (look (w ++ u)) ≡ true) × (digits most 0 (w ++ u) ≡ got n u)) → Alike (c ∷ r) u
+  byte_alike : (w u : List ℕ) (n c : ℕ) (r : List ℕ)
+      → ((u : List ℕ) → c ≡ look u → (is_decimal (look (w ++ u)) ≡ true) × (digits most 0 (w ++ u) ≡ got n u)) → Alike (c ∷ r) u
       → multiples most f (w ++ u) ≡ stuck u
   byte_alike w u n c r g (same {u = v}) = some_digit (w ++ (c ∷ v)) (got n (c ∷ v)) (g (c ∷ v) refl)
 
-  halts : (t r : List ℕ) (n : ℕ) (w : List ℕ) → t ≡ w ++ r → 1 ≤ most → Decimal most n w → ((u : List ℕ) → Alike r u → multiples most f (w ++ u) ≡ stuck u) → Halts (multiples most f) t r
+  halts : (t r : List ℕ) (n : ℕ) (w : List ℕ) → t ≡ w ++ r → 1 ≤ most → Decimal most n w
+      → ((u : List ℕ) → Alike r u → multiples most f (w ++ u) ≡ stuck u) → Halts (multiples most f) t r
   halts t r n w s m d g = let h = filled n w m d in record { w = w; split = s; more = h.more; line = h.line; good = h.good; alike = g }
 
   finishes : (t : List ℕ) → 9 ≤ most → (o : Read ℕ) → NumTook most t o → Finishes (multiples most f) t (counted f o)
@@ -128,7 +132,13 @@ module _ (most : ℕ) (f : ℕ → Stmt) where
   count_got : (s : Stmt) (t : List ℕ) (o : Read ℕ) → NumTook most t o → counted f o ≡ got s [] → Count s t
   count_got s t (got zero []) a e = clash (cc)
   count_got s t (got (suc n) []) a e =
-      record { n = suc n; is = is e; good = subst (λ y. Decimal most (suc n) y) (sym (a.split ∙ append-nil a.w)) a.means; least = omega arith }
+      record {
+        n = suc n;
+        is = is e;
+        good = subst (λ y. Decimal most (suc n) y) (sym (a.split ∙ append-nil a.w)) a.means;
+        least =
+            omega arith;
+      }
     where
       is : {x y : Stmt} → ◌≡◌ {A = Read Stmt} (got x []) (got y []) → y ≡ x
       is e = cc
@@ -185,6 +195,7 @@ align_of make s t g = on (value_of g)
               least = z.least;
             }
 
-pub of_align : (make : ℕ → ℕ → Stmt) (a m : ℕ) (u v : List ℕ) → Decimal 255 a u → Decimal 256 m v → 1 ≤ m → Reads (align_plan make) (make a m) (u ++ (44 ∷ v))
+pub of_align : (make : ℕ → ℕ → Stmt) (a m : ℕ) (u v : List ℕ) → Decimal 255 a u → Decimal 256 m v → 1 ≤ m
+    → Reads (align_plan make) (make a m) (u ++ (44 ∷ v))
 unfolding align_plan
 of_align make a m u v d e h = plans.value d (plans.byte refl (plans.finished (counted_all 256 (make a) m v e h)))

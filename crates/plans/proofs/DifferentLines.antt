@@ -63,7 +63,8 @@ own_is (bytes es) h = refl
 own_is (words es) h = refl
 own_is (pad n m) h = refl
 
-pub different_lines : (a b : List ℕ) → Bytes a → Bytes b → (s r : Stmt) → read_frame 0 a ≡ ok s → read_frame 0 b ≡ ok r → line_text s ≡ line_text r → s ≡ r
+pub different_lines : (a b : List ℕ) → Bytes a → Bytes b → (s r : Stmt) → read_frame 0 a ≡ ok s → read_frame 0 b ≡ ok r
+    → line_text s ≡ line_text r → s ≡ r
 different_lines a b ba bb s r d e t =
     let h = framed a s d in
     let k = framed b r e in

@@ -38,9 +38,11 @@ pub record Instructed (by : ℕ) (ws : List Way) (xs : List Operand) (s : Stmt) 
   pub text : Arguments by ks ys t
 
 abbrev Sound : ℕ → Type 0
-Sound n = (ws : List Way) (xs : List Operand) (s : Stmt) (t : List ℕ) (by : ℕ) → ways_fit n ws ≡ true → Reads (args_plan n ws xs) s t → Instructed by ws xs s (by ∷ t)
+Sound n = (ws : List Way) (xs : List Operand) (s : Stmt) (t : List ℕ) (by : ℕ) → ways_fit n ws ≡ true → Reads (args_plan n ws xs) s t
+    → Instructed by ws xs s (by ∷ t)
 
-pub ends_so : (f : ℕ) (xs : List Operand) (s : Stmt) (t : List ℕ) (by : ℕ) → Reads (done (instr f xs 0)) s t → Instructed by (way f [] ∷ []) xs s t
+pub ends_so : (f : ℕ) (xs : List Operand) (s : Stmt) (t : List ℕ) (by : ℕ) → Reads (done (instr f xs 0)) s t
+    → Instructed by (way f [] ∷ []) xs s t
 ends_so f xs s t by g =
     record {
       f = f;
@@ -51,7 +53,8 @@ ends_so f xs s t by g =
       text = subst (λ y. Arguments by [] [] y) (sym (done_ends g)) reading.Arguments.none;
     }
 
-behind_sound : (n : ℕ) → Sound n → (ws : List Way) (xs : List Operand) (s : Stmt) (t : List ℕ) → behind_fit (ways_fit n) ws ≡ true → Reads (behind (args_plan n) ws xs) s t
+behind_sound : (n : ℕ) → Sound n → (ws : List Way) (xs : List Operand) (s : Stmt) (t : List ℕ) → behind_fit (ways_fit n) ws ≡ true
+    → Reads (behind (args_plan n) ws xs) s t
     → Instructed 44 ws xs s t
 behind_sound n ih [] xs s t e g = false_true e
 behind_sound n ih (way f [] ∷ []) xs s t e g = ends_so f xs s t 44 g
@@ -68,7 +71,8 @@ args_sound (suc n) ws xs s t by e g = on (args_sound n)
   where
     on : Sound n → Instructed by ws xs s (by ∷ t)
     on ih =
-        let a = said (λ m. some? (narrow m ws)) (λ m x. behind (args_plan n) (narrow m ws) (xs ++ (x ∷ []))) s t (some? (narrow plain ws)) refl g in
+        let a = said (λ m. some? (narrow m ws)) (λ m x. behind (args_plan n) (narrow m ws) (xs ++ (x ∷ []))) s t (some? (narrow plain ws))
+        refl g in
         let r = behind_sound n ih (narrow a.m ws) (xs ++ (a.x ∷ [])) s a.v ((fit_of n ws e).each a.m a.may) a.rest in
         let q = narrow_in a.m r.f r.ks ws r.among in
         record {
@@ -95,16 +99,19 @@ record First (by : ℕ) (k : Kind) (ks : List Kind) (ys : List Operand) (t : Lis
   rest : Arguments 44 ks xs v
 
 first_of : {by : ℕ} {k : Kind} {ks : List Kind} {ys : List Operand} {t : List ℕ} → Arguments by (k ∷ ks) ys t → First by k ks ys t
-first_of (reading.Arguments.more {x = x} {xs = xs} {s = u} {t = v} a r) = record { x = x; xs = xs; u = u; v = v; is = refl; text = refl; one = a; rest = r }
+first_of (reading.Arguments.more {x = x} {xs = xs} {s = u} {t = v} a r) =
+    record { x = x; xs = xs; u = u; v = v; is = refl; text = refl; one = a; rest = r }
 
 none_of : {by : ℕ} {ys : List Operand} {t : List ℕ} → Arguments by [] ys t → (ys ≡ []) × (t ≡ [])
 none_of reading.Arguments.none = (refl, refl)
 
 abbrev Full : ℕ → Type 0
-Full n = (ws : List Way) (xs : List Operand) (f by : ℕ) (ks : List Kind) (ys : List Operand) (t : List ℕ) → ways_fit n ws ≡ true → In (way f ks) ws → Arguments by ks ys (by ∷ t)
+Full n = (ws : List Way) (xs : List Operand) (f by : ℕ) (ks : List Kind) (ys : List Operand) (t : List ℕ) → ways_fit n ws ≡ true
+    → In (way f ks) ws → Arguments by ks ys (by ∷ t)
     → Reads (args_plan n ws xs) (instr f (xs ++ ys) 0) t
 
-ends_text : (f : ℕ) (xs ys : List Operand) (t : List ℕ) (by : ℕ) → Arguments by [] ys t → Reads (done (instr f xs 0)) (instr f (xs ++ ys) 0) t
+ends_text : (f : ℕ) (xs ys : List Operand) (t : List ℕ) (by : ℕ) → Arguments by [] ys t
+    → Reads (done (instr f xs 0)) (instr f (xs ++ ys) 0) t
 ends_text f xs ys t by a =
     let e = none_of a in
     subst (λ y. Reads (done (instr f xs 0)) (instr f y 0) t) (sym (append-nil xs) ∙ ap (λ y. xs ++ y) (sym e.0))
@@ -116,7 +123,8 @@ fit_on zero ws e = false_true e
 fit_on (suc n) ws e = (fit_of n ws e).on
 
 -- where all go on, a comma follows
-goes_on : (n : ℕ) → Full n → (ws : List Way) (xs : List Operand) (f : ℕ) (ks : List Kind) (ys : List Operand) (t : List ℕ) → ways_fit n ws ≡ true → In (way f ks) ws → Arguments 44 ks ys t
+goes_on : (n : ℕ) → Full n → (ws : List Way) (xs : List Operand) (f : ℕ) (ks : List Kind) (ys : List Operand) (t : List ℕ)
+    → ways_fit n ws ≡ true → In (way f ks) ws → Arguments 44 ks ys t
     → Reads (fork none (λ c. eqb c 44) (λ c. args_plan n ws xs)) (instr f (xs ++ ys) 0) t
 goes_on n ih ws xs f [] ys t e i a = absurd (on_in f ws (fit_on n ws e) i)
 goes_on n ih ws xs f (k ∷ ks) ys t e i a =
@@ -125,7 +133,8 @@ goes_on n ih ws xs f (k ∷ ks) ys t e i a =
     subst (λ y. Reads (fork none (λ c. eqb c 44) (λ c. args_plan n ws xs)) (instr f (xs ++ ys) 0) y) (sym b.text)
     (plans.byte refl (ih ws xs f 44 (k ∷ ks) ys (b.u ++ b.v) e i (subst (λ y. Arguments 44 (k ∷ ks) ys y) b.text a)))
 
-behind_full : (n : ℕ) → Full n → (ws : List Way) (xs : List Operand) (f : ℕ) (ks : List Kind) (ys : List Operand) (t : List ℕ) → behind_fit (ways_fit n) ws ≡ true
+behind_full : (n : ℕ) → Full n → (ws : List Way) (xs : List Operand) (f : ℕ) (ks : List Kind) (ys : List Operand) (t : List ℕ)
+    → behind_fit (ways_fit n) ws ≡ true
     → In (way f ks) ws → Arguments 44 ks ys t → Reads (behind (args_plan n) ws xs) (instr f (xs ++ ys) 0) t
 behind_full n ih [] xs f ks ys t e i a = false_true e
 behind_full n ih (way g [] ∷ []) xs f ks ys t e (there j) a = elim j [ ]
@@ -145,9 +154,11 @@ args_full (suc n) ws xs f by (k ∷ ks) ys t e i a = on (args_full n) (first_of 
         let may = in_some (way f ks) (narrow (mark_of k) ws) j in
         let z : t ≡ b.u ++ b.v = tails b.text in
         subst (λ y. Reads (args_plan (suc n) ws xs) (instr f (xs ++ ys) 0) y) (sym z)
-        (says (λ m. some? (narrow m ws)) (λ m x. behind (args_plan n) (narrow m ws) (xs ++ (x ∷ []))) (argument_shape b.one) (instr f (xs ++ ys) 0) b.v
+        (says (λ m. some? (narrow m ws)) (λ m x. behind (args_plan n) (narrow m ws) (xs ++ (x ∷ []))) (argument_shape b.one)
+        (instr f (xs ++ ys) 0) b.v
         (some? (narrow plain ws)) refl may
-        (subst (λ y. Reads (behind (args_plan n) (narrow (mark_of k) ws) (xs ++ (b.x ∷ []))) (instr f y 0) b.v) (append_assoc xs (b.x ∷ []) b.xs ∙ ap (λ y. xs ++ y) (sym b.is))
+        (subst (λ y. Reads (behind (args_plan n) (narrow (mark_of k) ws) (xs ++ (b.x ∷ []))) (instr f y 0) b.v)
+        (append_assoc xs (b.x ∷ []) b.xs ∙ ap (λ y. xs ++ y) (sym b.is))
         (behind_full n ih (narrow (mark_of k) ws) (xs ++ (b.x ∷ [])) f ks b.xs b.v ((fit_of n ws e).each (mark_of k) may) j b.rest)))
       where
         tails : {u : List ℕ} → by ∷ t ≡ by ∷ u → t ≡ u
@@ -155,7 +166,8 @@ args_full (suc n) ws xs f by (k ∷ ks) ys t e i a = on (args_full n) (first_of 
 
 -- ---- alive
 
-behind_alive : (n : ℕ) (ws : List Way) (xs : List Operand) → behind_fit (ways_fit n) ws ≡ true → (ways_fit n ws ≡ true → Alive (args_plan n ws xs))
+behind_alive : (n : ℕ) (ws : List Way) (xs : List Operand) → behind_fit (ways_fit n) ws ≡ true
+    → (ways_fit n ws ≡ true → Alive (args_plan n ws xs))
     → Behind (behind (args_plan n) ws xs) × Alive (behind (args_plan n) ws xs)
 unfolding Alive
 behind_alive n [] xs e a = false_true e
@@ -174,10 +186,12 @@ args_alive (suc n) ws xs e = on (fit_of n ws e) (λ vs ys q. args_alive n vs ys 
     first_mark (way f (k ∷ ks) ∷ vs) p q =
         (mark_of k, in_some (way f ks) (narrow (mark_of k) (way f (k ∷ ks) ∷ vs)) (in_narrow f k ks (way f (k ∷ ks) ∷ vs) here))
 
-    on : Fit n ws → ((vs : List Way) (ys : List Operand) → ways_fit n vs ≡ true → Alive (args_plan n vs ys)) → Alive (args_plan (suc n) ws xs)
+    on : Fit n ws → ((vs : List Way) (ys : List Operand) → ways_fit n vs ≡ true → Alive (args_plan n vs ys))
+        → Alive (args_plan (suc n) ws xs)
     on h ih =
         let m = first_mark ws h.on h.has in
-        argument_alive (λ m. some? (narrow m ws)) (λ m x. behind (args_plan n) (narrow m ws) (xs ++ (x ∷ []))) (some? (narrow plain ws)) refl m.0 m.1
+        argument_alive (λ m. some? (narrow m ws)) (λ m x. behind (args_plan n) (narrow m ws) (xs ++ (x ∷ []))) (some? (narrow plain ws))
+        refl m.0 m.1
         (λ m x q. behind_alive n (narrow m ws) (xs ++ (x ∷ [])) (h.each m q) (ih (narrow m ws) (xs ++ (x ∷ []))))
 
 -- ---- the words
@@ -194,14 +208,16 @@ unfolding family
 family_in m [] w i = elim i [ ]
 family_in m (f ∷ fs) w i = on (into (same (mnemonic f) m) w (way f (operands_at f)) (family m fs) i) (λ j. family_in m fs w j)
   where
-    on : ((w ≡ way f (operands_at f)) × (same (mnemonic f) m ≡ true)) ⊎ In w (family m fs) → (In w (family m fs) → Member m fs w) → Member m (f ∷ fs) w
+    on : ((w ≡ way f (operands_at f)) × (same (mnemonic f) m ≡ true)) ⊎ In w (family m fs) → (In w (family m fs) → Member m fs w)
+        → Member m (f ∷ fs) w
     on (inl (e, q)) h = record { f = f; is = e; called = same_true (mnemonic f) m q; among = here }
     on (inr j) h = let r = h j in record { f = r.f; is = r.is; called = r.called; among = there r.among }
 
 in_family : (f : ℕ) (fs : List ℕ) → In f fs → In (way f (operands_at f)) (family (mnemonic f) fs)
 unfolding family
 in_family f [] j = elim j [ ]
-in_family f (g ∷ fs) here = subst (λ b. In (way f (operands_at f)) (onto b (way f (operands_at f)) (family (mnemonic f) fs))) (sym (same_refl (mnemonic f))) here
+in_family f (g ∷ fs) here = subst (λ b. In (way f (operands_at f)) (onto b (way f (operands_at f)) (family (mnemonic f) fs)))
+    (sym (same_refl (mnemonic f))) here
 in_family f (g ∷ fs) (there i) =
     onto_same (way f (operands_at f)) (same (mnemonic g) (mnemonic f)) (way g (operands_at g)) (family (mnemonic f) fs) (in_family f fs i)
 
@@ -260,7 +276,8 @@ head_fits f i = every_in (λ f. behind_fit (ways_fit 3) (family_of f)) f (heads 
 
 -- ---- from a word to a line
 
-instructed_line : (m u : List ℕ) (ws : List Way) (s : Stmt) → ((w : Way) → In w ws → Member m (below 70) w) → Instructed 32 ws [] s u → Line s (m ++ u)
+instructed_line : (m u : List ℕ) (ws : List Way) (s : Stmt) → ((w : Way) → In w ws → Member m (below 70) w) → Instructed 32 ws [] s u
+    → Line s (m ++ u)
 instructed_line m u ws s h r = on (h (way r.f r.ks) r.among)
   where
     on : Member m (below 70) (way r.f r.ks) → Line s (m ++ u)
@@ -277,12 +294,14 @@ instructed_line m u ws s h r = on (h (way r.f r.ks) r.among)
         kinds : {f g : ℕ} {ks ls : List Kind} → way f ks ≡ way g ls → ks ≡ ls
         kinds e = cc
 
-opened_line : (m : List ℕ) (ws : List Way) (s : Stmt) (t v : List ℕ) → ways_fit 3 ws ≡ true → ((w : Way) → In w ws → Member m (below 70) w) → t ≡ (m ++ (32 ∷ [])) ++ v
+opened_line : (m : List ℕ) (ws : List Way) (s : Stmt) (t v : List ℕ) → ways_fit 3 ws ≡ true → ((w : Way) → In w ws → Member m (below 70) w)
+    → t ≡ (m ++ (32 ∷ [])) ++ v
     → Reads (args_plan 3 ws []) s v → Line s t
 opened_line m ws s t v e h z g =
     subst (λ y. Line s y) (sym (z ∙ append_assoc m (32 ∷ []) v)) (instructed_line m (32 ∷ v) ws s h (args_sound 3 ws [] s v 32 e g))
 
-word_line : (m : List ℕ) (ws : List Way) (s : Stmt) (t : List ℕ) → behind_fit (ways_fit 3) ws ≡ true → ((w : Way) → In w ws → Member m (below 70) w) → Says (word_of m ws) s t → Line s t
+word_line : (m : List ℕ) (ws : List Way) (s : Stmt) (t : List ℕ) → behind_fit (ways_fit 3) ws ≡ true
+    → ((w : Way) → In w ws → Member m (below 70) w) → Says (word_of m ws) s t → Line s t
 word_line m [] s t e h g = false_true e
 word_line m (way f [] ∷ []) s t e h (q, z) =
     subst (λ y. Line s y) (sym (z ∙ sym (append-nil m)))
@@ -299,14 +318,23 @@ mnemonic_line w s t i g =
 
 -- ---- from a line to a word
 
-line_opened : (m : List ℕ) (ws : List Way) (f : ℕ) (ks : List Kind) (ys : List Operand) (t : List ℕ) → ways_fit 3 ws ≡ true → In (way f ks) ws → Arguments 32 ks ys t
+line_opened : (m : List ℕ) (ws : List Way) (f : ℕ) (ks : List Kind) (ys : List Operand) (t : List ℕ) → ways_fit 3 ws ≡ true
+    → In (way f ks) ws → Arguments 32 ks ys t
     → Says (opening (m ++ (32 ∷ [])) (args_plan 3 ws [])) (instr f ys 0) (m ++ t)
 line_opened m ws f [] ys t e i a = absurd (on_in f ws (fit_on 3 ws e) i)
 line_opened m ws f (k ∷ ks) ys t e i a =
-    let b = first_of a in
-    (b.u ++ b.v, (ap (λ y. m ++ y) b.text ∙ sym (append_assoc m (32 ∷ []) (b.u ++ b.v)), args_full 3 ws [] f 32 (k ∷ ks) ys (b.u ++ b.v) e i (subst (λ y. Arguments 32 (k ∷ ks) ys y) b.text a)))
+    let b = first_of a in (
+      b.u ++ b.v,
+      (
+        ap (λ y. m ++ y) b.text
+            ∙ sym (append_assoc m (32 ∷ []) (b.u ++ b.v)),
+        args_full 3 ws [] f 32 (k ∷ ks) ys (b.u ++ b.v) e i
+            (subst (λ y. Arguments 32 (k ∷ ks) ys y) b.text a),
+      ),
+    )
 
-line_word : (m : List ℕ) (ws : List Way) (f : ℕ) (ks : List Kind) (ys : List Operand) (t : List ℕ) → behind_fit (ways_fit 3) ws ≡ true → In (way f ks) ws → Arguments 32 ks ys t
+line_word : (m : List ℕ) (ws : List Way) (f : ℕ) (ks : List Kind) (ys : List Operand) (t : List ℕ) → behind_fit (ways_fit 3) ws ≡ true
+    → In (way f ks) ws → Arguments 32 ks ys t
     → Says (word_of m ws) (instr f ys 0) (m ++ t)
 line_word m [] f ks ys t e i a = false_true e
 line_word m (way g [] ∷ []) f ks ys t e (there j) a = elim j [ ]
@@ -315,7 +343,8 @@ line_word m (way g [] ∷ []) f ks ys t e here a =
 line_word m (way g [] ∷ w ∷ ws) f ks ys t e i a = false_true e
 line_word m (way g (k ∷ ls) ∷ ws) f ks ys t e i a = line_opened m (way g (k ∷ ls) ∷ ws) f ks ys t e i a
 
-pub line_mnemonic : (f : ℕ) (ys : List Operand) (t : List ℕ) → f < 70 → Arguments 32 (operands_at f) ys t → (w : Word) × (In w mnemonics × Says w (instr f ys 0) (mnemonic f ++ t))
+pub line_mnemonic : (f : ℕ) (ys : List Operand) (t : List ℕ) → f < 70 → Arguments 32 (operands_at f) ys t
+    → (w : Word) × (In w mnemonics × Says w (instr f ys 0) (mnemonic f ++ t))
 unfolding mnemonics
 line_mnemonic f ys t h a =
     let r = heads_have f (below 70) (in_below 70 f h) in

@@ -29,7 +29,8 @@ Met x v P (closing y r) o t = (t ≡ y) × (o ≡ got r [])
 
 module _ (k : ℕ) (d : Stmt) (v : List ℕ) (o : Read Stmt)
     (ih : (ws : List Word) (w : Word) (t : List ℕ) → fit k ws ≡ true → In w ws → Met t v (done d) w o t → Walks (trie k d ws) t o) where
-  fork_met : (vs : List Word) (w : Word) (t : List ℕ) → clean true vs ≡ true → each_first (fit k) vs vs ≡ true → In w vs → Met t v (done d) w o t → Walks (forked k d vs) t o
+  fork_met : (vs : List Word) (w : Word) (t : List ℕ) → clean true vs ≡ true → each_first (fit k) vs vs ≡ true → In w vs
+      → Met t v (done d) w o t → Walks (forked k d vs) t o
   fork_met vs (opening [] P) t c e i g = absurd (no_open P true vs c i)
   fork_met vs (opening (b ∷ x) P) t c e i (z, g) =
       subst (λ y. Walks (forked k d vs) y o) (sym z)
@@ -38,20 +39,23 @@ module _ (k : ℕ) (d : Stmt) (v : List ℕ) (o : Read Stmt)
   fork_met vs (closing [] r) t c e i (z, q) =
       subst (λ y. Walks (forked k d vs) t y) (sym q)
       (subst (λ y. Walks (forked k d vs) y (got r [])) (sym z)
-      (subst (λ y. Walks (fork y (λ c. some? (advance c vs)) (λ c. trie k d (advance c vs))) [] (got r [])) (sym (end_is r vs c i)) plans.Walks.ended))
+      (subst (λ y. Walks (fork y (λ c. some? (advance c vs)) (λ c. trie k d (advance c vs))) [] (got r [])) (sym (end_is r vs c i))
+      plans.Walks.ended))
   fork_met vs (closing (b ∷ x) r) t c e i (z, q) =
       subst (λ y. Walks (forked k d vs) y o) (sym z)
       (plans.Walks.steps (in_some (closing x r) (advance b vs) (in_close b x r vs i))
       (ih (advance b vs) (closing x r) x (first_close (fit k) vs b x r vs e i) (in_close b x r vs i) (refl, q)))
 
-met_walk : (k : ℕ) (d : Stmt) (v : List ℕ) (o : Read Stmt) (ws : List Word) (w : Word) (t : List ℕ) → fit k ws ≡ true → In w ws → Met t v (done d) w o t
+met_walk : (k : ℕ) (d : Stmt) (v : List ℕ) (o : Read Stmt) (ws : List Word) (w : Word) (t : List ℕ) → fit k ws ≡ true → In w ws
+    → Met t v (done d) w o t
     → Walks (trie k d ws) t o
 unfolding fit trie
 met_walk zero d v o ws w t e i g = false_true e
 met_walk (suc k) d v o ws w t e i g = on ws w e i g (λ us u r f j h. met_walk k d v o us u r f j h)
   where
     on : (ws : List Word) (w : Word) → fit (suc k) ws ≡ true → In w ws → Met t v (done d) w o t
-        → ((us : List Word) (u : Word) (r : List ℕ) → fit k us ≡ true → In u us → Met r v (done d) u o r → Walks (trie k d us) r o) → Walks (trie (suc k) d ws) t o
+        → ((us : List Word) (u : Word) (r : List ℕ) → fit k us ≡ true → In u us → Met r v (done d) u o r → Walks (trie k d us) r o)
+        → Walks (trie (suc k) d ws) t o
     on [] w e i g ih = false_true e
     on (opening [] P ∷ []) w e i g ih = only w i g
       where
@@ -116,9 +120,12 @@ some_ahead vs (opening x P) b t n i e =
 some_ahead vs (closing x s) b t n i e =
     let a = ahead x b t n e in (closing a.rest s, (in_close b a.rest s vs (subst (λ y. In (closing y s) vs) a.is i), a.goes))
 
-module _ (k : ℕ) (d : Stmt) (ih : (ws : List Word) (t : List ℕ) (c : ℕ) → fit k ws ≡ true → Far ws t c → Walks (trie k d ws) t (stuck (drop c t))) where
-  none_ends : (vs : List Word) (c : ℕ) → Far vs [] c → (x : Option Stmt) → end_of vs ≡ x → Walks (fork x (λ b. some? (advance b vs)) (λ b. trie k d (advance b vs))) [] (stuck (drop c []))
-  none_ends vs c f none e = subst (λ y. Walks (fork none (λ b. some? (advance b vs)) (λ b. trie k d (advance b vs))) [] (stuck y)) (sym (empty c)) plans.Walks.short
+module _ (k : ℕ) (d : Stmt) (ih : (ws : List Word) (t : List ℕ) (c : ℕ) → fit k ws ≡ true → Far ws t c
+    → Walks (trie k d ws) t (stuck (drop c t))) where
+  none_ends : (vs : List Word) (c : ℕ) → Far vs [] c → (x : Option Stmt) → end_of vs ≡ x
+      → Walks (fork x (λ b. some? (advance b vs)) (λ b. trie k d (advance b vs))) [] (stuck (drop c []))
+  none_ends vs c f none e = subst (λ y. Walks (fork none (λ b. some? (advance b vs)) (λ b. trie k d (advance b vs))) [] (stuck y))
+      (sym (empty c)) plans.Walks.short
     where
       empty : (c : ℕ) → ◌≡◌ {A = List ℕ} (drop c []) []
       empty zero = refl
@@ -133,11 +140,13 @@ module _ (k : ℕ) (d : Stmt) (ih : (ws : List Word) (t : List ℕ) (c : ℕ) �
         some = inr (at f.some);
       }
     where
-      at : (suc c ≡ 0) ⊎ ((w : Word) × (In w vs × (common (spelling w) (b ∷ t) ≡ suc c))) → (w : Word) × (In w (advance b vs) × (common (spelling w) t ≡ c))
+      at : (suc c ≡ 0) ⊎ ((w : Word) × (In w vs × (common (spelling w) (b ∷ t) ≡ suc c)))
+          → (w : Word) × (In w (advance b vs) × (common (spelling w) t ≡ c))
       at (inl e) = absurd (omega arith)
       at (inr (w, (i, e))) = some_ahead vs w b t c i e
 
-  next_byte : (vs : List Word) (b : ℕ) (t : List ℕ) (c : ℕ) → each_first (fit k) vs vs ≡ true → Far vs (b ∷ t) c → (x : Bool) → some? (advance b vs) ≡ x → Walks (forked k d vs) (b ∷ t) (stuck (drop c (b ∷ t)))
+  next_byte : (vs : List Word) (b : ℕ) (t : List ℕ) (c : ℕ) → each_first (fit k) vs vs ≡ true → Far vs (b ∷ t) c → (x : Bool)
+      → some? (advance b vs) ≡ x → Walks (forked k d vs) (b ∷ t) (stuck (drop c (b ∷ t)))
   next_byte vs b t zero e f true q =
       let i = some_in (advance b vs) q in absurd (omega (arith, put_common b i.0 t, f.most (put b i.0) (advance_in b i.0 vs i.1)))
   next_byte vs b t (suc c) e f true q =
@@ -146,25 +155,30 @@ module _ (k : ℕ) (d : Stmt) (ih : (ws : List Word) (t : List ℕ) (c : ℕ) �
   next_byte vs b t zero e f false q = plans.Walks.wrong q
   next_byte vs b t (suc c) e f false q = on (goes_far vs b t c f).some
     where
-      on : (c ≡ 0) ⊎ ((w : Word) × (In w (advance b vs) × (common (spelling w) t ≡ c))) → Walks (forked k d vs) (b ∷ t) (stuck (drop (suc c) (b ∷ t)))
+      on : (c ≡ 0) ⊎ ((w : Word) × (In w (advance b vs) × (common (spelling w) t ≡ c)))
+          → Walks (forked k d vs) (b ∷ t) (stuck (drop (suc c) (b ∷ t)))
       on (inl e) = at f.some
         where
-          at : (suc c ≡ 0) ⊎ ((w : Word) × (In w vs × (common (spelling w) (b ∷ t) ≡ suc c))) → Walks (forked k d vs) (b ∷ t) (stuck (drop (suc c) (b ∷ t)))
+          at : (suc c ≡ 0) ⊎ ((w : Word) × (In w vs × (common (spelling w) (b ∷ t) ≡ suc c)))
+              → Walks (forked k d vs) (b ∷ t) (stuck (drop (suc c) (b ∷ t)))
           at (inl e) = absurd (omega arith)
           at (inr (w, (i, e))) = let u = some_ahead vs w b t c i e in true_false (sym (in_some u.0 (advance b vs) u.1.0) ∙ q)
       on (inr (w, (i, e))) = true_false (sym (in_some w (advance b vs) i) ∙ q)
 
-  fork_stuck : (vs : List Word) (t : List ℕ) (c : ℕ) → each_first (fit k) vs vs ≡ true → Far vs t c → Walks (forked k d vs) t (stuck (drop c t))
+  fork_stuck : (vs : List Word) (t : List ℕ) (c : ℕ) → each_first (fit k) vs vs ≡ true → Far vs t c
+      → Walks (forked k d vs) t (stuck (drop c t))
   fork_stuck vs [] c e f = none_ends vs c f (end_of vs) refl
   fork_stuck vs (b ∷ t) c e f = next_byte vs b t c e f (some? (advance b vs)) refl
 
-far_stuck : (k : ℕ) (d : Stmt) (ws : List Word) (t : List ℕ) (c : ℕ) → fit k ws ≡ true → Far ws t c → Walks (trie k d ws) t (stuck (drop c t))
+far_stuck : (k : ℕ) (d : Stmt) (ws : List Word) (t : List ℕ) (c : ℕ) → fit k ws ≡ true → Far ws t c
+    → Walks (trie k d ws) t (stuck (drop c t))
 unfolding fit trie
 far_stuck zero d ws t c e f = false_true e
 far_stuck (suc k) d ws t c e f = on ws e f (λ us u r q g. far_stuck k d us u r q g)
   where
     on : (ws : List Word) → fit (suc k) ws ≡ true → Far ws t c
-        → ((us : List Word) (t : List ℕ) (c : ℕ) → fit k us ≡ true → Far us t c → Walks (trie k d us) t (stuck (drop c t))) → Walks (trie (suc k) d ws) t (stuck (drop c t))
+        → ((us : List Word) (t : List ℕ) (c : ℕ) → fit k us ≡ true → Far us t c → Walks (trie k d us) t (stuck (drop c t)))
+        → Walks (trie (suc k) d ws) t (stuck (drop c t))
     on [] e f ih = false_true e
     on (opening [] P ∷ ws) e f ih = absurd (omega (arith, f.misses (opening [] P) here))
     on (opening (b ∷ x) P ∷ ws) e f ih =
@@ -176,7 +190,8 @@ far_stuck (suc k) d ws t c e f = on ws e f (λ us u r q g. far_stuck k d us u r 
 
 -- ---- of lines
 
-pub line_opens : (x : List ℕ) (P : Plan) (v : List ℕ) (o : Read Stmt) → In (opening x P) word_list → Walks P v o → Walks line_plan (x ++ v) o
+pub line_opens : (x : List ℕ) (P : Plan) (v : List ℕ) (o : Read Stmt) → In (opening x P) word_list → Walks P v o
+    → Walks line_plan (x ++ v) o
 unfolding line_plan
 line_opens x P v o i g = met_walk 10 gone v o word_list (opening x P) (x ++ v) words_fit i (refl, g)
 

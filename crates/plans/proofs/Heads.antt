@@ -29,4 +29,5 @@ pub form_word : (f : ℕ) → f < 70 → In (word_of (mnemonic f) (family_of f))
 unfolding mnemonics
 form_word f h =
     let r = heads_have f (below 70) (in_below 70 f h) in
-    subst (λ m. In (word_of m (family m (below 70))) mnemonics) r.1.1 (map_in (λ f. word_of (mnemonic f) (family_of f)) r.0 (heads (below 70)) r.1.0)
+    subst (λ m. In (word_of m (family m (below 70))) mnemonics) r.1.1
+    (map_in (λ f. word_of (mnemonic f) (family_of f)) r.0 (heads (below 70)) r.1.0)

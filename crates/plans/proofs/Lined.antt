@@ -108,21 +108,24 @@ line_alive = trie_alive 10 gone word_list words_fit open_alive
 
 -- ---- the lines of the plan are lines of the grammar
 
-defines : (n : ℕ) (w v : List ℕ) (s : Stmt) → length w ≡ 5 → reading.Decimal 32767 n w → Reads (expression (λ e. done (variable n e))) s v → Line s ((103 ∷ w) ++ (61 ∷ v))
+defines : (n : ℕ) (w v : List ℕ) (s : Stmt) → length w ≡ 5 → reading.Decimal 32767 n w → Reads (expression (λ e. done (variable n e))) s v
+    → Line s ((103 ∷ w) ++ (61 ∷ v))
 defines n w v s l d g =
     let t = tree_of g in
     subst (λ r. Line r ((103 ∷ w) ++ (61 ∷ v))) (sym (done_is t.rest))
     (subst (λ r. Line (variable n t.e) ((103 ∷ w) ++ (61 ∷ r))) (sym (t.is ∙ ap (λ r. t.w ++ r) (done_ends t.rest) ∙ append-nil t.w))
     (reading.defined (reading.global l d) (omega (arith, d.within)) t.good))
 
-global_says : (n c : ℕ) (w v : List ℕ) (s : Stmt) → length w ≡ 5 → reading.Decimal 32767 n w → eqb c 58 || eqb c 61 ≡ true → Reads (after_global n c) s v
+global_says : (n c : ℕ) (w v : List ℕ) (s : Stmt) → length w ≡ 5 → reading.Decimal 32767 n w → eqb c 58 || eqb c 61 ≡ true
+    → Reads (after_global n c) s v
     → Line s (103 ∷ (w ++ (c ∷ v)))
 global_says n c w v s l d p g = on (eqb c 58) refl g
   where
     is_equals : eqb c 58 ≡ false → c ≡ 61
     is_equals q = eqb-true c 61 (ap (λ b. b || eqb c 61) (sym q) ∙ p)
 
-    on : (b : Bool) → eqb c 58 ≡ b → Reads (cond b (done (label n)) (expression (λ e. done (variable n e)))) s v → Line s (103 ∷ (w ++ (c ∷ v)))
+    on : (b : Bool) → eqb c 58 ≡ b → Reads (cond b (done (label n)) (expression (λ e. done (variable n e)))) s v
+        → Line s (103 ∷ (w ++ (c ∷ v)))
     on true q g =
         subst (λ r. Line r (103 ∷ (w ++ (c ∷ v)))) (sym (done_is g))
         (subst (λ r. Line (label n) (103 ∷ (w ++ (c ∷ r)))) (sym (done_ends g))
@@ -143,14 +146,16 @@ local_line s t g =
     let b = byte_of (λ c. eqb c 58) (λ c. done (label (0x8000 + m.n))) s m.v m.rest in
     let q : m.v ≡ 58 ∷ [] = b.is ∙ ap (λ y. b.c ∷ y) (done_ends b.rest) ∙ ap (λ y. y ∷ []) (eqb-true b.c 58 b.passes) in
     subst (λ r. Line r (46 ∷ (108 ∷ t))) (sym (done_is b.rest))
-    (subst (λ y. Line (label (0x8000 + m.n)) (46 ∷ (108 ∷ y))) (sym (m.is ∙ ap (λ y. m.w ++ y) q)) (reading.labelled (reading.local m.size m.good)))
+    (subst (λ y. Line (label (0x8000 + m.n)) (46 ∷ (108 ∷ y))) (sym (m.is ∙ ap (λ y. m.w ++ y) q))
+    (reading.labelled (reading.local m.size m.good)))
 
 pub org_line : (s : Stmt) (t : List ℕ) → Reads org_plan s t → Line s (codes ".org " ++ t)
 unfolding org_plan
 org_line s t g =
     let m = value_of g in
     subst (λ r. Line r (codes ".org " ++ t)) (sym (done_is m.rest))
-    (subst (λ r. Line (org m.n) (codes ".org " ++ r)) (sym (m.is ∙ ap (λ r. m.w ++ r) (done_ends m.rest) ∙ append-nil m.w)) (reading.located m.good))
+    (subst (λ r. Line (org m.n) (codes ".org " ++ r)) (sym (m.is ∙ ap (λ r. m.w ++ r) (done_ends m.rest) ∙ append-nil m.w))
+    (reading.located m.good))
 
 -- ---- the lines of the grammar are lines of the plan
 
@@ -158,10 +163,12 @@ pub line_global : (n : ℕ) (t : List ℕ) → length t ≡ 5 → reading.Decima
 unfolding global_plan
 line_global n t l d = plans.digits l d (plans.byte refl plans.last)
 
-pub line_defined : (n : ℕ) (e : Expr) (s t : List ℕ) → length s ≡ 5 → reading.Decimal 32767 n s → Exp 5 e t → Reads global_plan (variable n e) (s ++ (61 ∷ t))
+pub line_defined : (n : ℕ) (e : Expr) (s t : List ℕ) → length s ≡ 5 → reading.Decimal 32767 n s → Exp 5 e t
+    → Reads global_plan (variable n e) (s ++ (61 ∷ t))
 unfolding global_plan
 line_defined n e s t l d x =
-    subst (λ y. Reads global_plan (variable n e) (s ++ (61 ∷ y))) (append-nil t) (plans.digits l d (plans.byte refl (plans.tree x plans.last)))
+    subst (λ y. Reads global_plan (variable n e) (s ++ (61 ∷ y))) (append-nil t)
+    (plans.digits l d (plans.byte refl (plans.tree x plans.last)))
 
 pub line_local : (n : ℕ) (t : List ℕ) → length t ≡ 5 → reading.Decimal 32767 n t → Reads local_plan (label (0x8000 + n)) (t ++ (58 ∷ []))
 unfolding local_plan
@@ -179,7 +186,8 @@ pub record Listed (make : List Expr → Stmt) (k : ℕ) (es : List Expr) (s : St
   pub most : length items ≤ suc k
   pub text : (by : ℕ) → reading.Items by items (by ∷ t)
 
-one_item : (make : List Expr → Stmt) (k : ℕ) (es : List Expr) (e : Expr) (w v : List ℕ) (s : Stmt) → Exp 5 e w → s ≡ make (es ++ (e ∷ [])) → v ≡ [] → Listed make k es s (w ++ v)
+one_item : (make : List Expr → Stmt) (k : ℕ) (es : List Expr) (e : Expr) (w v : List ℕ) (s : Stmt) → Exp 5 e w → s ≡ make (es ++ (e ∷ []))
+    → v ≡ [] → Listed make k es s (w ++ v)
 one_item make k es e w v s x q z =
     record {
       items = e ∷ [];
@@ -189,7 +197,8 @@ one_item make k es e w v s x q z =
       text = λ by. subst (λ y. reading.Items by (e ∷ []) (by ∷ (w ++ y))) (sym z) (reading.Items.more x reading.Items.none);
     }
 
-pub items_line : (make : List Expr → Stmt) (k : ℕ) (es : List Expr) (s : Stmt) (t : List ℕ) → Reads (items_plan make k es) s t → Listed make k es s t
+pub items_line : (make : List Expr → Stmt) (k : ℕ) (es : List Expr) (s : Stmt) (t : List ℕ) → Reads (items_plan make k es) s t
+    → Listed make k es s t
 unfolding items_plan
 items_line make zero es s t g =
     let m = tree_of g in
@@ -199,13 +208,15 @@ items_line make (suc k) es s t g = on (tree_of g) (λ e u h. items_line make k (
     next : Expr → Plan
     next e = fork (some (make (es ++ (e ∷ [])))) (λ c. eqb c 44) (λ c. items_plan make k (es ++ (e ∷ [])))
 
-    on : Tree next s t → ((e : Expr) (u : List ℕ) → Reads (items_plan make k (es ++ (e ∷ []))) s u → Listed make k (es ++ (e ∷ [])) s u) → Listed make (suc k) es s t
+    on : Tree next s t → ((e : Expr) (u : List ℕ) → Reads (items_plan make k (es ++ (e ∷ []))) s u → Listed make k (es ++ (e ∷ [])) s u)
+        → Listed make (suc k) es s t
     on m ih = subst (λ y. Listed make (suc k) es s y) (sym m.is) (more (fork_step m.rest))
       where
         same_stmt : (a b : Stmt) → some a ≡ some b → b ≡ a
         same_stmt a b e = cc
 
-        more : Step s m.v (some (make (es ++ (m.e ∷ [])))) (λ c. eqb c 44) (λ c. items_plan make k (es ++ (m.e ∷ []))) → Listed make (suc k) es s (m.w ++ m.v)
+        more : Step s m.v (some (make (es ++ (m.e ∷ [])))) (λ c. eqb c 44) (λ c. items_plan make k (es ++ (m.e ∷ [])))
+            → Listed make (suc k) es s (m.w ++ m.v)
         more (inl (q, z)) = one_item make (suc k) es m.e m.w m.v s m.good (same_stmt (make (es ++ (m.e ∷ []))) s q) z
         more (inr (c, (u, (z, (p, h))))) =
             let r = ih m.e u h in
@@ -236,14 +247,17 @@ no_items reading.Items.none = refl
 
 -- behind an item e: the end, or a comma and items
 more_items : (make : List Expr → Stmt) (k : ℕ) (xs es : List Expr) (e : Expr) (v : List ℕ)
-    → ((es : List Expr) (u : List ℕ) → 1 ≤ length es → length es ≤ suc k → reading.Items 44 es (44 ∷ u) → Reads (items_plan make k (xs ++ (e ∷ []))) (make ((xs ++ (e ∷ [])) ++ es)) u)
+    → ((es : List Expr) (u : List ℕ) → 1 ≤ length es → length es ≤ suc k → reading.Items 44 es (44 ∷ u)
+    → Reads (items_plan make k (xs ++ (e ∷ []))) (make ((xs ++ (e ∷ [])) ++ es)) u)
     → length es ≤ suc k → reading.Items 44 es v
     → Reads (fork (some (make (xs ++ (e ∷ [])))) (λ c. eqb c 44) (λ c. items_plan make k (xs ++ (e ∷ [])))) (make (xs ++ (e ∷ es))) v
 more_items make k xs [] e v ih h i =
-    subst (λ y. Reads (fork (some (make (xs ++ (e ∷ [])))) (λ c. eqb c 44) (λ c. items_plan make k (xs ++ (e ∷ [])))) (make (xs ++ (e ∷ []))) y) (sym (no_items i)) plans.ends
+    subst (λ y. Reads (fork (some (make (xs ++ (e ∷ [])))) (λ c. eqb c 44) (λ c. items_plan make k (xs ++ (e ∷ []))))
+    (make (xs ++ (e ∷ []))) y) (sym (no_items i)) plans.ends
 more_items make k xs (d ∷ es) e v ih h i =
     let b = first_item i in
-    subst (λ y. Reads (fork (some (make (xs ++ (e ∷ [])))) (λ c. eqb c 44) (λ c. items_plan make k (xs ++ (e ∷ [])))) (make (xs ++ (e ∷ d ∷ es))) y) (sym b.text)
+    subst (λ y. Reads (fork (some (make (xs ++ (e ∷ [])))) (λ c. eqb c 44) (λ c. items_plan make k (xs ++ (e ∷ []))))
+    (make (xs ++ (e ∷ d ∷ es))) y) (sym b.text)
     (plans.byte refl
     (subst (λ y. Reads (items_plan make k (xs ++ (e ∷ []))) (make y) (b.u ++ b.v)) (append_assoc xs (e ∷ []) (d ∷ es))
     (ih (d ∷ es) (b.u ++ b.v) (omega arith) h (subst (λ y. reading.Items 44 (d ∷ es) y) b.text i))))
@@ -251,24 +265,30 @@ more_items make k xs (d ∷ es) e v ih h i =
 tails : {by : ℕ} {t u : List ℕ} → by ∷ t ≡ by ∷ u → t ≡ u
 tails e = cc
 
-only_item : (make : List Expr → Stmt) (xs es : List Expr) (t : List ℕ) (by : ℕ) → 1 ≤ length es → length es ≤ 1 → reading.Items by es (by ∷ t)
+only_item : (make : List Expr → Stmt) (xs es : List Expr) (t : List ℕ) (by : ℕ) → 1 ≤ length es → length es ≤ 1
+    → reading.Items by es (by ∷ t)
     → Reads (expression (λ e. done (make (xs ++ (e ∷ []))))) (make (xs ++ es)) t
 only_item make xs [] t by l h i = absurd (omega arith)
 only_item make xs (d ∷ e ∷ es) t by l h i = absurd (omega arith)
 only_item make xs (e ∷ []) t by l h i =
     let b = first_item i in
-    subst (λ y. Reads (expression (λ e. done (make (xs ++ (e ∷ []))))) (make (xs ++ (e ∷ []))) y) (sym (tails b.text ∙ ap (λ y. b.u ++ y) (no_items b.rest))) (plans.tree b.one plans.last)
+    subst (λ y. Reads (expression (λ e. done (make (xs ++ (e ∷ []))))) (make (xs ++ (e ∷ []))) y)
+    (sym (tails b.text ∙ ap (λ y. b.u ++ y) (no_items b.rest))) (plans.tree b.one plans.last)
 
 abbrev Given : (List Expr → Stmt) → ℕ → List Expr → Type 0
-Given make k xs = (es : List Expr) (t : List ℕ) (by : ℕ) → 1 ≤ length es → length es ≤ suc k → reading.Items by es (by ∷ t) → Reads (items_plan make k xs) (make (xs ++ es)) t
+Given make k xs = (es : List Expr) (t : List ℕ) (by : ℕ) → 1 ≤ length es → length es ≤ suc k → reading.Items by es (by ∷ t)
+    → Reads (items_plan make k xs) (make (xs ++ es)) t
 
-next_item : (make : List Expr → Stmt) (k : ℕ) (xs es : List Expr) (t : List ℕ) (by : ℕ) → ((e : Expr) → Given make k (xs ++ (e ∷ []))) → 1 ≤ length es → length es ≤ suc (suc k)
+next_item : (make : List Expr → Stmt) (k : ℕ) (xs es : List Expr) (t : List ℕ) (by : ℕ) → ((e : Expr) → Given make k (xs ++ (e ∷ [])))
+    → 1 ≤ length es → length es ≤ suc (suc k)
     → reading.Items by es (by ∷ t)
-    → Reads (expression (λ e. fork (some (make (xs ++ (e ∷ [])))) (λ c. eqb c 44) (λ c. items_plan make k (xs ++ (e ∷ []))))) (make (xs ++ es)) t
+    → Reads (expression (λ e. fork (some (make (xs ++ (e ∷ [])))) (λ c. eqb c 44) (λ c. items_plan make k (xs ++ (e ∷ [])))))
+    (make (xs ++ es)) t
 next_item make k xs [] t by ih l h i = absurd (omega arith)
 next_item make k xs (e ∷ es) t by ih l h i =
     let b = first_item i in
-    subst (λ y. Reads (expression (λ e. fork (some (make (xs ++ (e ∷ [])))) (λ c. eqb c 44) (λ c. items_plan make k (xs ++ (e ∷ []))))) (make (xs ++ (e ∷ es))) y) (sym (tails b.text))
+    subst (λ y. Reads (expression (λ e. fork (some (make (xs ++ (e ∷ [])))) (λ c. eqb c 44) (λ c. items_plan make k (xs ++ (e ∷ [])))))
+    (make (xs ++ (e ∷ es))) y) (sym (tails b.text))
     (plans.tree b.one (more_items make k xs es e b.v (λ fs u l h i. ih e fs u 44 l h i) (omega arith) b.rest))
 
 pub line_items : (make : List Expr → Stmt) (k : ℕ) (xs : List Expr) → Given make k xs

@@ -38,12 +38,23 @@ pub record Argued (can : Mark → Bool) (f : Mark → Operand → Plan) (s : Stm
 
 module _ (can : Mark → Bool) (f : Mark → Operand → Plan) where
   plain_said : (s : Stmt) (t : List ℕ) → can plain ≡ true → Tree (λ e. f plain (value e)) s t → Argued can f s t
-  plain_said s t p m = record { m = plain; x = value m.e; w = m.w; v = m.v; is = m.is; shape = families.bare m.good; may = p; rest = m.rest }
+  plain_said s t p m =
+      record { m = plain; x = value m.e; w = m.w; v = m.v; is = m.is; shape = families.bare m.good; may = p; rest = m.rest }
 
   hash_said : (s : Stmt) (t : List ℕ) → can hash ≡ true → Reads (expression (λ e. f hash (value e))) s t → Argued can f s (35 ∷ t)
   hash_said s t p g =
       let m = tree_of g in
-      record { m = hash; x = value m.e; w = 35 ∷ m.w; v = m.v; is = ap (λ y. 35 ∷ y) m.is; shape = families.hashed m.good; may = p; rest = m.rest }
+      record {
+        m = hash;
+        x = value m.e;
+        w = 35 ∷ m.w;
+        v = m.v;
+        is = ap (λ y. 35 ∷ y) m.is;
+        shape = families.hashed m.good;
+        may = p;
+        rest =
+            m.rest;
+      }
 
   at_said : (s : Stmt) (t : List ℕ) → can at ≡ true → Reads (register_plan (λ r. f at (register r))) s t → Argued can f s (64 ∷ t)
   at_said s t p g =
@@ -78,7 +89,8 @@ module _ (can : Mark → Bool) (f : Mark → Operand → Plan) where
           at_hash (inl h) = (and_true (eqb c 35) (can hash) h).1
           at_hash (inr h) = absurd (omega (arith, eqb-true c 35 q, eqb-true c 64 (and_true (eqb c 64) (can at) h).0))
 
-      on : (b : Bool) → eqb c 35 ≡ b → Reads (cond b (expression (λ e. f hash (value e))) (register_plan (λ r. f at (register r)))) s v → Argued can f s (c ∷ v)
+      on : (b : Bool) → eqb c 35 ≡ b → Reads (cond b (expression (λ e. f hash (value e))) (register_plan (λ r. f at (register r)))) s v
+          → Argued can f s (c ∷ v)
       on true q g = subst (λ y. Argued can f s (y ∷ v)) (sym (eqb-true c 35 q)) (hash_said s v (is_hash_lem q p) g)
       on false q g = let h = is_at_lem q in subst (λ y. Argued can f s (y ∷ v)) (sym (eqb-true c 64 h.0)) (at_said s v h.1 g)
 
@@ -87,7 +99,8 @@ module _ (can : Mark → Bool) (f : Mark → Operand → Plan) where
     where
       either_said : {t : List ℕ} → Reads (either (marks can) (mark_plan f) (λ e. f plain (value e))) s t → Argued can f s t
       either_said (plans.marked {c = c} {t = v} q h) = mark_said s c v q h
-      either_said (plans.bare {e = e} {w = w} {v = v} x h) = plain_said s (w ++ v) p (record { e = e; w = w; v = v; is = refl; good = x; rest = h })
+      either_said (plans.bare {e = e} {w = w} {v = v} x h) = plain_said s (w ++ v) p
+          (record { e = e; w = w; v = v; is = refl; good = x; rest = h })
   said s t false p g =
       let b = byte_of (marks can) (mark_plan f) s t g in
       subst (λ y. Argued can f s y) (sym b.is) (mark_said s b.c b.v b.passes b.rest)
@@ -99,7 +112,8 @@ module _ (can : Mark → Bool) (f : Mark → Operand → Plan) where
   to_at : can at ≡ true → marks can 64 ≡ true
   to_at p = p
 
-  register_read : (s : Stmt) (r : ℕ) (v : List ℕ) → r ≤ 3 → Reads (f at (register r)) s v → Reads (register_plan (λ r. f at (register r))) s (82 ∷ (48 + r) ∷ v)
+  register_read : (s : Stmt) (r : ℕ) (v : List ℕ) → r ≤ 3 → Reads (f at (register r)) s v
+      → Reads (register_plan (λ r. f at (register r))) s (82 ∷ (48 + r) ∷ v)
   register_read s r v h g =
       plans.byte refl
       (plans.byte (and_both (leb 48 (48 + r)) (leb (48 + r) 51) (le-leb 48 (48 + r) (omega arith)) (le-leb (48 + r) 51 (omega arith)))
@@ -108,11 +122,13 @@ module _ (can : Mark → Bool) (f : Mark → Operand → Plan) where
       less : (r : ℕ) → r ≡ 48 + r - 48
       less r = omega arith
 
-  marked_read : (s : Stmt) (c : ℕ) (t : List ℕ) → marks can c ≡ true → Reads (mark_plan f c) s t → (b : Bool) → Reads (argument b can f) s (c ∷ t)
+  marked_read : (s : Stmt) (c : ℕ) (t : List ℕ) → marks can c ≡ true → Reads (mark_plan f c) s t → (b : Bool)
+      → Reads (argument b can f) s (c ∷ t)
   marked_read s c t p g true = plans.marked p g
   marked_read s c t p g false = plans.byte p g
 
-  pub says : {m : Mark} {x : Operand} {w : List ℕ} → Shape m x w → (s : Stmt) (v : List ℕ) → (b : Bool) → can plain ≡ b → can m ≡ true → Reads (f m x) s v
+  pub says : {m : Mark} {x : Operand} {w : List ℕ} → Shape m x w → (s : Stmt) (v : List ℕ) → (b : Bool) → can plain ≡ b → can m ≡ true
+      → Reads (f m x) s v
       → Reads (argument b can f) s (w ++ v)
   says (families.hashed {t = t} x) s v b p q g = marked_read s 35 (t ++ v) (to_hash q) (plans.tree x g) b
   says (families.indirect {r = r} h) s v b p q g = marked_read s 64 (82 ∷ (48 + r) ∷ v) (to_at q) (register_read s r v h g) b
@@ -120,7 +136,8 @@ module _ (can : Mark → Bool) (f : Mark → Operand → Plan) where
   says (families.bare x) s v false p q g = both_ways (can plain) q p
 
   -- alive
-  mark_alive : (c : ℕ) → marks can c ≡ true → ((m : Mark) (x : Operand) → can m ≡ true → Behind (f m x) × Alive (f m x)) → Alive (mark_plan f c)
+  mark_alive : (c : ℕ) → marks can c ≡ true → ((m : Mark) (x : Operand) → can m ≡ true → Behind (f m x) × Alive (f m x))
+      → Alive (mark_plan f c)
   unfolding Alive
   mark_alive c p a = on (eqb c 35) refl
     where
@@ -143,7 +160,8 @@ module _ (can : Mark → Bool) (f : Mark → Operand → Plan) where
       on (inl h) = subst (λ y. class_of y ≡ going.other) (sym (eqb-true c 35 (and_true (eqb c 35) (can hash) h).0)) refl
       on (inr h) = subst (λ y. class_of y ≡ going.other) (sym (eqb-true c 64 (and_true (eqb c 64) (can at) h).0)) refl
 
-  pub argument_alive : (b : Bool) → can plain ≡ b → (m : Mark) → can m ≡ true → ((m : Mark) (x : Operand) → can m ≡ true → Behind (f m x) × Alive (f m x)) → Alive (argument b can f)
+  pub argument_alive : (b : Bool) → can plain ≡ b → (m : Mark) → can m ≡ true
+      → ((m : Mark) (x : Operand) → can m ≡ true → Behind (f m x) × Alive (f m x)) → Alive (argument b can f)
   unfolding Alive
   argument_alive true p m q a = (((λ c z. mark_class c z), refl), ((λ c z. mark_alive c z a), λ e. a plain (value e) p))
   argument_alive false p hash q a = ((35, to_hash q), λ c z. mark_alive c z a)
@@ -212,22 +230,31 @@ pub narrow_in : (m : Mark) (f : ℕ) (ks : List Kind) (ws : List Way) → In (wa
 unfolding narrow
 narrow_in m f ks [] i = elim i [ ]
 narrow_in m f ks (way g [] ∷ ws) i = wider (narrow_in m f ks ws i)
-narrow_in m f ks (way g (k ∷ ls) ∷ ws) i = on (into (meets (mark_of k) m) (way f ks) (way g ls) (narrow m ws) i) (λ j. wider (narrow_in m f ks ws j))
+narrow_in m f ks (way g (k ∷ ls) ∷ ws) i = on (into (meets (mark_of k) m) (way f ks) (way g ls) (narrow m ws) i)
+    (λ j. wider (narrow_in m f ks ws j))
   where
-    on : ((way f ks ≡ way g ls) × (meets (mark_of k) m ≡ true)) ⊎ In (way f ks) (narrow m ws) → (In (way f ks) (narrow m ws) → Wider m f ks (way g (k ∷ ls) ∷ ws))
+    on : ((way f ks ≡ way g ls) × (meets (mark_of k) m ≡ true)) ⊎ In (way f ks) (narrow m ws)
+        → (In (way f ks) (narrow m ws) → Wider m f ks (way g (k ∷ ls) ∷ ws))
         → Wider m f ks (way g (k ∷ ls) ∷ ws)
     on (inl (e, q)) h =
         let a : g ≡ f = cc in
         let b : ls ≡ ks = cc in
-        record { k = k; is = meets_is (mark_of k) m q; among = subst (λ y. In (way f (k ∷ ks)) (way y (k ∷ ls) ∷ ws)) (sym a) (subst (λ y. In (way f (k ∷ ks)) (way f (k ∷ y) ∷ ws)) (sym b) here) }
+        record {
+          k = k;
+          is = meets_is (mark_of k) m q;
+          among = subst (λ y. In (way f (k ∷ ks)) (way y (k ∷ ls) ∷ ws)) (sym a)
+              (subst (λ y. In (way f (k ∷ ks)) (way f (k ∷ y) ∷ ws)) (sym b) here);
+        }
     on (inr j) h = h j
 
 pub in_narrow : (f : ℕ) (k : Kind) (ks : List Kind) (ws : List Way) → In (way f (k ∷ ks)) ws → In (way f ks) (narrow (mark_of k) ws)
 unfolding narrow
 in_narrow f k ks [] j = elim j [ ]
-in_narrow f k ks (way g (l ∷ ls) ∷ ws) here = subst (λ b. In (way f ks) (onto b (way f ks) (narrow (mark_of k) ws))) (sym (meets_same (mark_of k))) here
+in_narrow f k ks (way g (l ∷ ls) ∷ ws) here = subst (λ b. In (way f ks) (onto b (way f ks) (narrow (mark_of k) ws)))
+    (sym (meets_same (mark_of k))) here
 in_narrow f k ks (way g [] ∷ ws) (there i) = in_narrow f k ks ws i
-in_narrow f k ks (way g (l ∷ ls) ∷ ws) (there i) = onto_same (way f ks) (meets (mark_of l) (mark_of k)) (way g ls) (narrow (mark_of k) ws) (in_narrow f k ks ws i)
+in_narrow f k ks (way g (l ∷ ls) ∷ ws) (there i) = onto_same (way f ks) (meets (mark_of l) (mark_of k)) (way g ls) (narrow (mark_of k) ws)
+    (in_narrow f k ks ws i)
 
 -- where all go on, none ends
 pub on_in : (f : ℕ) (ws : List Way) → go_on ws ≡ true → In (way f []) ws → ⊥
@@ -244,16 +271,19 @@ pub record Fit (n : ℕ) (ws : List Way) : Type 0 where
 pub fit_of : (n : ℕ) (ws : List Way) → ways_fit (suc n) ws ≡ true → Fit n ws
 unfolding ways_fit
 fit_of n ws e =
-    let a = and_true (go_on ws && some? ws) (mark_fit (ways_fit n) (narrow hash ws) && (mark_fit (ways_fit n) (narrow at ws) && mark_fit (ways_fit n) (narrow plain ws))) e in
+    let a = and_true (go_on ws && some? ws) (mark_fit (ways_fit n) (narrow hash ws) &&
+    (mark_fit (ways_fit n) (narrow at ws) && mark_fit (ways_fit n) (narrow plain ws))) e in
     let b = and_true (go_on ws) (some? ws) a.0 in
-    let c = and_true (mark_fit (ways_fit n) (narrow hash ws)) (mark_fit (ways_fit n) (narrow at ws) && mark_fit (ways_fit n) (narrow plain ws)) a.1 in
+    let c = and_true (mark_fit (ways_fit n) (narrow hash ws)) (mark_fit (ways_fit n) (narrow at ws) && mark_fit (ways_fit n)
+    (narrow plain ws)) a.1 in
     let d = and_true (mark_fit (ways_fit n) (narrow at ws)) (mark_fit (ways_fit n) (narrow plain ws)) c.1 in
     record { on = b.0; has = b.1; each = pick c.0 d.0 d.1 }
   where
     one : (vs : List Way) → mark_fit (ways_fit n) vs ≡ true → some? vs ≡ true → behind_fit (ways_fit n) vs ≡ true
     one vs p q = ap (λ b. not b || behind_fit (ways_fit n) vs) (sym q) ∙ p
 
-    pick : mark_fit (ways_fit n) (narrow hash ws) ≡ true → mark_fit (ways_fit n) (narrow at ws) ≡ true → mark_fit (ways_fit n) (narrow plain ws) ≡ true → (m : Mark)
+    pick : mark_fit (ways_fit n) (narrow hash ws) ≡ true → mark_fit (ways_fit n) (narrow at ws) ≡ true
+        → mark_fit (ways_fit n) (narrow plain ws) ≡ true → (m : Mark)
         → some? (narrow m ws) ≡ true → behind_fit (ways_fit n) (narrow m ws) ≡ true
     pick p q r hash = one (narrow hash ws) p
     pick p q r at = one (narrow at ws) q

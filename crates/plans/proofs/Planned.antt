@@ -84,7 +84,8 @@ pub done_ends : {r s : Stmt} {t : List ℕ} → Reads (done r) s t → t ≡ []
 done_ends plans.last = refl
 
 -- the first byte of a text of such a plan is no digit, no space and no operator
-behind_first : (P : Plan) → Behind P → (s : Stmt) (c : ℕ) (t : List ℕ) → Reads P s (c ∷ t) → (is_decimal c ≡ false) × ((eqb c 32 ≡ false) × (infix_of c ≡ none))
+behind_first : (P : Plan) → Behind P → (s : Stmt) (c : ℕ) (t : List ℕ) → Reads P s (c ∷ t)
+    → (is_decimal c ≡ false) × ((eqb c 32 ≡ false) × (infix_of c ≡ none))
 behind_first (done r) b s c t g = let e = done_ends g in clash (cc)
 behind_first (fork end ok f) b s c t (plans.byte p g) = b c p
 behind_first (expression f) b s c t g = absurd b
@@ -120,7 +121,8 @@ module _ (P Q : Plan) (t r : List ℕ) where
 no_op : (r : List ℕ) (c : ℕ) (v : List ℕ) → r ≡ c ∷ v → infix_of c ≡ none → HasOp r → ◌≡◌ {A = ℕ} 0 1
 no_op r c v e n h = let z : false ≡ true = ap is_some (sym n) ∙ subst (λ x. is_some (infix_of (look x)) ≡ true) e h in cc
 
-tree_begun : (P : Plan) (f : Expr → Plan) → ((s : Stmt) (e : Expr) (w v : List ℕ) → Exp 5 e w → Reads (f e) s v → Reads P s (w ++ v)) → ((e : Expr) → Behind (f e) × Alive (f e)) → (e : Expr) (r w v q : List ℕ) → Trails 5 e r w → r ≡ v ++ q → Begun (f e) v
+tree_begun : (P : Plan) (f : Expr → Plan) → ((s : Stmt) (e : Expr) (w v : List ℕ) → Exp 5 e w → Reads (f e) s v → Reads P s (w ++ v))
+    → ((e : Expr) → Behind (f e) × Alive (f e)) → (e : Expr) (r w v q : List ℕ) → Trails 5 e r w → r ≡ v ++ q → Begun (f e) v
     → Begun P (w ++ v)
 tree_begun P f join a e r w [] q m s b =
     let c = can_5 w (trails_ahead 5 e r w m) in
@@ -147,7 +149,9 @@ tree_begun P f join a e r w (x ∷ v) q m s b = on m.follows
         }
     on (inr h) = clash (no_op r x (v ++ q) s (behind_first (f e) (a e).0 b.line x (v ++ b.more) b.good).1.1 h)
 
-tree_got : (P : Plan) (f : Expr → Plan) → ((s : Stmt) (e : Expr) (w v : List ℕ) → Exp 5 e w → Reads (f e) s v → Reads P s (w ++ v)) → ((e : Expr) → Behind (f e) × Alive (f e)) → (e : Expr) (t r : List ℕ) → Took t r (λ w. Trails 5 e r w) (λ x u. Goes (whole 5) x (got e u))
+tree_got : (P : Plan) (f : Expr → Plan) → ((s : Stmt) (e : Expr) (w v : List ℕ) → Exp 5 e w → Reads (f e) s v → Reads P s (w ++ v))
+    → ((e : Expr) → Behind (f e) × Alive (f e)) → (e : Expr) (t r : List ℕ)
+    → Took t r (λ w. Trails 5 e r w) (λ x u. Goes (whole 5) x (got e u))
     → (s : Stmt) → Reads (f e) s r → Reads P s t
 unfolding infix_of
 tree_got P f join a e t r m s g = subst (λ x. Reads P s x) (sym m.split) (join s e m.w r (on k.follows) g)
@@ -170,7 +174,8 @@ tree_got P f join a e t r m s g = subst (λ x. Reads P s x) (sym m.split) (join 
 
 abbrev pub NumTook : ℕ → List ℕ → Read ℕ → Type 0
 NumTook most t (got n r) = Took t r (λ w. Decimal most n w) (λ x u. (is_decimal (look x) ≡ true) × (going.digits most 0 x ≡ got n u))
-NumTook most t (stuck r) = Took t r (λ w. Decimal most (worth 0 w) w) (λ x u. (is_decimal (look x) ≡ true) × (going.digits most 0 x ≡ stuck u))
+NumTook most t (stuck r) = Took t r (λ w. Decimal most (worth 0 w) w) (λ x u. (is_decimal (look x) ≡ true)
+    × (going.digits most 0 x ≡ stuck u))
 
 abbrev next : ℕ → ℕ → ℕ
 next v d = 10 * v + (d - 48)
@@ -209,15 +214,22 @@ num_took most (c ∷ t) o h p e = on o (subst (λ x. FineDigits most (next 0 c) 
 
 joined_begun : (P Q : Plan) (w v : List ℕ) → ((x : List ℕ) (s : Stmt) → Reads Q s x → Reads P s (w ++ x)) → Begun Q v → Begun P (w ++ v)
 joined_begun P Q w v f b =
-    record { more = b.more; line = b.line; good = subst (λ x. Reads P b.line x) (sym (append_assoc w v b.more)) (f (v ++ b.more) b.line b.good) }
+    record {
+      more = b.more;
+      line = b.line;
+      good = subst (λ x. Reads P b.line x) (sym (append_assoc w v b.more))
+          (f (v ++ b.more) b.line b.good);
+    }
 
-value_fine : (most : ℕ) (f : ℕ → Plan) (n : ℕ) (t r : List ℕ) → NumTook most t (got n r) → (o : Read Stmt) → FineWalk (f n) r o → FineWalk (decimal most f) t o
+value_fine : (most : ℕ) (f : ℕ → Plan) (n : ℕ) (t r : List ℕ) → NumTook most t (got n r) → (o : Read Stmt) → FineWalk (f n) r o
+    → FineWalk (decimal most f) t o
 value_fine most f n t r a (got s q) g = (subst (λ x. Reads (decimal most f) s x) (sym a.split) (plans.value a.means g.0), g.1)
 value_fine most f n t r a (stuck q) g =
     part_lost (decimal most f) (f n) t r a.w a.split (λ u k o z. plans.value (a.alike u k).0 (a.alike u k).1 z) q g
     (λ v s b. joined_begun (decimal most f) (f n) a.w v (λ x l z. plans.value a.means z) b)
 
-name_fine : (f : ℕ → Plan) (n : ℕ) (t r : List ℕ) → FineFixed 32767 5 0 t (got n r) → (o : Read Stmt) → FineWalk (f n) r o → FineWalk (five f) t o
+name_fine : (f : ℕ → Plan) (n : ℕ) (t r : List ℕ) → FineFixed 32767 5 0 t (got n r) → (o : Read Stmt) → FineWalk (f n) r o
+    → FineWalk (five f) t o
 name_fine f n t r a (got s q) g =
     let m = a.means in (
       subst (λ x. Reads (five f) s x) (sym a.split)
@@ -241,7 +253,8 @@ over_alike same = plans.over
 short_alike : {ok : ℕ → Bool} {f : ℕ → Plan} {u : List ℕ} → Alike [] u → Walks (fork none ok f) u (stuck u)
 short_alike both = plans.short
 
-wrong_alike : {end : Option Stmt} {ok : ℕ → Bool} {f : ℕ → Plan} {c : ℕ} {t u : List ℕ} → ok c ≡ false → Alike (c ∷ t) u → Walks (fork end ok f) u (stuck u)
+wrong_alike : {end : Option Stmt} {ok : ℕ → Bool} {f : ℕ → Plan} {c : ℕ} {t u : List ℕ} → ok c ≡ false → Alike (c ∷ t) u
+    → Walks (fork end ok f) u (stuck u)
 wrong_alike p same = plans.wrong p
 
 pub fork_next : (end : Option Stmt) (ok : ℕ → Bool) (f : ℕ → Plan) → Alive (fork end ok f) → (c : ℕ) → ok c ≡ true → Alive (f c)
@@ -249,7 +262,8 @@ unfolding Alive
 fork_next (some s) ok f a c p = a c p
 fork_next none ok f a c p = a.1 c p
 
-step_fine : (end : Option Stmt) (ok : ℕ → Bool) (f : ℕ → Plan) (c : ℕ) (t : List ℕ) → ok c ≡ true → (o : Read Stmt) → FineWalk (f c) t o → FineWalk (fork end ok f) (c ∷ t) o
+step_fine : (end : Option Stmt) (ok : ℕ → Bool) (f : ℕ → Plan) (c : ℕ) (t : List ℕ) → ok c ≡ true → (o : Read Stmt) → FineWalk (f c) t o
+    → FineWalk (fork end ok f) (c ∷ t) o
 step_fine end ok f c t p (got s r) g = (plans.byte p g.0, g.1)
 step_fine end ok f c t p (stuck r) l =
     record {
@@ -260,13 +274,15 @@ step_fine end ok f c t p (stuck r) l =
     }
 
 tree_fine : (f : Expr → Plan) → ((e : Expr) → Behind (f e) × Alive (f e)) → (e : Expr) (t r : List ℕ)
-    → Took t r (λ w. Trails 5 e r w) (λ x u. Goes (whole 5) x (got e u)) → (o : Read Stmt) → FineWalk (f e) r o → FineWalk (expression f) t o
+    → Took t r (λ w. Trails 5 e r w) (λ x u. Goes (whole 5) x (got e u)) → (o : Read Stmt) → FineWalk (f e) r o
+    → FineWalk (expression f) t o
 tree_fine f a e t r m (got s q) g = (tree_got (expression f) f (λ s e w v x g. plans.tree x g) a e t r m s g.0, g.1)
 tree_fine f a e t r m (stuck q) g =
     part_lost (expression f) (f e) t r m.w m.split (λ u k o z. plans.tree (m.alike u k) z) q g
     (λ v s b. tree_begun (expression f) f (λ s e w v x g. plans.tree x g) a e r m.w v q m.means s b)
 
-marked_fine : (ok : ℕ → Bool) (next : ℕ → Plan) (f : Expr → Plan) (c : ℕ) (t : List ℕ) → ok c ≡ true → (o : Read Stmt) → FineWalk (next c) t o
+marked_fine : (ok : ℕ → Bool) (next : ℕ → Plan) (f : Expr → Plan) (c : ℕ) (t : List ℕ) → ok c ≡ true → (o : Read Stmt)
+    → FineWalk (next c) t o
     → FineWalk (either ok next f) (c ∷ t) o
 marked_fine ok next f c t p (got s r) g = (plans.marked p g.0, g.1)
 marked_fine ok next f c t p (stuck r) l =
@@ -277,8 +293,10 @@ marked_fine ok next f c t p (stuck r) l =
       alike = λ u k. plans.marked p (l.alike u k);
     }
 
-bare_fine : (ok : ℕ → Bool) (next : ℕ → Plan) (f : Expr → Plan) → ((e : Expr) → Behind (f e) × Alive (f e)) → (e : Expr) (t r : List ℕ) → ok (look t) ≡ false
-    → Took t r (λ w. Trails 5 e r w) (λ x u. Goes (whole 5) x (got e u)) → (o : Read Stmt) → FineWalk (f e) r o → FineWalk (either ok next f) t o
+bare_fine : (ok : ℕ → Bool) (next : ℕ → Plan) (f : Expr → Plan) → ((e : Expr) → Behind (f e) × Alive (f e)) → (e : Expr) (t r : List ℕ)
+    → ok (look t) ≡ false
+    → Took t r (λ w. Trails 5 e r w) (λ x u. Goes (whole 5) x (got e u)) → (o : Read Stmt) → FineWalk (f e) r o
+    → FineWalk (either ok next f) t o
 bare_fine ok next f a e t r q m (got s z) g = (tree_got (either ok next f) f (λ s e w v x g. plans.bare x g) a e t r m s g.0, g.1)
 bare_fine ok next f a e t r q m (stuck z) g =
     part_lost (either ok next f) (f e) t r m.w m.split
@@ -300,9 +318,12 @@ unfolding Alive
 fine_walk plans.last a = (plans.last, refl)
 fine_walk (plans.over {s = s}) a = record { w = []; split = refl; begun = begin (done s) a; alike = λ u k. over_alike k }
 fine_walk plans.ended a = (plans.ends, refl)
-fine_walk (plans.short {ok = ok} {f = f}) a = record { w = []; split = refl; begun = begin (fork none ok f) a; alike = λ u k. short_alike k }
-fine_walk (plans.steps {end = end} {ok = ok} {f = f} {c = c} {t = t} {o = o} p g) a = step_fine end ok f c t p o (fine_walk g (fork_next end ok f a c p))
-fine_walk (plans.wrong {end = end} {ok = ok} {f = f} p) a = record { w = []; split = refl; begun = begin (fork end ok f) a; alike = λ u k. wrong_alike p k }
+fine_walk (plans.short {ok = ok} {f = f}) a =
+    record { w = []; split = refl; begun = begin (fork none ok f) a; alike = λ u k. short_alike k }
+fine_walk (plans.steps {end = end} {ok = ok} {f = f} {c = c} {t = t} {o = o} p g) a =
+    step_fine end ok f c t p o (fine_walk g (fork_next end ok f a c p))
+fine_walk (plans.wrong {end = end} {ok = ok} {f = f} p) a =
+    record { w = []; split = refl; begun = begin (fork end ok f) a; alike = λ u k. wrong_alike p k }
 fine_walk (plans.tree {f = f} {e = e} {t = t} {r = r} {o = o} g h) a = tree_fine f a e t r (fine g) o (fine_walk h (a e).1)
 fine_walk (plans.treeless {f = f} {t = t} {r = r} g) a =
     let m : Took t r (λ w. Ahead 5 w) (λ x u. Goes (whole 5) x (stuck u)) = fine g in
@@ -356,8 +377,10 @@ fine_walk (plans.nameless {f = f} {t = t} {r = r} e) a =
           };
       alike = λ u k. plans.nameless (m.alike u (alike_look k));
     }
-fine_walk (plans.marked {ok = ok} {next = next} {f = f} {c = c} {t = t} {o = o} p g) a = marked_fine ok next f c t p o (fine_walk g (a.1.0 c p))
-fine_walk (plans.bare {ok = ok} {next = next} {f = f} {e = e} {t = t} {r = r} {o = o} q g h) a = bare_fine ok next f a.1.1 e t r q (fine g) o (fine_walk h (a.1.1 e).1)
+fine_walk (plans.marked {ok = ok} {next = next} {f = f} {c = c} {t = t} {o = o} p g) a =
+    marked_fine ok next f c t p o (fine_walk g (a.1.0 c p))
+fine_walk (plans.bare {ok = ok} {next = next} {f = f} {e = e} {t = t} {r = r} {o = o} q g h) a =
+    bare_fine ok next f a.1.1 e t r q (fine g) o (fine_walk h (a.1.1 e).1)
 fine_walk (plans.bareless {ok = ok} {next = next} {f = f} {t = t} {r = r} q g) a =
     let m : Took t r (λ w. Ahead 5 w) (λ x u. Goes (whole 5) x (stuck u)) = fine g in
     let c = can_5 m.w m.means in

@@ -52,7 +52,8 @@ exp_class (reading.joined {s = s} {t = t} o m n z x y) v q =
     let w : List ℕ = spaces m ++ (sign2 o ∷ (spaces n ++ t)) in
     exp_class x (w ++ v) (ap (λ r. going.class_of (look r)) (sym (append_assoc s w v)) ∙ q)
 
-no_mark : (ok : ℕ → Bool) (t : List ℕ) → ((c : ℕ) → ok c ≡ true → going.class_of c ≡ going.other) → (going.class_of (look t) ≡ going.other → ◌≡◌ {A = ℕ} 0 1) → ok (look t) ≡ false
+no_mark : (ok : ℕ → Bool) (t : List ℕ) → ((c : ℕ) → ok c ≡ true → going.class_of c ≡ going.other)
+    → (going.class_of (look t) ≡ going.other → ◌≡◌ {A = ℕ} 0 1) → ok (look t) ≡ false
 no_mark ok t f h = on (ok (look t)) refl
   where
     on : (b : Bool) → ok (look t) ≡ b → b ≡ false
@@ -74,7 +75,8 @@ complete_walk (plans.digits {n = n} {f = f} {w = w} {v = v} l d g) a =
     plans.digits (fixed_all 32767 5 0 w v d.digits (omega (arith, d.is, d.within)) l ∙ ap (λ x. got x v) d.is) (complete_walk g (a n))
 complete_walk (plans.marked {ok = ok} {c = c} p g) a = plans.marked p (complete_walk g (a.1.0 c p))
 complete_walk (plans.bare {s = s} {ok = ok} {f = f} {e = e} {w = w} {v = v} x g) a =
-    plans.bare (no_mark ok (w ++ v) a.0.0 (exp_class x v)) (read_whole x v (behind_stop (f e) (a.1.1 e).0 s v g)) (complete_walk g (a.1.1 e).1)
+    plans.bare (no_mark ok (w ++ v) a.0.0 (exp_class x v)) (read_whole x v (behind_stop (f e) (a.1.1 e).0 s v g))
+    (complete_walk g (a.1.1 e).1)
 complete_walk (plans.finished e) a = plans.finishes e
 
 -- ---- in one way only
@@ -122,7 +124,8 @@ single (plans.marked p g) x (plans.marked q h) = single g x h
 single (plans.marked {ok = ok} {c = c} p g) x (plans.bare q g' h') = both_ways (ok c) p q
 single (plans.marked {ok = ok} {c = c} p g) x (plans.bareless q g') = both_ways (ok c) p q
 single (plans.bare q g h) x (plans.marked {ok = ok} {c = c} p h') = both_ways (ok c) p q
-single (plans.bare {f = f} {e = e} {r = r} q g h) x (plans.bare {e = d} {r = z} q' g' h') = single h x (subst (λ y. On y) (sym (determined g (got d z) g')) h')
+single (plans.bare {f = f} {e = e} {r = r} q g h) x (plans.bare {e = d} {r = z} q' g' h') =
+    single h x (subst (λ y. On y) (sym (determined g (got d z) g')) h')
   where
     On : Read Expr → Type 0
     On (got e r) = Walks (f e) r x
@@ -148,14 +151,16 @@ pub record Wrong (P : Plan) (t : List ℕ) (c : ℕ) : Type 0 where
 stuck_got : {X : Type 0} (s : Stmt) (r q : List ℕ) → ◌≡◌ {A = Read Stmt} (stuck r) (got s q) → X
 stuck_got s r q e = clash (cc)
 
-none_there : (P : Plan) → Alive P → (t w r : List ℕ) → t ≡ w ++ r → ((u : List ℕ) → Alike r u → Walks P (w ++ u) (stuck u)) → length w < length t
+none_there : (P : Plan) → Alive P → (t w r : List ℕ) → t ≡ w ++ r → ((u : List ℕ) → Alike r u → Walks P (w ++ u) (stuck u))
+    → length w < length t
     → Begun P (take (suc (length w)) t) → ⊥
 none_there P a t w [] e f h b = omega (arith, ap length e, length-append w [])
 none_there P a t w (c ∷ r) e f h b =
     let one : take (suc (length w)) t ≡ w ++ (c ∷ []) =
     ap (λ x. take (suc (length w)) x) (e ∙ sym (append_assoc w (c ∷ []) r))
     ∙ take_at (w ++ (c ∷ [])) r (suc (length w)) (length-append w (c ∷ []) ∙ plus_one (length w)) in
-    let g : Reads P b.line (w ++ (c ∷ b.more)) = subst (λ x. Reads P b.line x) (ap (λ x. x ++ b.more) one ∙ append_assoc w (c ∷ []) b.more) b.good in
+    let g : Reads P b.line (w ++ (c ∷ b.more)) = subst (λ x. Reads P b.line x) (ap (λ x. x ++ b.more) one
+    ∙ append_assoc w (c ∷ []) b.more) b.good in
     stuck_got b.line (c ∷ b.more) [] (single (f (c ∷ b.more) same) (got b.line []) (complete_walk g a))
   where
     plus_one : (n : ℕ) → n + 1 ≡ suc n
@@ -178,7 +183,8 @@ stuck_is P a t r g =
 -- there is one such column
 begun_less : (P : Plan) (t : List ℕ) (c d : ℕ) → c ≤ d → Begun P (take d t) → Begun P (take c t)
 begun_less P t c d h b =
-    let e : take d t ≡ take c t ++ drop c (take d t) = sym (take-append-drop c (take d t)) ∙ ap (λ x. x ++ drop c (take d t)) (take-take c d t h) in
+    let e : take d t ≡ take c t ++ drop c (take d t) = sym (take-append-drop c (take d t))
+    ∙ ap (λ x. x ++ drop c (take d t)) (take-take c d t h) in
     record {
       more = drop c (take d t) ++ b.more;
       line = b.line;

@@ -97,4 +97,5 @@ statement_back (pad a m) s h g =
 pub different : (s r : Stmt) → SoundStmt s → plain_stmt s ≡ true → is_gone s ≡ false → SoundStmt r → plain_stmt r ≡ true → is_gone r ≡ false
     → line_text s ≡ line_text r → own 0 s ≡ own 0 r
 different s r a b c x y z e =
-    one_statement (own 0 s) (own 0 r) (line_text s) (statement_back s a b c) (subst (λ t. Line (own 0 r) t) (sym e) (statement_back r x y z))
+    one_statement (own 0 s) (own 0 r) (line_text s) (statement_back s a b c)
+    (subst (λ t. Line (own 0 r) t) (sym e) (statement_back r x y z))

@@ -52,10 +52,13 @@ dot_line w s t here (v, (z, g)) = subst (λ y. Line s y) (sym z) (global_line s 
 dot_line w s t (there here) (v, (z, g)) = subst (λ y. Line s y) (sym z) (local_line s v g)
 dot_line w s t (there (there here)) (v, (z, g)) = subst (λ y. Line s y) (sym z) (org_line s v g)
 dot_line w s t (there (there (there here))) (v, (z, g)) = subst (λ y. Line s y) (sym z) (bytes_line s v (items_line bytes 15 [] s v g))
-dot_line w s t (there (there (there (there here)))) (v, (z, g)) = subst (λ y. Line s y) (sym z) (words_line s v (items_line words 15 [] s v g))
-dot_line w s t (there (there (there (there (there here))))) (q, z) = subst (λ y. Line y t) (sym q) (subst (λ y. Line (comment []) y) (sym z) no_bytes)
+dot_line w s t (there (there (there (there here)))) (v, (z, g)) = subst (λ y. Line s y) (sym z)
+    (words_line s v (items_line words 15 [] s v g))
+dot_line w s t (there (there (there (there (there here))))) (q, z) = subst (λ y. Line y t) (sym q)
+    (subst (λ y. Line (comment []) y) (sym z) no_bytes)
 dot_line w s t (there (there (there (there (there (there here)))))) (v, (z, g)) = subst (λ y. Line s y) (sym z) (comment_line s v g)
-dot_line w s t (there (there (there (there (there (there (there here))))))) (v, (z, g)) = subst (λ y. Line s y) (sym z) (align_line s v (align_of pad s v g))
+dot_line w s t (there (there (there (there (there (there (there here))))))) (v, (z, g)) =
+    subst (λ y. Line s y) (sym z) (align_line s v (align_of pad s v g))
 dot_line w s t (there (there (there (there (there (there (there (there i)))))))) g = no_in w [] i refl
 
 pub plan_line : (s : Stmt) (t : List ℕ) → Reads line_plan s t → Line s t
@@ -83,35 +86,43 @@ by_mnemonic : (s : Stmt) (t : List ℕ) → (w : Word) × (In w mnemonics × Say
 unfolding word_list
 by_mnemonic s t (w, (i, q)) = by_word w s t (in_second w dot_words mnemonics i) q
 
-byte_words : (es : List Expr) (t : List ℕ) → 1 ≤ length es → length es ≤ 16 → reading.Items 32 es t → Reads line_plan (bytes es) (codes ".byte" ++ t)
+byte_words : (es : List Expr) (t : List ℕ) → 1 ≤ length es → length es ≤ 16 → reading.Items 32 es t
+    → Reads line_plan (bytes es) (codes ".byte" ++ t)
 byte_words [] t l h i = absurd (omega arith)
 byte_words (e ∷ es) t l h i =
     let b = first_item i in
     subst (λ y. Reads line_plan (bytes (e ∷ es)) (codes ".byte" ++ y)) (sym b.text)
-    (by_dot (opening (codes ".byte ") (items_plan bytes 15 [])) (bytes (e ∷ es)) (codes ".byte" ++ (32 ∷ (b.u ++ b.v))) (there (there (there here)))
+    (by_dot (opening (codes ".byte ") (items_plan bytes 15 [])) (bytes (e ∷ es)) (codes ".byte" ++ (32 ∷ (b.u ++ b.v)))
+    (there (there (there here)))
     (b.u ++ b.v, (refl, line_items bytes 15 [] (e ∷ es) (b.u ++ b.v) 32 l h (subst (λ y. reading.Items 32 (e ∷ es) y) b.text i))))
 
-word_words : (es : List Expr) (t : List ℕ) → 1 ≤ length es → length es ≤ 16 → reading.Items 32 es t → Reads line_plan (words es) (codes ".word" ++ t)
+word_words : (es : List Expr) (t : List ℕ) → 1 ≤ length es → length es ≤ 16 → reading.Items 32 es t
+    → Reads line_plan (words es) (codes ".word" ++ t)
 word_words [] t l h i = absurd (omega arith)
 word_words (e ∷ es) t l h i =
     let b = first_item i in
     subst (λ y. Reads line_plan (words (e ∷ es)) (codes ".word" ++ y)) (sym b.text)
-    (by_dot (opening (codes ".word ") (items_plan words 15 [])) (words (e ∷ es)) (codes ".word" ++ (32 ∷ (b.u ++ b.v))) (there (there (there (there here))))
+    (by_dot (opening (codes ".word ") (items_plan words 15 [])) (words (e ∷ es)) (codes ".word" ++ (32 ∷ (b.u ++ b.v)))
+    (there (there (there (there here))))
     (b.u ++ b.v, (refl, line_items words 15 [] (e ∷ es) (b.u ++ b.v) 32 l h (subst (λ y. reading.Items 32 (e ∷ es) y) b.text i))))
 
 comment_words : (s : List ℕ) → every (λ b. leb b 255) s ≡ true → Reads line_plan (comment s) (codes ".comment" ++ comment_text s)
-comment_words [] e = by_dot (closing (codes ".comment") (comment [])) (comment []) (codes ".comment") (there (there (there (there (there here))))) (refl, refl)
+comment_words [] e = by_dot (closing (codes ".comment") (comment [])) (comment []) (codes ".comment")
+    (there (there (there (there (there here))))) (refl, refl)
 comment_words (b ∷ s) e =
-    by_dot (opening (codes ".comment ") (finish comments)) (comment (b ∷ s)) (codes ".comment" ++ comment_text (b ∷ s)) (there (there (there (there (there (there here))))))
+    by_dot (opening (codes ".comment ") (finish comments)) (comment (b ∷ s)) (codes ".comment" ++ comment_text (b ∷ s))
+    (there (there (there (there (there (there here))))))
     (each (λ b. hex_byte b) (b ∷ s), (refl, line_comment b s e))
 
 label_words : {n : ℕ} {t : List ℕ} → reading.Name n t → Reads line_plan (label n) (t ++ (58 ∷ []))
 label_words (reading.global {n = n} {t = t} l d) =
     by_dot (opening (codes "g") global_plan) (label n) (103 ∷ (t ++ (58 ∷ []))) here (t ++ (58 ∷ []), (refl, line_global n t l d))
 label_words (reading.local {n = n} {t = t} l d) =
-    by_dot (opening (codes ".l") local_plan) (label (0x8000 + n)) (46 ∷ 108 ∷ (t ++ (58 ∷ []))) (there here) (t ++ (58 ∷ []), (refl, line_local n t l d))
+    by_dot (opening (codes ".l") local_plan) (label (0x8000 + n)) (46 ∷ 108 ∷ (t ++ (58 ∷ []))) (there here)
+    (t ++ (58 ∷ []), (refl, line_local n t l d))
 
-define_words : {n : ℕ} {s : List ℕ} (e : Expr) (t : List ℕ) → reading.Name n s → n < 0x8000 → Exp 5 e t → Reads line_plan (variable n e) (s ++ (61 ∷ t))
+define_words : {n : ℕ} {s : List ℕ} (e : Expr) (t : List ℕ) → reading.Name n s → n < 0x8000 → Exp 5 e t
+    → Reads line_plan (variable n e) (s ++ (61 ∷ t))
 define_words e t (reading.global {n = n} {t = s} l d) h x =
     by_dot (opening (codes "g") global_plan) (variable n e) (103 ∷ (s ++ (61 ∷ t))) here (s ++ (61 ∷ t), (refl, line_defined n e s t l d x))
 define_words e t (reading.local l d) h x = absurd (omega arith)
@@ -121,11 +132,13 @@ line_plan_lem (reading.instruction {f = f} {xs = xs} {t = t} h a) = by_mnemonic 
 line_plan_lem (reading.labelled n) = label_words n
 line_plan_lem (reading.defined {e = e} {t = t} n h x) = define_words e t n h x
 line_plan_lem (reading.commented {s = s} e) = comment_words s e
-line_plan_lem (reading.located {l = l} {t = t} d) = by_dot (opening (codes ".org ") org_plan) (org l) (codes ".org " ++ t) (there (there here)) (t, (refl, line_org l t d))
+line_plan_lem (reading.located {l = l} {t = t} d) = by_dot (opening (codes ".org ") org_plan) (org l) (codes ".org " ++ t)
+    (there (there here)) (t, (refl, line_org l t d))
 line_plan_lem (reading.byte_items {es = es} {t = t} l h i) = byte_words es t l h i
 line_plan_lem (reading.word_items {es = es} {t = t} l h i) = word_words es t l h i
 line_plan_lem (reading.aligned {a = a} {m = m} {s = s} {t = t} d e h) =
-    by_dot (opening (codes ".align ") (align_plan pad)) (pad a m) (codes ".align " ++ (s ++ (44 ∷ t))) (there (there (there (there (there (there (there here)))))))
+    by_dot (opening (codes ".align ") (align_plan pad)) (pad a m) (codes ".align " ++ (s ++ (44 ∷ t)))
+    (there (there (there (there (there (there (there here)))))))
     (s ++ (44 ∷ t), (refl, of_align pad a m s t d e h))
 
 -- ---- "each accepted line has one reading"

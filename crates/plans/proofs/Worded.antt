@@ -43,23 +43,28 @@ advance_in c w [] i = elim i [ ]
 advance_in c w (opening [] P ∷ vs) i = there (advance_in c w vs i)
 advance_in c w (opening (d ∷ x) P ∷ vs) i = on (into (eqb d c) w (opening x P) (advance c vs) i) (λ j. there (advance_in c w vs j))
   where
-    on : ((w ≡ opening x P) × (eqb d c ≡ true)) ⊎ In w (advance c vs) → (In w (advance c vs) → In (put c w) (opening (d ∷ x) P ∷ vs)) → In (put c w) (opening (d ∷ x) P ∷ vs)
+    on : ((w ≡ opening x P) × (eqb d c ≡ true)) ⊎ In w (advance c vs) → (In w (advance c vs) → In (put c w) (opening (d ∷ x) P ∷ vs))
+        → In (put c w) (opening (d ∷ x) P ∷ vs)
     on (inl (e, q)) f =
-        subst (λ y. In (put c y) (opening (d ∷ x) P ∷ vs)) (sym e) (subst (λ y. In (opening (y ∷ x) P) (opening (d ∷ x) P ∷ vs)) (eqb-true d c q) here)
+        subst (λ y. In (put c y) (opening (d ∷ x) P ∷ vs)) (sym e)
+        (subst (λ y. In (opening (y ∷ x) P) (opening (d ∷ x) P ∷ vs)) (eqb-true d c q) here)
     on (inr j) f = f j
 advance_in c w (closing [] s ∷ vs) i = there (advance_in c w vs i)
 advance_in c w (closing (d ∷ x) s ∷ vs) i = on (into (eqb d c) w (closing x s) (advance c vs) i) (λ j. there (advance_in c w vs j))
   where
-    on : ((w ≡ closing x s) × (eqb d c ≡ true)) ⊎ In w (advance c vs) → (In w (advance c vs) → In (put c w) (closing (d ∷ x) s ∷ vs)) → In (put c w) (closing (d ∷ x) s ∷ vs)
+    on : ((w ≡ closing x s) × (eqb d c ≡ true)) ⊎ In w (advance c vs) → (In w (advance c vs) → In (put c w) (closing (d ∷ x) s ∷ vs))
+        → In (put c w) (closing (d ∷ x) s ∷ vs)
     on (inl (e, q)) f =
-        subst (λ y. In (put c y) (closing (d ∷ x) s ∷ vs)) (sym e) (subst (λ y. In (closing (y ∷ x) s) (closing (d ∷ x) s ∷ vs)) (eqb-true d c q) here)
+        subst (λ y. In (put c y) (closing (d ∷ x) s ∷ vs)) (sym e)
+        (subst (λ y. In (closing (y ∷ x) s) (closing (d ∷ x) s ∷ vs)) (eqb-true d c q) here)
     on (inr j) f = f j
 
 -- a word that goes on with c is among those that do
 pub in_open : (c : ℕ) (x : List ℕ) (P : Plan) (vs : List Word) → In (opening (c ∷ x) P) vs → In (opening x P) (advance c vs)
 unfolding advance
 in_open c x P [] j = elim j [ ]
-in_open c x P (opening (d ∷ y) Q ∷ vs) here = subst (λ b. In (opening x P) (onto b (opening x P) (advance c vs))) (sym (eq-eqb c c refl)) here
+in_open c x P (opening (d ∷ y) Q ∷ vs) here = subst (λ b. In (opening x P) (onto b (opening x P) (advance c vs))) (sym (eq-eqb c c refl))
+    here
 in_open c x P (opening [] Q ∷ vs) (there i) = in_open c x P vs i
 in_open c x P (opening (d ∷ y) Q ∷ vs) (there i) = onto_same (opening x P) (eqb d c) (opening y Q) (advance c vs) (in_open c x P vs i)
 in_open c x P (closing [] s ∷ vs) (there i) = in_open c x P vs i
@@ -68,7 +73,8 @@ in_open c x P (closing (d ∷ y) s ∷ vs) (there i) = onto_same (opening x P) (
 pub in_close : (c : ℕ) (x : List ℕ) (r : Stmt) (vs : List Word) → In (closing (c ∷ x) r) vs → In (closing x r) (advance c vs)
 unfolding advance
 in_close c x r [] j = elim j [ ]
-in_close c x r (closing (d ∷ y) s ∷ vs) here = subst (λ b. In (closing x r) (onto b (closing x r) (advance c vs))) (sym (eq-eqb c c refl)) here
+in_close c x r (closing (d ∷ y) s ∷ vs) here = subst (λ b. In (closing x r) (onto b (closing x r) (advance c vs))) (sym (eq-eqb c c refl))
+    here
 in_close c x r (opening [] Q ∷ vs) (there i) = in_close c x r vs i
 in_close c x r (opening (d ∷ y) Q ∷ vs) (there i) = onto_same (closing x r) (eqb d c) (opening y Q) (advance c vs) (in_close c x r vs i)
 in_close c x r (closing [] s ∷ vs) (there i) = in_close c x r vs i
@@ -109,25 +115,32 @@ no_open P b (closing [] r ∷ vs) c (there i) = no_open P false vs (and_true b (
 no_open P b (closing (d ∷ x) r ∷ vs) c (there i) = no_open P b vs c i
 
 -- each way to go on is told apart
-pub first_open : (g : List Word → Bool) (us : List Word) (c : ℕ) (x : List ℕ) (P : Plan) (vs : List Word) → each_first g us vs ≡ true → In (opening (c ∷ x) P) vs
+pub first_open : (g : List Word → Bool) (us : List Word) (c : ℕ) (x : List ℕ) (P : Plan) (vs : List Word) → each_first g us vs ≡ true
+    → In (opening (c ∷ x) P) vs
     → g (advance c us) ≡ true
 first_open g us c x P [] e j = elim j [ ]
 first_open g us c x P (opening [] Q ∷ vs) e (there i) = first_open g us c x P vs e i
 first_open g us c x P (opening (d ∷ y) Q ∷ vs) e here = (and_true (g (advance c us)) (each_first g us vs) e).0
-first_open g us c x P (opening (d ∷ y) Q ∷ vs) e (there i) = first_open g us c x P vs (and_true (g (advance d us)) (each_first g us vs) e).1 i
+first_open g us c x P (opening (d ∷ y) Q ∷ vs) e (there i) = first_open g us c x P vs (and_true (g (advance d us)) (each_first g us vs) e).1
+    i
 first_open g us c x P (closing [] r ∷ vs) e (there i) = first_open g us c x P vs e i
-first_open g us c x P (closing (d ∷ y) r ∷ vs) e (there i) = first_open g us c x P vs (and_true (g (advance d us)) (each_first g us vs) e).1 i
+first_open g us c x P (closing (d ∷ y) r ∷ vs) e (there i) = first_open g us c x P vs (and_true (g (advance d us)) (each_first g us vs) e).1
+    i
 
-pub first_close : (g : List Word → Bool) (us : List Word) (c : ℕ) (x : List ℕ) (s : Stmt) (vs : List Word) → each_first g us vs ≡ true → In (closing (c ∷ x) s) vs
+pub first_close : (g : List Word → Bool) (us : List Word) (c : ℕ) (x : List ℕ) (s : Stmt) (vs : List Word) → each_first g us vs ≡ true
+    → In (closing (c ∷ x) s) vs
     → g (advance c us) ≡ true
 first_close g us c x s [] e j = elim j [ ]
 first_close g us c x s (opening [] Q ∷ vs) e (there i) = first_close g us c x s vs e i
-first_close g us c x s (opening (d ∷ y) Q ∷ vs) e (there i) = first_close g us c x s vs (and_true (g (advance d us)) (each_first g us vs) e).1 i
+first_close g us c x s (opening (d ∷ y) Q ∷ vs) e (there i) = first_close g us c x s vs
+    (and_true (g (advance d us)) (each_first g us vs) e).1 i
 first_close g us c x s (closing [] r ∷ vs) e (there i) = first_close g us c x s vs e i
 first_close g us c x s (closing (d ∷ y) r ∷ vs) e here = (and_true (g (advance c us)) (each_first g us vs) e).0
-first_close g us c x s (closing (d ∷ y) r ∷ vs) e (there i) = first_close g us c x s vs (and_true (g (advance d us)) (each_first g us vs) e).1 i
+first_close g us c x s (closing (d ∷ y) r ∷ vs) e (there i) = first_close g us c x s vs
+    (and_true (g (advance d us)) (each_first g us vs) e).1 i
 
-pub first_put : (g : List Word → Bool) (us : List Word) (c : ℕ) (w : Word) → each_first g us us ≡ true → In (put c w) us → g (advance c us) ≡ true
+pub first_put : (g : List Word → Bool) (us : List Word) (c : ℕ) (w : Word) → each_first g us us ≡ true → In (put c w) us
+    → g (advance c us) ≡ true
 first_put g us c (opening x P) e i = first_open g us c x P us e i
 first_put g us c (closing x s) e i = first_close g us c x s us e i
 
@@ -163,7 +176,8 @@ module _ (k : ℕ) (d : Stmt) (sound : (ws : List Word) (s : Stmt) (t : List ℕ
           let m = sound (advance c vs) s v (first_put (fit k) vs c i.0 e (advance_in c i.0 vs i.1)) h in
           (put c m.0, (advance_in c m.0 vs m.1.0, subst (λ y. Says (put c m.0) s y) (sym z) (says_put c m.0 s v m.1.1)))
 
-  fork_full : (vs : List Word) (w : Word) (s : Stmt) (t : List ℕ) → clean true vs ≡ true → each_first (fit k) vs vs ≡ true → In w vs → Says w s t → Reads (forked k d vs) s t
+  fork_full : (vs : List Word) (w : Word) (s : Stmt) (t : List ℕ) → clean true vs ≡ true → each_first (fit k) vs vs ≡ true → In w vs
+      → Says w s t → Reads (forked k d vs) s t
   fork_full vs (opening [] P) s t c e i g = absurd (no_open P true vs c i)
   fork_full vs (opening (b ∷ x) P) s t c e i (v, (z, g)) =
       subst (λ y. Reads (forked k d vs) s y) (sym z)
@@ -203,7 +217,8 @@ trie_right (suc k) d = on (trie_right k d)
             fork_sound k d r.sound r.full (closing x q ∷ ws) s t
             (and_true (apart (closing x q ∷ ws)) (each_first (fit k) (closing x q ∷ ws) (closing x q ∷ ws)) e).1 g
 
-        full : (ws : List Word) (w : Word) (s : Stmt) (t : List ℕ) → fit (suc k) ws ≡ true → In w ws → Says w s t → Reads (trie (suc k) d ws) s t
+        full : (ws : List Word) (w : Word) (s : Stmt) (t : List ℕ) → fit (suc k) ws ≡ true → In w ws → Says w s t
+            → Reads (trie (suc k) d ws) s t
         full [] w s t e i g = false_true e
         full (opening [] P ∷ []) w s t e i g = only w i g
           where
@@ -220,7 +235,8 @@ trie_right (suc k) d = on (trie_right k d)
 
 -- ---- alive
 
-fork_alive : (end : Option Stmt) (ok : ℕ → Bool) (f : ℕ → Plan) → (end ≡ none → (c : ℕ) × (ok c ≡ true)) → ((c : ℕ) → ok c ≡ true → Alive (f c)) → Alive (fork end ok f)
+fork_alive : (end : Option Stmt) (ok : ℕ → Bool) (f : ℕ → Plan) → (end ≡ none → (c : ℕ) × (ok c ≡ true))
+    → ((c : ℕ) → ok c ≡ true → Alive (f c)) → Alive (fork end ok f)
 unfolding Alive
 fork_alive none ok f h g = (h refl, g)
 fork_alive (some s) ok f h g = g
@@ -230,17 +246,28 @@ goes_on : (vs : List Word) → clean true vs ≡ true → some? vs ≡ true → 
 unfolding end_of
 goes_on [] c h e = false_true h
 goes_on (opening [] P ∷ vs) c h e = false_true c
-goes_on (opening (b ∷ x) P ∷ vs) c h e = (b, in_some (opening x P) (advance b (opening (b ∷ x) P ∷ vs)) (in_open b x P (opening (b ∷ x) P ∷ vs) here))
+goes_on (opening (b ∷ x) P ∷ vs) c h e = (
+  b,
+  in_some (opening x P) (advance b (opening (b ∷ x) P ∷ vs))
+      (in_open b x P (opening (b ∷ x) P ∷ vs) here),
+)
 goes_on (closing [] s ∷ vs) c h e = clash (cc)
-goes_on (closing (b ∷ x) s ∷ vs) c h e = (b, in_some (closing x s) (advance b (closing (b ∷ x) s ∷ vs)) (in_close b x s (closing (b ∷ x) s ∷ vs) here))
+goes_on (closing (b ∷ x) s ∷ vs) c h e = (
+  b,
+  in_some (closing x s) (advance b (closing (b ∷ x) s ∷ vs))
+      (in_close b x s (closing (b ∷ x) s ∷ vs) here),
+)
 
-pub trie_alive : (k : ℕ) (d : Stmt) (ws : List Word) → fit k ws ≡ true → ((x : List ℕ) (P : Plan) → In (opening x P) ws → Alive P) → Alive (trie k d ws)
+pub trie_alive : (k : ℕ) (d : Stmt) (ws : List Word) → fit k ws ≡ true → ((x : List ℕ) (P : Plan) → In (opening x P) ws → Alive P)
+    → Alive (trie k d ws)
 unfolding fit trie
 trie_alive zero d ws e a = false_true e
 trie_alive (suc k) d ws e a = on ws e a (λ vs h f. trie_alive k d vs h f)
   where
-    forks : (vs : List Word) → clean true vs ≡ true → some? vs ≡ true → each_first (fit k) vs vs ≡ true → ((x : List ℕ) (P : Plan) → In (opening x P) vs → Alive P)
-        → ((us : List Word) → fit k us ≡ true → ((x : List ℕ) (P : Plan) → In (opening x P) us → Alive P) → Alive (trie k d us)) → Alive (forked k d vs)
+    forks : (vs : List Word) → clean true vs ≡ true → some? vs ≡ true → each_first (fit k) vs vs ≡ true
+        → ((x : List ℕ) (P : Plan) → In (opening x P) vs → Alive P)
+        → ((us : List Word) → fit k us ≡ true → ((x : List ℕ) (P : Plan) → In (opening x P) us → Alive P) → Alive (trie k d us))
+        → Alive (forked k d vs)
     forks vs c s f a ih =
         fork_alive (end_of vs) (λ c. some? (advance c vs)) (λ c. trie k d (advance c vs)) (goes_on vs c s)
         (λ b q.
@@ -248,7 +275,8 @@ trie_alive (suc k) d ws e a = on ws e a (λ vs h f. trie_alive k d vs h f)
         ih (advance b vs) (first_put (fit k) vs b i.0 f (advance_in b i.0 vs i.1)) (λ x P j. a (b ∷ x) P (advance_in b (opening x P) vs j)))
 
     on : (ws : List Word) → fit (suc k) ws ≡ true → ((x : List ℕ) (P : Plan) → In (opening x P) ws → Alive P)
-        → ((us : List Word) → fit k us ≡ true → ((x : List ℕ) (P : Plan) → In (opening x P) us → Alive P) → Alive (trie k d us)) → Alive (trie (suc k) d ws)
+        → ((us : List Word) → fit k us ≡ true → ((x : List ℕ) (P : Plan) → In (opening x P) us → Alive P) → Alive (trie k d us))
+        → Alive (trie (suc k) d ws)
     on [] e a ih = false_true e
     on (opening [] P ∷ ws) e a ih = a [] P here
     on (opening (c ∷ x) P ∷ ws) e a ih =

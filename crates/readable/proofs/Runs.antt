@@ -25,7 +25,10 @@ fault_is n i (ok x) = false
 fault_is n i (no r) = eqb (fault_of r).number n && eqb (fault_of r).place i
 
 unfoldable answer : (listing : List ℕ) (room : ℕ) → Judged (List ℕ)
-unfolding each every same require ◌>>=◌ one_more two_more then_second by_tag parse read_expr form_at lines_of unhex take_byte take_pair take_expr take_register take_value take_operands take_exprs take_items read_instr read_label read_variable read_org read_bytes read_words read_pad read_frame within_limits well_formed read_lines read_listing digits_of five expr_text mnemonic args_text items_text line_text text_of within readable
+unfolding each every same require ◌>>=◌ one_more two_more then_second by_tag parse read_expr form_at lines_of unhex take_byte take_pair
+    take_expr take_register take_value take_operands take_exprs take_items read_instr read_label read_variable read_org read_bytes
+    read_words read_pad read_frame within_limits well_formed read_lines read_listing digits_of five expr_text mnemonic args_text
+    items_text line_text text_of within readable
 answer listing room = readable listing room
 
 -- this listing, its lines parted by spaces, is this line

@@ -46,7 +46,8 @@ module _ (frames starts : List ℕ) (n : ℕ) (h : Held frames starts n) (v : Ar
   pub stands : (b a : List ℕ) (to : ℕ) → Lined frame b a to → Stands x a to × (length a ≡ 1024)
   stands b a to w =
       let r = w x fits is_frame in
-      let e : length (frame_of x) ≤ 120 = subst (λ (s : List ℕ). length s ≤ 120) is_frame (omega (arith, length_frame frames starts n h i l, h.short i l)) in
+      let e : length (frame_of x) ≤ 120 = subst (λ (s : List ℕ). length s ≤ 120) is_frame
+      (omega (arith, length_frame frames starts n h i l, h.short i l)) in
       let k = line_at_most x fits e in
       let t : to ≤ 1024 = ⊎_elim (λ u. absurd (omega (arith, r.over u))) (λ u. u) (lt_or_le 1024 to) in
       (record { ends = omega (arith, r.ends t); short = omega (arith, r.ends t); is = r.stands t }, r.size)
@@ -73,7 +74,8 @@ module _ (frames starts : List ℕ) where
       let e : n ≡ i + (n - i) = omega arith in
       let p : Program = tab (λ j. input_at frames starts (i + j)) (n - i) in
       let t : before n ≡ before i ++ text_of p =
-      ap before e ∙ ap (each (λ s. line_of s)) (tab_add (input_at frames starts) i (n - i)) ∙ each_append (λ s. line_of s) (input_of frames starts i) p in
+      ap before e ∙ ap (each (λ s. line_of s)) (tab_add (input_at frames starts) i (n - i))
+      ∙ each_append (λ s. line_of s) (input_of frames starts i) p in
       omega (arith, ap (λ (t : List ℕ). length t) t, length-append (before i) (text_of p))
 
   pub none : before 0 ≡ []

@@ -35,7 +35,8 @@ use Rattle.readback.proofs.Orgs.{without_org}
 
 data Own : Placeℕ → Program → Type 0 where
   none : (i : Placeℕ) → Own i []
-  more : (i : Placeℕ) (f : ℕ) (xs : List Operand) (p : Program) → SoundStmt (instr f xs i) → every is_plain_operand xs ≡ true → Own (suc i) p
+  more : (i : Placeℕ) (f : ℕ) (xs : List Operand) (p : Program) → SoundStmt (instr f xs i) → every is_plain_operand xs ≡ true
+      → Own (suc i) p
       → Own i (instr f xs i ∷ p)
 
 own_from : (i : Placeℕ) (p : Program) → ((j : Placeℕ) → SoundStmt (at p j))

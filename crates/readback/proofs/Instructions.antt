@@ -58,7 +58,8 @@ module _ (f : ℕ) (s : List ℕ) (n : Addressℕ) where
     inside_next e b = e ∙ inside_more ∙ rw b
 
     -- one outside
-    pub outside_here : InsideLeft j → below 65536 (reads n (kind_at f j) (held_at f s j)) ≡ false → none_outside f s n 0 (operands_at f) ≡ false
+    pub outside_here : InsideLeft j → below 65536 (reads n (kind_at f j) (held_at f s j)) ≡ false
+        → none_outside f s n 0 (operands_at f) ≡ false
     outside_here e b = e ∙ inside_more ∙ rw b
 
   -- and at the end

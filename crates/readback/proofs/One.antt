@@ -141,8 +141,10 @@ operands_sound f s n j (d ∷ ds) h =
     let r = operands_sound f s n (suc j) ds t.1 in
     record { sound = (o.0, r.sound); plain = rw o.1 r.plain }
 
-instr_reads : (i : Placeℕ) (q : Addressℕ) (f x : ℕ) (t : List ℕ) → f < 70 → AllBytes (x ∷ t) → size_at f ≤ length (x ∷ t) → begins f x ≡ true
-    → q + size_at f ≤ 65536 → none_outside f (x ∷ t) (q + size_at f) 0 (operands_at f) ≡ true → Reads i q (x ∷ t) (instruction_of i q (x ∷ t) f)
+instr_reads : (i : Placeℕ) (q : Addressℕ) (f x : ℕ) (t : List ℕ) → f < 70 → AllBytes (x ∷ t) → size_at f ≤ length (x ∷ t)
+    → begins f x ≡ true
+    → q + size_at f ≤ 65536 → none_outside f (x ∷ t) (q + size_at f) 0 (operands_at f) ≡ true
+    → Reads i q (x ∷ t) (instruction_of i q (x ∷ t) f)
 unfolding encode frame_of ◌>>=◌
 instr_reads i q f x t l h k g r z =
     let s : List ℕ = x ∷ t in

@@ -52,7 +52,8 @@ module _ (q : Addressℕ) (s : List ℕ) (f : ℕ) (is : f ≡ form_of_byte (get
       (λ i. e ∙ ap (λ (t : List ℕ). frame_of (data_of t)) (take_all (length s) s (omega arith))) short
 
   module _ (l : size_at f ≤ length s) where
-    pub whole_frame : 1 ≤ size_at f → none_outside f s (q + size_at f) 0 (operands_at f) ≡ true → take end room ≡ instr_frame f s (q + size_at f)
+    pub whole_frame : 1 ≤ size_at f → none_outside f s (q + size_at f) 0 (operands_at f) ≡ true
+        → take end room ≡ instr_frame f s (q + size_at f)
         → FrameOf q s (step (size_at f) end) room
     unfolding frame_of
     whole_frame some inside e =
@@ -60,7 +61,8 @@ module _ (q : Addressℕ) (s : List ℕ) (f : ℕ) (is : f ≡ form_of_byte (get
         (λ i. refl) (λ i. refl) some l (λ i. e) short
 
     -- "the first byte alone"
-    pub alone_frame : 1 ≤ length s → none_outside f s (q + size_at f) 0 (operands_at f) ≡ false → take end room ≡ frame_of (data_of (take 1 s))
+    pub alone_frame : 1 ≤ length s → none_outside f s (q + size_at f) 0 (operands_at f) ≡ false
+        → take end room ≡ frame_of (data_of (take 1 s))
         → FrameOf q s (step 1 end) room
     alone_frame some outside e =
         let n : length (map (λ b. plain b) (take 1 s)) ≡ 1 = data_count (take 1 s) ∙ length-take-le 1 s some in

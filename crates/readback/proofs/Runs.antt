@@ -34,7 +34,8 @@ length_is n (ok x) = eqb (length x) n
 length_is n (no r) = false
 
 unfoldable answer : (image : List ℕ) (start room : ℕ) → Judged (List ℕ)
-unfolding each bits bytes_of form_at frame_of line_of lines_in text_of require ◌>>◌ within_limits form_among form_of_byte cells_of all_cells place_in bits_of held_bit held_in operands_from none_outside read_one read_from statements_of keeps_limits read_back
+unfolding each bits bytes_of form_at frame_of line_of lines_in text_of require ◌>>◌ within_limits form_among form_of_byte cells_of all_cells
+    place_in bits_of held_bit held_in operands_from none_outside read_one read_from statements_of keeps_limits read_back
 answer image start room = read_back image start room
 
 -- this image, written in hexadecimal, from this start on, is these lines

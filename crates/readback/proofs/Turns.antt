@@ -73,7 +73,8 @@ module _ {X : Type 0} (W : Program → X)
       let t : List ℕ = b ∷ s in
       let x : Stmt = read_one i q t in
       let y : Stmt = read_one j q t in
-      cons x y (read_from (byte_count q x - 1) (suc i) (after q x) s) (read_from (byte_count q y - 1) (suc j) (after q y) s) (one_frame i j q t)
+      cons x y (read_from (byte_count q x - 1) (suc i) (after q x) s) (read_from (byte_count q y - 1) (suc j) (after q y) s)
+      (one_frame i j q t)
       (ap (λ (e : Space). W (read_from (bytes_in e - 1) (suc i) (behind q e) s)) (one_space i j q t)
       ∙ aside (byte_count q y - 1) (suc i) (suc j) (after q y) s)
 
@@ -108,7 +109,8 @@ module _ (image : List ℕ) (q : Addressℕ) (r : Step) (h : q < length image) (
       skip (r.0 - 1) 1 (q + r.0) s
       ∙ ap (read_all 1 (q + r.0)) (left r.0 b s t.some ∙ ap (drop r.0) (sym e) ∙ drop-drop r.0 q image) in
       ap (read_all 0 q) e ∙ ap (λ (x : Stmt). x ∷ read_from (byte_count q y - 1) 1 (after q y) s) (sym same)
-      ∙ ap (λ (m : ℕ). first_on image q ∷ read_from (m - 1) 1 (after q y) s) n ∙ ap (λ (m : ℕ). first_on image q ∷ read_from (r.0 - 1) 1 m s) a
+      ∙ ap (λ (m : ℕ). first_on image q ∷ read_from (m - 1) 1 (after q y) s) n
+      ∙ ap (λ (m : ℕ). first_on image q ∷ read_from (r.0 - 1) 1 m s) a
       ∙ ap (λ (p : Program). first_on image q ∷ p) rest
 
   pub listing_turn : listing_of (all_on image q) ≡ line_of (frame_of (first_on image q)) ++ listing_of (all_on image (q + r.0))

@@ -46,7 +46,8 @@ bad_second : (c d : ℕ) (t : List ℕ) → is_digit c ≡ true → is_digit d �
 unfolding hexes
 bad_second c d t e q = rw (e, q)
 
-good_pair : (c d : ℕ) (t : List ℕ) → is_digit c ≡ true → is_digit d ≡ true → hexes (c ∷ d ∷ t) ≡ on_got (λ r. (digit c * 16 + digit d) ∷ r) (hexes t)
+good_pair : (c d : ℕ) (t : List ℕ) → is_digit c ≡ true → is_digit d ≡ true
+    → hexes (c ∷ d ∷ t) ≡ on_got (λ r. (digit c * 16 + digit d) ∷ r) (hexes t)
 unfolding hexes
 good_pair c d t e q = rw (e, q)
 
@@ -72,26 +73,33 @@ empty_comment s k a h g = (plans.Walks.finishes (ap comments (drop_of_length-le 
 module _ (s : List ℕ) (k : ℕ) (b : List ℕ) (at i : ℕ) (some : k < length s) (p : Paired s k b at i) where
   -- what hexes comes to at i, it comes to at k
   stuck_so : (c : ℕ) → c ≤ length s → hexes (drop i s) ≡ stuck (drop c s) → Spoken (finish comments) s k b (Wrong c)
-  stuck_so c h e =
-      (plans.Walks.finishes (comments_is (drop k s) (omega (arith, length-drop k s)) ∙ ap (on_got (λ x. comment x)) (p.leads ∙ ap (on_got (λ r. p.xs ++ r)) e)), h)
+  stuck_so c h e = (
+    plans.Walks.finishes (comments_is (drop k s) (omega (arith, length-drop k s))
+        ∙ ap (on_got (λ x. comment x)) (p.leads ∙ ap (on_got (λ r. p.xs ++ r)) e)),
+    h,
+  )
 
   pub pair_first : i < length s → is_digit (get_or s i 0) ≡ false → Spoken (finish comments) s k b (Wrong i)
   pair_first h e =
-      stuck_so i (omega arith) (ap hexes (drop-cons s i 0 h) ∙ no_first (get_or s i 0) (drop (suc i) s) e ∙ ap stuck (sym (drop-cons s i 0 h)))
+      stuck_so i (omega arith) (ap hexes (drop-cons s i 0 h) ∙ no_first (get_or s i 0) (drop (suc i) s) e
+      ∙ ap stuck (sym (drop-cons s i 0 h)))
 
   pub pair_cut : i < length s → is_digit (get_or s i 0) ≡ true → length s ≤ i + 1 → Spoken (finish comments) s k b (Wrong (i + 1))
   pair_cut h e g =
       stuck_so (i + 1) (omega arith)
-      (ap hexes (drop-cons s i 0 h) ∙ no_second (get_or s i 0) (drop (suc i) s) e (omega (arith, length-drop (suc i) s)) ∙ ap (λ n. stuck (drop n s)) (sym (add-one i)))
+      (ap hexes (drop-cons s i 0 h) ∙ no_second (get_or s i 0) (drop (suc i) s) e (omega (arith, length-drop (suc i) s))
+      ∙ ap (λ n. stuck (drop n s)) (sym (add-one i)))
 
   two : i + 1 < length s → drop i s ≡ get_or s i 0 ∷ get_or s (i + 1) 0 ∷ drop (i + 2) s
   two h =
       let a : suc i ≡ i + 1 = sym (add-one i) in
       let c : suc (i + 1) ≡ i + 2 = omega arith in
       let k : i < length s = omega arith in
-      drop-cons s i 0 k ∙ ap (λ n. get_or s i 0 ∷ drop n s) a ∙ ap (λ t. get_or s i 0 ∷ t) (drop-cons s (i + 1) 0 h ∙ ap (λ n. get_or s (i + 1) 0 ∷ drop n s) c)
+      drop-cons s i 0 k ∙ ap (λ n. get_or s i 0 ∷ drop n s) a ∙ ap (λ t. get_or s i 0 ∷ t) (drop-cons s (i + 1) 0 h
+      ∙ ap (λ n. get_or s (i + 1) 0 ∷ drop n s) c)
 
-  pub pair_second : i + 1 < length s → is_digit (get_or s i 0) ≡ true → is_digit (get_or s (i + 1) 0) ≡ false → Spoken (finish comments) s k b (Wrong (i + 1))
+  pub pair_second : i + 1 < length s → is_digit (get_or s i 0) ≡ true → is_digit (get_or s (i + 1) 0) ≡ false
+      → Spoken (finish comments) s k b (Wrong (i + 1))
   pair_second h e q =
       let c : suc (i + 1) ≡ i + 2 = omega arith in
       stuck_so (i + 1) (omega arith)
@@ -105,7 +113,8 @@ module _ (s : List ℕ) (k : ℕ) (b : List ℕ) (at i : ℕ) (some : k < length
         xs = p.xs ++ (v ∷ []);
         stands = x.adds (4 ∷ p.xs) 0 p.stands;
         leads =
-            p.leads ∙ ap (on_got (λ r. p.xs ++ r)) (ap hexes (two h) ∙ good_pair (get_or s i 0) (get_or s (i + 1) 0) (drop (i + 2) s) e q ∙ ap (λ v. on_got (λ r. v ∷ r) (hexes (drop (i + 2) s))) (sym z))
+            p.leads ∙ ap (on_got (λ r. p.xs ++ r)) (ap hexes (two h) ∙ good_pair (get_or s i 0) (get_or s (i + 1) 0) (drop (i + 2) s) e q
+            ∙ ap (λ v. on_got (λ r. v ∷ r) (hexes (drop (i + 2) s))) (sym z))
             ∙ on_both p.xs v (hexes (drop (i + 2) s));
       }
 
@@ -114,7 +123,9 @@ module _ (s : List ℕ) (k : ℕ) (b : List ℕ) (at i : ℕ) (some : k < length
   pairs_end h = (
     comment p.xs,
     (
-      plans.Walks.finishes (comments_is (drop k s) (omega (arith, length-drop k s)) ∙ ap (on_got (λ x. comment x)) (p.leads ∙ ap (λ t. on_got (λ r. p.xs ++ r) (hexes t)) (drop_of_length-le s h)) ∙ ap (λ x. got (comment x) []) (append-nil p.xs)),
+      plans.Walks.finishes (comments_is (drop k s) (omega (arith, length-drop k s))
+          ∙ ap (on_got (λ x. comment x)) (p.leads ∙ ap (λ t. on_got (λ r. p.xs ++ r) (hexes t)) (drop_of_length-le s h))
+          ∙ ap (λ x. got (comment x) []) (append-nil p.xs)),
       p.stands,
     ),
   )

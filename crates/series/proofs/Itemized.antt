@@ -44,7 +44,8 @@ count_so b n to e = (refl, stands)
           over = w.over;
         }
 
-pub term_room : (s : List ℕ) (k : ℕ) (b a : List ℕ) (at : ℕ) (r : Found) (n to : ℕ) → r ≡ Ends n to → Termed s k b a at r → (length a ≡ 120) × (to ≤ 121)
+pub term_room : (s : List ℕ) (k : ℕ) (b a : List ℕ) (at : ℕ) (r : Found) (n to : ℕ) → r ≡ Ends n to → Termed s k b a at r
+    → (length a ≡ 120) × (to ≤ 121)
 term_room s k b a at r n to q t = let y = subst (λ x. Termed s k b a at x) q t in (y.1.1.1.size, y.1.1.1.within)
 
 -- ---- so far: n - 1 items are read, and stand
@@ -55,13 +56,15 @@ pub record SoFar (make : List Expr → Stmt) (kind : ℕ) (s : List ℕ) (k : �
   pub stands : Stands b at (item_bytes kind 0 es) (total long es)
   pub leads : (o : Read Stmt) → Walks (items_plan make (16 - n) es) (drop i s) o → Walks (items_plan make 15 []) (drop k s) o
 
-pub none_yet : (make : List Expr → Stmt) (kind : ℕ) (s : List ℕ) (k : ℕ) (b₀ b₁ b₂ : List ℕ) (p q : ℕ) → length b₀ ≡ 120 → Added b₀ b₁ 0 p (kind ∷ []) 0
+pub none_yet : (make : List Expr → Stmt) (kind : ℕ) (s : List ℕ) (k : ℕ) (b₀ b₁ b₂ : List ℕ) (p q : ℕ) → length b₀ ≡ 120
+    → Added b₀ b₁ 0 p (kind ∷ []) 0
     → Added b₁ b₂ p q (0 ∷ []) 0 → SoFar make kind s k b₂ q k 1
 unfolding each total
 none_yet make kind s k b₀ b₁ b₂ p q e x y =
     record { es = []; count = refl; stands = y.adds (kind ∷ []) 0 (x.adds [] 0 (nothing_stands b₀ e)); leads = λ o w. w }
 
-module _ (make : List Expr → Stmt) (kind : ℕ) (s : List ℕ) (k : ℕ) (b a : List ℕ) (at i n : ℕ) (f : SoFar make kind s k b at i n) (r : Found) (t : Termed s i b a at r) where
+module _ (make : List Expr → Stmt) (kind : ℕ) (s : List ℕ) (k : ℕ) (b a : List ℕ) (at i n : ℕ) (f : SoFar make kind s k b at i n)
+    (r : Found) (t : Termed s i b a at r) where
   pub item_stuck : (e : ℕ) → n < 17 → 1 ≤ n → r ≡ Stuck e → Listed make kind s k a (Wrong e)
   unfolding items_plan
   item_stuck e h l q =
@@ -88,11 +91,13 @@ module _ (make : List Expr → Stmt) (kind : ℕ) (s : List ℕ) (k : ℕ) (b a 
     unfolding more each total
     more_stands =
         let y = subst (λ x. Termed s i b a at x) q t in
-        let w : Stands a to (item_bytes kind 0 f.es ++ bytes_of y.0) (total long f.es + long y.0) = y.1.1.1.adds (item_bytes kind 0 f.es) (total long f.es) f.stands in
+        let w : Stands a to (item_bytes kind 0 f.es ++ bytes_of y.0) (total long f.es + long y.0) =
+        y.1.1.1.adds (item_bytes kind 0 f.es) (total long f.es) f.stands in
         let u : long y.0 ≡ long y.0 + 0 = omega arith in
         subst (λ x. Stands a to (kind ∷ 0 ∷ x) (total long (f.es ++ (y.0 ∷ []))))
         (ap (λ z. each (λ e. bytes_of e) f.es ++ z) (sym (append-nil (bytes_of y.0))) ∙ sym (each_append (λ e. bytes_of e) f.es (y.0 ∷ [])))
-        (subst (λ l. Stands a to (kind ∷ 0 ∷ (each (λ e. bytes_of e) f.es ++ bytes_of y.0)) l) (ap (λ z. total long f.es + z) u ∙ sym (total_append long f.es (y.0 ∷ []))) w)
+        (subst (λ l. Stands a to (kind ∷ 0 ∷ (each (λ e. bytes_of e) f.es ++ bytes_of y.0)) l) (ap (λ z. total long f.es + z) u
+        ∙ sym (total_append long f.es (y.0 ∷ []))) w)
 
     -- the plan behind it
     last_walk : (o : Read Stmt) → n ≡ 16 → Walks (done (make more)) (drop e s) o → Walks (items_plan make 15 []) (drop k s) o
@@ -101,7 +106,8 @@ module _ (make : List Expr → Stmt) (kind : ℕ) (s : List ℕ) (k : ℕ) (b a 
         let y = subst (λ x. Termed s i b a at x) q t in
         f.leads o (subst (λ m. Walks (items_plan make (16 - m) f.es) (drop i s) o) (sym z) (plans.Walks.tree y.1.0 w))
 
-    fork_walk : (m : ℕ) (o : Read Stmt) → 16 - n ≡ suc m → Walks (fork (some (make more)) (λ c. eqb c 44) (λ c. items_plan make m more)) (drop e s) o
+    fork_walk : (m : ℕ) (o : Read Stmt) → 16 - n ≡ suc m
+        → Walks (fork (some (make more)) (λ c. eqb c 44) (λ c. items_plan make m more)) (drop e s) o
         → Walks (items_plan make 15 []) (drop k s) o
     unfolding items_plan more
     fork_walk m o z w =
@@ -111,17 +117,25 @@ module _ (make : List Expr → Stmt) (kind : ℕ) (s : List ℕ) (k : ℕ) (b a 
     -- where the line ends
     pub item_last : (c : List ℕ) (x : Told) → 1 ≤ n → n < 17 → length s ≤ e → ItemsEnd a c n to x → Listed make kind s k c x
     item_last c x l h g w =
-        subst (λ z. Listed make kind s k c z) (sym w.0)
-        (more, (on (16 - n) refl, subst (λ m. Stands c to (item_bytes kind m more) (total long more)) (sym more_count) (w.1 kind more (total long more) more_stands)))
+        subst (λ z. Listed make kind s k c z) (sym w.0) (
+          more,
+          (
+            on (16 - n) refl,
+            subst (λ m. Stands c to (item_bytes kind m more) (total long more)) (sym more_count)
+                (w.1 kind more (total long more) more_stands),
+          ),
+        )
       where
         empty : drop e s ≡ []
         empty = drop_of_length-le s g
 
         on : (m : ℕ) → 16 - n ≡ m → Walks (items_plan make 15 []) (drop k s) (got (make more) [])
-        on zero z = last_walk (got (make more) []) (omega arith) (subst (λ t. Walks (done (make more)) t (got (make more) [])) (sym empty) plans.Walks.last)
+        on zero z = last_walk (got (make more) []) (omega arith) (subst (λ t. Walks (done (make more)) t (got (make more) [])) (sym empty)
+            plans.Walks.last)
         on (suc m) z =
             fork_walk m (got (make more) []) z
-            (subst (λ t. Walks (fork (some (make more)) (λ c. eqb c 44) (λ c. items_plan make m more)) t (got (make more) [])) (sym empty) plans.Walks.ended)
+            (subst (λ t. Walks (fork (some (make more)) (λ c. eqb c 44) (λ c. items_plan make m more)) t (got (make more) [])) (sym empty)
+            plans.Walks.ended)
 
     -- where something else than a comma follows
     pub item_other : 1 ≤ n → n < 17 → e < length s → (look (drop e s) ≡ 44 → ⊥) → Listed make kind s k a (Wrong e)
@@ -131,13 +145,15 @@ module _ (make : List Expr → Stmt) (kind : ℕ) (s : List ℕ) (k : ℕ) (b a 
         over x [] h = absurd (omega arith)
         over x (c ∷ t) h = plans.Walks.over
 
-        wrong : (x : Stmt) (f : ℕ → Plan) (t : List ℕ) → 1 ≤ length t → (look t ≡ 44 → ⊥) → Walks (fork (some x) (λ c. eqb c 44) f) t (stuck t)
+        wrong : (x : Stmt) (f : ℕ → Plan) (t : List ℕ) → 1 ≤ length t → (look t ≡ 44 → ⊥)
+            → Walks (fork (some x) (λ c. eqb c 44) f) t (stuck t)
         wrong x f [] h d = absurd (omega arith)
         wrong x f (c ∷ t) h d = plans.Walks.wrong (ne_eqb c 44 d)
 
         on : (m : ℕ) → 16 - n ≡ m → Walks (items_plan make 15 []) (drop k s) (stuck (drop e s))
         on zero z = last_walk (stuck (drop e s)) (omega arith) (over (make more) (drop e s) (omega (arith, length-drop e s)))
-        on (suc m) z = fork_walk m (stuck (drop e s)) z (wrong (make more) (λ c. items_plan make m more) (drop e s) (omega (arith, length-drop e s)) d)
+        on (suc m) z = fork_walk m (stuck (drop e s)) z (wrong (make more) (λ c. items_plan make m more) (drop e s)
+            (omega (arith, length-drop e s)) d)
 
     -- a seventeenth item
     pub item_full : n ≡ 16 → e < length s → Listed make kind s k a (Wrong e)
@@ -155,7 +171,8 @@ module _ (make : List Expr → Stmt) (kind : ℕ) (s : List ℕ) (k : ℕ) (b a 
           es = more;
           count = omega (arith, more_count);
           stands = more_stands;
-          leads = λ o w. fork_walk (16 - (n + 1)) o m (fork_byte (some (make more)) (λ c. eqb c 44) (λ c. items_plan make (16 - (n + 1)) more) s e 43 o d refl w);
+          leads = λ o w. fork_walk (16 - (n + 1)) o m (fork_byte (some (make more)) (λ c. eqb c 44)
+              (λ c. items_plan make (16 - (n + 1)) more) s e 43 o d refl w);
         }
 
 -- ---- bytes and words

@@ -28,7 +28,8 @@ use Rattle.leaves.proofs.Leafs.{rest_is, drop_plus, code_some}
 -- ---- bytes and spaces passed over
 
 pub past_is : (k r : ℕ) (s : List ℕ) → k ≤ length s → r ≤ length (take (length s - k) (drop k s))
-    → drop r (take (length s - k) (drop k s)) ≡ skip (take (length s - k) (drop k s)) → (k + r ≤ length s) × (drop (k + r) s ≡ skip (drop k s))
+    → drop r (take (length s - k) (drop k s)) ≡ skip (take (length s - k) (drop k s))
+    → (k + r ≤ length s) × (drop (k + r) s ≡ skip (drop k s))
 past_is k r s h b e =
     let l : length (take (length s - k) (drop k s)) ≡ length s - k = ap length (rest_is k s) ∙ length-drop k s in
     let c : drop r (drop k s) ≡ skip (drop k s) = subst (λ x. drop r x ≡ skip x) (rest_is k s) e in
@@ -40,7 +41,8 @@ pub past_sign_is : (j r : ℕ) (s : List ℕ) → j ≤ length s → drop j s �
     → (1 ≤ j + r) × (j + r ≤ length s) × (drop (j + r) s ≡ skip (drop 1 (skip s)))
 past_sign_is j r s h d o b e =
     let l : length (take (length s - j) (drop j s)) ≡ length s - j = ap length (rest_is j s) ∙ length-drop j s in
-    let c : drop r (drop j s) ≡ skip (drop 1 (skip s)) = subst (λ x. drop r x ≡ skip (drop 1 x)) (rest_is j s) e ∙ ap (λ x. skip (drop 1 x)) d in
+    let c : drop r (drop j s) ≡ skip (drop 1 (skip s)) = subst (λ x. drop r x ≡ skip (drop 1 x)) (rest_is j s) e
+    ∙ ap (λ x. skip (drop 1 x)) d in
     (omega arith, omega arith, sym (drop-drop r j s) ∙ c)
 
 -- where spaces were passed over, the first byte is one
@@ -59,11 +61,13 @@ code_one : (o : Option Op2) → 1 ≤ code_of o → is_some o ≡ true
 code_one none h = absurd (omega arith)
 code_one (some o) h = refl
 
-pub gap_stuck : (t q : List ℕ) (k : ℕ) → eqb (look t) 32 ≡ true → q ≡ skip t → k ≡ code_of (infix_of (look q)) → k < 1 → (e : Expr) → gap e t ≡ stuck q
+pub gap_stuck : (t q : List ℕ) (k : ℕ) → eqb (look t) 32 ≡ true → q ≡ skip t → k ≡ code_of (infix_of (look q)) → k < 1 → (e : Expr)
+    → gap e t ≡ stuck q
 gap_stuck t q k s p c h e =
     rw (s, ← p, code_none (infix_of (look q)) (omega arith))
 
-pub gap_op : (t q : List ℕ) (k : ℕ) → eqb (look t) 32 ≡ true → q ≡ skip t → k ≡ code_of (infix_of (look q)) → 1 ≤ k → (e : Expr) → gap e t ≡ got e q
+pub gap_op : (t q : List ℕ) (k : ℕ) → eqb (look t) 32 ≡ true → q ≡ skip t → k ≡ code_of (infix_of (look q)) → 1 ≤ k → (e : Expr)
+    → gap e t ≡ got e q
 gap_op t q k s p c h e =
     rw (s, ← p, code_one (infix_of (look q)) (omega arith))
 
@@ -81,7 +85,8 @@ close_no s k h e = rw (ne_eqb (look (drop k s)) 41 h)
 -- ---- answers
 
 -- of a part it is of the rest
-pub of_rest : (m : Mode) (k : ℕ) (s b a : List ℕ) (at : ℕ) (r : Found) → Answered m (take (length s - k) (drop k s)) b a at r → Answered m (drop k s) b a at r
+pub of_rest : (m : Mode) (k : ℕ) (s b a : List ℕ) (at : ℕ) (r : Found) → Answered m (take (length s - k) (drop k s)) b a at r
+    → Answered m (drop k s) b a at r
 of_rest m k s b a at r g = subst (λ x. Answered m x b a at r) (rest_is k s) g
 
 -- what an answer bounds
@@ -140,12 +145,17 @@ module _ (s b : List ℕ) (at : ℕ) where
   paren_ends a n to q (e, (g, (h, p))) (Stuck k) c =
       (subst (λ z. Goes alone s z) (ap (λ z. close (got e z)) (drop_plus 1 n s) ∙ c.1 e) (opens (starts_paren q) g), c.0)
 
-  pub paren_stuck : (a : List ℕ) (n : ℕ) → look s ≡ 40 → 1 ≤ length s → Answered (whole 5) (drop 1 s) b a at (Stuck n) → Answered alone s b a at (Stuck (n + 1))
-  paren_stuck a n q l (g, h) = (subst (λ z. Goes alone s (stuck z)) (drop_plus 1 n s) (opens (starts_paren q) g), omega (arith, length-drop 1 s))
+  pub paren_stuck : (a : List ℕ) (n : ℕ) → look s ≡ 40 → 1 ≤ length s → Answered (whole 5) (drop 1 s) b a at (Stuck n)
+      → Answered alone s b a at (Stuck (n + 1))
+  paren_stuck a n q l (g, h) = (
+    subst (λ z. Goes alone s (stuck z)) (drop_plus 1 n s) (opens (starts_paren q) g),
+    omega (arith, length-drop 1 s),
+  )
 
   -- signs
   pub sign_ends : (a₁ a₂ : List ℕ) (k n end code to : ℕ) → length b ≡ 32 → at ≤ 33 → code ≡ sign_code (start s) → 1 ≤ code → k ≤ length s
-      → drop k s ≡ skip (drop 1 (skip s)) → Answered alone (drop k s) b a₁ at (Ends n end) → Inserted a₁ a₂ at end code to → Answered alone s b a₂ at (Ends (k + n) to)
+      → drop k s ≡ skip (drop 1 (skip s)) → Answered alone (drop k s) b a₁ at (Ends n end) → Inserted a₁ a₂ at end code to
+      → Answered alone s b a₂ at (Ends (k + n) to)
   unfolding bytes_of
   sign_ends a₁ a₂ k n end code to lb h q c l d (e, (g, (z, p))) i =
       let x = sign_is s code q c in
@@ -153,10 +163,12 @@ module _ (s b : List ℕ) (at : ℕ) where
         one o e,
         (
           subst (λ y. Goes alone s (got (one o e) y)) (drop-drop n k s)
-              (signs {o = got e (drop n (drop k s))} o x.starts (subst (λ y. Goes alone y (got e (drop n (drop k s)))) (d ∙ ap (λ y. skip (drop 1 y)) x.is) g)),
+              (signs {o = got e (drop n (drop k s))} o x.starts (subst (λ y. Goes alone y (got e (drop n (drop k s)))) (d
+              ∙ ap (λ y. skip (drop 1 y)) x.is) g)),
           (
             omega (arith, length-drop k s),
-            subst (λ y. Put b a₂ at (y ∷ bytes_of e) to) x.codes (put_two b b a₁ a₂ [] (bytes_of e) at at end code to lb (put_none b at lb h) p i),
+            subst (λ y. Put b a₂ at (y ∷ bytes_of e) to) x.codes (put_two b b a₁ a₂ [] (bytes_of e) at at end code to lb
+                (put_none b at lb h) p i),
           ),
         ),
       )
@@ -166,12 +178,14 @@ module _ (s b : List ℕ) (at : ℕ) where
   sign_stuck a k n code q c l d (g, z) =
       let x = sign_is s code q c in (
         subst (λ y. Goes alone s (stuck y)) (drop-drop n k s)
-            (signs {o = stuck (drop n (drop k s))} x.o x.starts (subst (λ y. Goes alone y (stuck (drop n (drop k s)))) (d ∙ ap (λ y. skip (drop 1 y)) x.is) g)),
+            (signs {o = stuck (drop n (drop k s))} x.o x.starts (subst (λ y. Goes alone y (stuck (drop n (drop k s)))) (d
+            ∙ ap (λ y. skip (drop 1 y)) x.is) g)),
         omega (arith, length-drop k s),
       )
 
   -- the spaces behind
-  pub trail_ends : (a : List ℕ) (n to : ℕ) → Answered alone s b a at (Ends n to) → (x : Found) → Passed s to (λ e. gap e (drop n s)) x → Answered (whole 0) s b a at x
+  pub trail_ends : (a : List ℕ) (n to : ℕ) → Answered alone s b a at (Ends n to) → (x : Found) → Passed s to (λ e. gap e (drop n s)) x
+      → Answered (whole 0) s b a at x
   trail_ends a n to (e, (g, (h, p))) (Ends k y) c =
       (e, (subst (λ z. Goes (whole 0) s z) (c.2 e) (ends g), (c.1, subst (λ z. Put b a at (bytes_of e) z) (sym c.0) p)))
   trail_ends a n to (e, (g, (h, p))) (Stuck k) c = (subst (λ z. Goes (whole 0) s z) (c.1 e) (ends g), c.0)
@@ -217,13 +231,15 @@ module _ (l : ℕ) (s : List ℕ) (at to code : ℕ) (c : code ≡ code_of (op_a
       let o = w.0 in
       let j = k + n in
       let placed : Put b a₂ at (bytes_of (two o e x)) top =
-      subst (λ y. Put b a₂ at (y ∷ (bytes_of e ++ bytes_of x)) top) w.1.1 (put_two b a₀ a₁ a₂ (bytes_of e) (bytes_of x) at to end code top lb p₀ p i) in
+      subst (λ y. Put b a₂ at (y ∷ (bytes_of e ++ bytes_of x)) top) w.1.1
+      (put_two b a₀ a₁ a₂ (bytes_of e) (bytes_of x) at to end code top lb p₀ p i) in
       let g' : Goes (whole l) (skip (drop 1 s)) (got x (drop j s)) =
       subst (λ y. Goes (whole l) y (got x (drop j s))) d (subst (λ y. Goes (whole l) (drop k s) (got x y)) (drop-drop n k s) g) in
       let lj : j ≤ length s = omega (arith, length-drop k s) in
       on o w.1.0 g' lj q (f (two o e x) b lb placed)
     where
-      on : (o : Op2) → op_at (suc l) (look s) ≡ some o → Goes (whole l) (skip (drop 1 s)) (got x (drop (k + n) s)) → k + n ≤ length s → (q : Found)
+      on : (o : Op2) → op_at (suc l) (look s) ≡ some o → Goes (whole l) (skip (drop 1 s)) (got x (drop (k + n) s)) → k + n ≤ length s
+          → (q : Found)
           → Answered (rest l (two o e x)) (drop (k + n) s) b a₃ at q → Answered (rest l e) s b a₃ at (after_of (k + n) q)
       on o v g lj (Ends m y) (e', (g', (z', p'))) = (
         e',
@@ -232,11 +248,13 @@ module _ (l : ℕ) (s : List ℕ) (at to code : ℕ) (c : code ≡ code_of (op_a
       on o v g lj (Stuck m) (g', z') =
           (subst (λ y. Goes (rest l e) s (stuck y)) (drop-drop m (k + n) s) (agains o v g g'), omega (arith, length-drop (k + n) s))
 
-  pub more_stuck : (a₀ a₁ : List ℕ) (k n : ℕ) → 1 ≤ code → k ≤ length s → drop k s ≡ skip (drop 1 s) → Answered (whole l) (drop k s) a₀ a₁ to (Stuck n)
+  pub more_stuck : (a₀ a₁ : List ℕ) (k n : ℕ) → 1 ≤ code → k ≤ length s → drop k s ≡ skip (drop 1 s)
+      → Answered (whole l) (drop k s) a₀ a₁ to (Stuck n)
       → Continued l s a₀ a₁ at to (Stuck (k + n))
   more_stuck a₀ a₁ k n h lk d (g, z) e b lb p₀ =
       let w = op_some (op_at (suc l) (look s)) code at_suc h in (
-        subst (λ y. Goes (rest l e) s (stuck y)) (drop-drop n k s) (breaks w.0 w.1.0 (subst (λ y. Goes (whole l) y (stuck (drop n (drop k s)))) d g)),
+        subst (λ y. Goes (rest l e) s (stuck y)) (drop-drop n k s)
+            (breaks w.0 w.1.0 (subst (λ y. Goes (whole l) y (stuck (drop n (drop k s)))) d g)),
         omega (arith, length-drop k s),
       )
 
@@ -254,10 +272,12 @@ sign_byte s code c h = omega (arith, ap length (sign_is s code c h).is)
 pub part_length : (k : ℕ) (s : List ℕ) → length (take (length s - k) (drop k s)) ≡ length s - k
 part_length k s = ap length (rest_is k s) ∙ length-drop k s
 
-pub continued : (l n : ℕ) (s a₀ a₁ : List ℕ) (at to : ℕ) (q : Found) → Continued l (take (length s - n) (drop n s)) a₀ a₁ at to q → Continued l (drop n s) a₀ a₁ at to q
+pub continued : (l n : ℕ) (s a₀ a₁ : List ℕ) (at to : ℕ) (q : Found) → Continued l (take (length s - n) (drop n s)) a₀ a₁ at to q
+    → Continued l (drop n s) a₀ a₁ at to q
 continued l n s a₀ a₁ at to q f = subst (λ x. Continued l x a₀ a₁ at to q) (rest_is n s) f
 
-pub inserted : (b a₁ a₂ : List ℕ) (at end code to : ℕ) → Inserted a₁ a₂ at end code to → (end ≤ 31 → at ≤ end) → (to ≤ 33) × (to ≤ 32 → at ≤ to)
+pub inserted : (b a₁ a₂ : List ℕ) (at end code to : ℕ) → Inserted a₁ a₂ at end code to → (end ≤ 31 → at ≤ end)
+    → (to ≤ 33) × (to ≤ 32 → at ≤ to)
 inserted b a₁ a₂ at end code to i h = on (leb end 31) refl
   where
     on : (t : Bool) → leb end 31 ≡ t → (to ≤ 33) × (to ≤ 32 → at ≤ to)

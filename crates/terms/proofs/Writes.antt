@@ -57,7 +57,8 @@ pub same_text : {b a x y : List ℕ} {at to : ℕ} → x ≡ y → Wrote b a at 
 same_text {b = b} {a = a} {at = at} {to = to} e p = subst (λ z. Wrote b a at z to) e p
 
 -- a byte, then a text
-pub wrote_step : {b a₀ a₁ y : List ℕ} {at to end c d : ℕ} → c ≡ d → Wrote b a₀ at (c ∷ []) to → Wrote a₀ a₁ to y end → Wrote b a₁ at (d ∷ y) end
+pub wrote_step : {b a₀ a₁ y : List ℕ} {at to end c d : ℕ} → c ≡ d → Wrote b a₀ at (c ∷ []) to → Wrote a₀ a₁ to y end
+    → Wrote b a₁ at (d ∷ y) end
 wrote_step e p q = wrote_then (same_text (ap (λ z. z ∷ []) e) p) q
 
 pub wrote_if : {b a : List ℕ} {at to c : ℕ} (w : Bool) → w ≡ true → Wrote b a at (c ∷ []) to → Wrote b a at (cond w (c ∷ []) []) to
@@ -70,9 +71,11 @@ wrote_if_not b at c w e s h = same_text (ap (λ z. cond z (c ∷ []) []) (sym e)
 
 pub few_digits : {b a : List ℕ} {at to c : ℕ} (n : ℕ) → n < 10 → c ≡ 48 + n → Wrote b a at (c ∷ []) to → Digited b a at n to
 unfolding digits_of
-few_digits n h e p = λ k l. same_text (ap (λ z. z ∷ []) e ∙ sym (cond_true (ltb n 10) ((48 + n) ∷ []) (digits_of k (n / 10) ++ ((48 + n % 10) ∷ [])) (lt-ltb n 10 h))) p
+few_digits n h e p = λ k l. same_text (ap (λ z. z ∷ []) e
+    ∙ sym (cond_true (ltb n 10) ((48 + n) ∷ []) (digits_of k (n / 10) ++ ((48 + n % 10) ∷ [])) (lt-ltb n 10 h))) p
 
-pub more_digits : {b a₀ a₁ : List ℕ} {at mid to c : ℕ} (n : ℕ) → 10 ≤ n → Digited b a₀ at (n / 10) mid → c ≡ 48 + n % 10 → Wrote a₀ a₁ mid (c ∷ []) to → Digited b a₁ at n to
+pub more_digits : {b a₀ a₁ : List ℕ} {at mid to c : ℕ} (n : ℕ) → 10 ≤ n → Digited b a₀ at (n / 10) mid → c ≡ 48 + n % 10
+    → Wrote a₀ a₁ mid (c ∷ []) to → Digited b a₁ at n to
 unfolding digits_of
 more_digits {b} {a₀} {a₁} {at} {mid} {to} {c} n h d e p = on
   where
@@ -85,7 +88,8 @@ more_digits {b} {a₀} {a₁} {at} {mid} {to} {c} n h d e p = on
 pub name_global : {b a : List ℕ} {at to : ℕ} (n : ℕ) → n < 0x8000 → Wrote b a at (103 ∷ five n) to → Wrote b a at (name_text n) to
 name_global n h p = same_text (sym (cond_true (ltb n 0x8000) (103 ∷ five n) (46 ∷ 108 ∷ five (n - 0x8000)) (lt-ltb n 0x8000 h))) p
 
-pub name_local : {b a : List ℕ} {at to : ℕ} (n : ℕ) → 0x8000 ≤ n → Wrote b a at (46 ∷ 108 ∷ five (n - 0x8000)) to → Wrote b a at (name_text n) to
+pub name_local : {b a : List ℕ} {at to : ℕ} (n : ℕ) → 0x8000 ≤ n → Wrote b a at (46 ∷ 108 ∷ five (n - 0x8000)) to
+    → Wrote b a at (name_text n) to
 name_local n h p = same_text (sym (cond_false (ltb n 0x8000) (103 ∷ five n) (46 ∷ 108 ∷ five (n - 0x8000)) (le-ltb n 0x8000 h))) p
 
 pub number_plain : {b a : List ℕ} {at to : ℕ} (n : ℕ) → n < 2147483648 → Digited b a at n to → Wrote b a at (number (to_z w32 n)) to
@@ -93,7 +97,8 @@ number_plain n h d =
     let z : to_z w32 n ≡ pos n = rw (lt-ltb n 2147483648 h) in
     same_text (ap number (sym z)) (d 9 (omega arith))
 
-pub number_minus : {b a₀ a₁ : List ℕ} {at mid to : ℕ} (n : ℕ) → 2147483648 ≤ n → n < 4294967296 → Wrote b a₀ at (45 ∷ []) mid → Digited a₀ a₁ mid (4294967296 - n) to
+pub number_minus : {b a₀ a₁ : List ℕ} {at mid to : ℕ} (n : ℕ) → 2147483648 ≤ n → n < 4294967296 → Wrote b a₀ at (45 ∷ []) mid
+    → Digited a₀ a₁ mid (4294967296 - n) to
     → Wrote b a₁ at (number (to_z w32 n)) to
 number_minus n h k p d =
     let z : to_z w32 n ≡ negsuc (4294967296 - suc n) = rw (le-ltb n 2147483648 h) in
@@ -112,7 +117,8 @@ unfolding said
 word_ends b [] at h e z m = absurd (omega arith)
 word_ends b (c ∷ s) at h e z m = same_text (sym (cond_true (eqb c 32) [] (c ∷ said s) (eq-eqb c 32 e))) (wrote_none b at z m)
 
-pub more_word : {b a₀ a₁ : List ℕ} {at mid to : ℕ} (s : List ℕ) → 1 ≤ length s → (get_or s 0 0 ≡ 32 → ⊥) → Wrote b a₀ at (get_or s 0 0 ∷ []) mid
+pub more_word : {b a₀ a₁ : List ℕ} {at mid to : ℕ} (s : List ℕ) → 1 ≤ length s → (get_or s 0 0 ≡ 32 → ⊥)
+    → Wrote b a₀ at (get_or s 0 0 ∷ []) mid
     → Wrote a₀ a₁ mid (said (take (length s - 1) (drop 1 s))) to → Wrote b a₁ at (said s) to
 unfolding said
 more_word [] h n p q = absurd (omega arith)

@@ -32,7 +32,8 @@ module _ (s : List ℕ) (v : AreBytes s) where
   operand_fits : (k : Kind) (a : ℕ) (x : Operand) → OperandRead s k a x → OperandFits k x
   operand_fits k a x r = rw r.is (on k r.reads r.small)
     where
-      on : (k : Kind) → (is_reg k ≡ false → Reads (drop a s) (expr_at s (arg_at a))) → (is_reg k ≡ true → get_or s a 0 ≤ 3) → OperandFits k (operand_at s k (arg_at a))
+      on : (k : Kind) → (is_reg k ≡ false → Reads (drop a s) (expr_at s (arg_at a))) → (is_reg k ≡ true → get_or s a 0 ≤ 3)
+          → OperandFits k (operand_at s k (arg_at a))
       on Reg e h = is_register (get_or s a 0) refl (h refl)
       on I8 e h = is_value (expr_at s (arg_at a)) refl (expr_fits a _ (e refl))
       on D9 e h = is_value (expr_at s (arg_at a)) refl (expr_fits a _ (e refl))
@@ -45,7 +46,11 @@ module _ (s : List ℕ) (v : AreBytes s) where
   operands_fit : (i : ℕ) (x : Stmt) (f : InstrFrame i s x) → OperandsFit (operands_at (get_or s 1 0)) f.args
   operands_fit i x f =
       let r = operands_read i s (operands_at (get_or s 1 0)) 2 (Left f.args []) f.operands in
-      record { count = r.count; each = λ j h. operand_fits (get_or (operands_at (get_or s 1 0)) j Reg) (argument_at s (operands_at (get_or s 1 0)) 2 j) (get_or f.args j (register 0)) (r.each j h) }
+      record {
+        count = r.count;
+        each = λ j h. operand_fits (get_or (operands_at (get_or s 1 0)) j Reg)
+            (argument_at s (operands_at (get_or s 1 0)) 2 j) (get_or f.args j (register 0)) (r.each j h);
+      }
 
   items_fit : (k : ℕ) (of : List Expr → Stmt) (i : ℕ) (x : Stmt) (f : DataFrame k of i s x) → ItemsFit f.es
   items_fit k of i x f =

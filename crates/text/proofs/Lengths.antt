@@ -29,7 +29,8 @@ unfolding digits_of
 digits_short zero n = omega arith
 digits_short (suc k) n = on (ltb n 10) (digits_short k (n / 10))
   where
-    on : (b : Bool) → length (digits_of k (n / 10)) ≤ k → length (cond b ((48 + n) ∷ []) (digits_of k (n / 10) ++ ((48 + n % 10) ∷ []))) ≤ suc k
+    on : (b : Bool) → length (digits_of k (n / 10)) ≤ k
+        → length (cond b ((48 + n) ∷ []) (digits_of k (n / 10) ++ ((48 + n % 10) ∷ []))) ≤ suc k
     on true h = omega arith
     on false h = omega (arith, length-append (digits_of k (n / 10)) ((48 + n % 10) ∷ []))
 
@@ -39,7 +40,8 @@ digits_few zero m n h = omega arith
 digits_few (suc k) zero n h = rw (lt-ltb n 10 h) (omega arith)
 digits_few (suc k) (suc m) n h = on (ltb n 10) (digits_few k m (n / 10) (omega arith))
   where
-    on : (b : Bool) → length (digits_of k (n / 10)) ≤ suc m → length (cond b ((48 + n) ∷ []) (digits_of k (n / 10) ++ ((48 + n % 10) ∷ []))) ≤ suc (suc m)
+    on : (b : Bool) → length (digits_of k (n / 10)) ≤ suc m
+        → length (cond b ((48 + n) ∷ []) (digits_of k (n / 10) ++ ((48 + n % 10) ∷ []))) ≤ suc (suc m)
     on true l = omega arith
     on false l = omega (arith, length-append (digits_of k (n / 10)) ((48 + n % 10) ∷ []))
 
@@ -79,13 +81,25 @@ items_short : (by : ℕ) (es : List Expr) → length (items_text by es) + length
 unfolding items_text each
 items_short by [] = omega arith
 items_short by (e ∷ es) =
-    omega (arith, expr_short e, items_short 44 es, length-append (expr_text e) (items_text 44 es), length-append (bytes_of e) (each (λ e. bytes_of e) es))
+    omega (
+      arith,
+      expr_short e,
+      items_short 44 es,
+      length-append (expr_text e) (items_text 44 es),
+      length-append (bytes_of e) (each (λ e. bytes_of e) es),
+    )
 
-items_wide : (es : List Expr) → ((j : ℕ) → j < length es → ExprFits (get_or es j (num (pos 0)))) → length (each (λ e. bytes_of e) es) ≤ 32 * length es
+items_wide : (es : List Expr) → ((j : ℕ) → j < length es → ExprFits (get_or es j (num (pos 0))))
+    → length (each (λ e. bytes_of e) es) ≤ 32 * length es
 unfolding each
 items_wide [] f = omega arith
 items_wide (e ∷ es) f =
-    omega (arith, (f 0 (omega arith)).short, items_wide es (λ j h. f (suc j) (omega arith)), length-append (bytes_of e) (each (λ e. bytes_of e) es))
+    omega (
+      arith,
+      (f 0 (omega arith)).short,
+      items_wide es (λ j h. f (suc j) (omega arith)),
+      length-append (bytes_of e) (each (λ e. bytes_of e) es),
+    )
 
 mark_short : (k : Kind) → length (mark k) ≤ 1
 mark_short Reg = omega arith
@@ -102,7 +116,8 @@ arg_short k (register r) = omega arith
 arg_short k (value e) = omega (arith, mark_short k, expr_short e, length-append (mark k) (expr_text e))
 arg_short k (inner i o) = omega arith
 
-args_short : (by : ℕ) (ks : List Kind) (xs : List Operand) → length (args_text by ks xs) ≤ 3 * length (each (λ x. operand_bytes x) xs) + length ks
+args_short : (by : ℕ) (ks : List Kind) (xs : List Operand)
+    → length (args_text by ks xs) ≤ 3 * length (each (λ x. operand_bytes x) xs) + length ks
 unfolding args_text each
 args_short by [] xs = omega arith
 args_short by (k ∷ ks) [] = omega arith
@@ -183,7 +198,13 @@ line_at_most x (fits_instr f xs c h o) k =
     let l = length-append (mnemonic f) (args_text 32 (operands_at f) xs) in
     omega (arith, mnemonic_short f h, a, w, l, few_operands f)
 line_at_most x (fits_label n h) k = omega (arith, line_by_frame (label n) tt)
-line_at_most x (fits_variable n e h f) k = omega (arith, name_short n, expr_short e, length-append (name_text n) (61 ∷ expr_text e), f.short)
+line_at_most x (fits_variable n e h f) k = omega (
+  arith,
+  name_short n,
+  expr_short e,
+  length-append (name_text n) (61 ∷ expr_text e),
+  f.short,
+)
 line_at_most x (fits_comment s h) k = omega (arith, (comment_short s).1)
 line_at_most x (fits_org n h) k = omega (arith, line_by_frame (org n) h)
 line_at_most x (fits_bytes es f) k = omega (arith, items_short 32 es, items_wide es f.each)

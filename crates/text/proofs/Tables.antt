@@ -18,7 +18,8 @@ module _ (words : ℕ → List ℕ) (none : List ℕ) (rows : List (List ℕ)) w
   abbrev pub word_test : ℕ → Bool
   word_test k = same (said (get_or rows k none)) (words k) && eqb (length (get_or rows k none)) 8
 
-  pub word_is : (n : ℕ) → T (all_to word_test n) → (k : ℕ) → k < n → (said (get_or rows k none) ≡ words k) × (length (get_or rows k none) ≡ 8)
+  pub word_is : (n : ℕ) → T (all_to word_test n) → (k : ℕ) → k < n → (said (get_or rows k none) ≡ words k)
+      × (length (get_or rows k none) ≡ 8)
   word_is n t k h =
       let r : List ℕ = get_or rows k none in
       let q = and_true (same (said r) (words k)) (eqb (length r) 8) (holds_at word_test n t k h) in

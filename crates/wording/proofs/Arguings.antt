@@ -34,19 +34,28 @@ no_register s b at z m h = record { size = z; bound = m; within = omega arith; i
     far : (r : ℕ) (rest : List ℕ) → s ≡ r ∷ rest → r ≤ 3 → ⊥
     far r rest e k = omega (arith, h (subst (λ y. 1 ≤ length y) (sym e) (omega arith)), ap (λ y. get_or y 0 0) e)
 
-pub one_register : {b a : List ℕ} {at to : ℕ} (s : List ℕ) → 1 ≤ length s → Wrote b a at (64 ∷ 82 ∷ (48 + get_or s 0 0) ∷ []) to → Registered s b a at 1 to
+pub one_register : {b a : List ℕ} {at to : ℕ} (s : List ℕ) → 1 ≤ length s → Wrote b a at (64 ∷ 82 ∷ (48 + get_or s 0 0) ∷ []) to
+    → Registered s b a at 1 to
 one_register s h p =
-    record { size = p.size; bound = p.within; within = h; is = λ r rest e k. (same_text (ap (λ y. 64 ∷ 82 ∷ (48 + get_or y 0 0) ∷ []) e) p, refl) }
+    record {
+      size = p.size;
+      bound = p.within;
+      within = h;
+      is =
+          λ r rest e k. (same_text (ap (λ y. 64 ∷ 82 ∷ (48 + get_or y 0 0) ∷ []) e) p, refl);
+    }
 
 pub register_argued : {b a : List ℕ} {at t to : ℕ} (s : List ℕ) → Registered s b a at t to → Argued Reg s b a at t to
 register_argued {b} {a} {at} {t} {to} s r = record { size = r.size; bound = r.bound; within = r.within; is = on }
   where
-    on : (x : Operand) (rest : List ℕ) → OperandFits Reg x → s ≡ operand_bytes x ++ rest → Wrote b a at (arg_text Reg x) to × (t ≡ length (operand_bytes x))
+    on : (x : Operand) (rest : List ℕ) → OperandFits Reg x → s ≡ operand_bytes x ++ rest
+        → Wrote b a at (arg_text Reg x) to × (t ≡ length (operand_bytes x))
     on x rest (is_register n p h) e = r.is n rest e h
     on x rest (is_value e p h) q = clash (cc)
 
 -- an expression: `m` is what its kind marks it with
-tree_argued : {b a₀ a : List ℕ} {at m₀ t to : ℕ} (s : List ℕ) (mark : List ℕ) → Wrote b a₀ at mark m₀ → Told false s a₀ a m₀ t to → (e : Expr) (rest : List ℕ) → ExprFits e → s ≡ bytes_of e ++ rest
+tree_argued : {b a₀ a : List ℕ} {at m₀ t to : ℕ} (s : List ℕ) (mark : List ℕ) → Wrote b a₀ at mark m₀ → Told false s a₀ a m₀ t to
+    → (e : Expr) (rest : List ℕ) → ExprFits e → s ≡ bytes_of e ++ rest
     → Wrote b a at (mark ++ expr_text e) to × (t ≡ length (bytes_of e))
 unfolding read_expr
 tree_argued s mark p w e rest k z =
@@ -54,11 +63,13 @@ tree_argued s mark p w e rest k z =
     let x = w.tree 32 32 e (length (bytes_of e)) g in
     (wrote_then p x.0, x.1)
 
-pub value_argued : {b a₀ a : List ℕ} {at m₀ t to : ℕ} (k : Kind) (s mark : List ℕ) → is_reg k ≡ false → ((e : Expr) → arg_text k (value e) ≡ mark ++ expr_text e) → Wrote b a₀ at mark m₀
+pub value_argued : {b a₀ a : List ℕ} {at m₀ t to : ℕ} (k : Kind) (s mark : List ℕ) → is_reg k ≡ false
+    → ((e : Expr) → arg_text k (value e) ≡ mark ++ expr_text e) → Wrote b a₀ at mark m₀
     → Told false s a₀ a m₀ t to → Argued k s b a at t to
 value_argued {b} {a₀} {a} {at} {m₀} {t} {to} k s mark n f p w = record { size = w.size; bound = w.bound; within = w.within; is = on }
   where
-    on : (x : Operand) (rest : List ℕ) → OperandFits k x → s ≡ operand_bytes x ++ rest → Wrote b a at (arg_text k x) to × (t ≡ length (operand_bytes x))
+    on : (x : Operand) (rest : List ℕ) → OperandFits k x → s ≡ operand_bytes x ++ rest
+        → Wrote b a at (arg_text k x) to × (t ≡ length (operand_bytes x))
     on x rest (is_register r q h) e = clash (cc)
     on x rest (is_value v q h) e = let y = tree_argued s mark p w v rest h e in (same_text (sym (f v)) y.0, y.1)
 
@@ -88,12 +99,15 @@ past [] (suc j) h = refl
 past (k ∷ ks) zero h = absurd (omega arith)
 past (k ∷ ks) (suc j) h = past ks j (omega arith)
 
-pub all_written : (form j by : ℕ) (s b : List ℕ) (at : ℕ) → length b ≡ 1024 → at ≤ 1025 → 2 < j → Arguing (drop j (operands_at form)) by s b b at at
+pub all_written : (form j by : ℕ) (s b : List ℕ) (at : ℕ) → length b ≡ 1024 → at ≤ 1025 → 2 < j
+    → Arguing (drop j (operands_at form)) by s b b at at
 all_written form j by s b at z m h =
     subst (λ ks. Arguing ks by s b b at at) (sym (past (operands_at form) j (omega (arith, few_operands form)))) (no_kinds by s b at z m)
 
-pub none_left : (form j by : ℕ) (s b : List ℕ) (at : ℕ) → length b ≡ 1024 → at ≤ 1025 → operand_in (operands_at form) j ≡ Nothing → Arguing (drop j (operands_at form)) by s b b at at
-none_left form j by s b at z m e = subst (λ ks. Arguing ks by s b b at at) (sym (in_nothing (operands_at form) j e)) (no_kinds by s b at z m)
+pub none_left : (form j by : ℕ) (s b : List ℕ) (at : ℕ) → length b ≡ 1024 → at ≤ 1025 → operand_in (operands_at form) j ≡ Nothing
+    → Arguing (drop j (operands_at form)) by s b b at at
+none_left form j by s b at z m e = subst (λ ks. Arguing ks by s b b at at) (sym (in_nothing (operands_at form) j e))
+    (no_kinds by s b at z m)
 
 fits_head : (k : Kind) (ks : List Kind) (x : Operand) (xs : List Operand) → OperandsFit (k ∷ ks) (x ∷ xs) → OperandFits k x
 fits_head k ks x xs f = f.each 0 (omega arith)
@@ -101,26 +115,32 @@ fits_head k ks x xs f = f.each 0 (omega arith)
 fits_tail : (k : Kind) (ks : List Kind) (x : Operand) (xs : List Operand) → OperandsFit (k ∷ ks) (x ∷ xs) → OperandsFit ks xs
 fits_tail k ks x xs f = record { count = omega (arith, f.count); each = λ j h. f.each (suc j) (omega arith) }
 
-more_kinds : {b a₀ a₁ a₂ : List ℕ} {at m₀ m₁ t to : ℕ} (k : Kind) (ks : List Kind) (by : ℕ) (s : List ℕ) → Wrote b a₀ at (by ∷ []) m₀ → Argued k s a₀ a₁ m₀ t m₁
+more_kinds : {b a₀ a₁ a₂ : List ℕ} {at m₀ m₁ t to : ℕ} (k : Kind) (ks : List Kind) (by : ℕ) (s : List ℕ) → Wrote b a₀ at (by ∷ []) m₀
+    → Argued k s a₀ a₁ m₀ t m₁
     → Arguing ks 44 (drop t s) a₁ a₂ m₁ to → Arguing (k ∷ ks) by s b a₂ at to
 unfolding args_text each
 more_kinds {b} {a₀} {a₁} {a₂} {at} {m₀} {m₁} {t} {to} k ks by s p w r = record { size = r.size; bound = r.bound; all = on }
   where
-    on : (xs : List Operand) (rest : List ℕ) → OperandsFit (k ∷ ks) xs → s ≡ each (λ x. operand_bytes x) xs ++ rest → Wrote b a₂ at (args_text by (k ∷ ks) xs) to
+    on : (xs : List Operand) (rest : List ℕ) → OperandsFit (k ∷ ks) xs → s ≡ each (λ x. operand_bytes x) xs ++ rest
+        → Wrote b a₂ at (args_text by (k ∷ ks) xs) to
     on [] rest f e = absurd (omega (arith, f.count))
     on (x ∷ xs) rest f e =
         let v : List ℕ = each (λ x. operand_bytes x) xs ++ rest in
         let z : s ≡ operand_bytes x ++ v = e ∙ append_assoc (operand_bytes x) (each (λ x. operand_bytes x) xs) rest in
         let y = w.is x v (fits_head k ks x xs f) z in
-        let d : drop t s ≡ v = ap (λ n. drop n s) y.1 ∙ ap (drop (length (operand_bytes x))) z ∙ drop_at (operand_bytes x) v (length (operand_bytes x)) refl in
+        let d : drop t s ≡ v = ap (λ n. drop n s) y.1 ∙ ap (drop (length (operand_bytes x))) z
+        ∙ drop_at (operand_bytes x) v (length (operand_bytes x)) refl in
         wrote_then p (wrote_then y.0 (r.all xs rest (fits_tail k ks x xs f) d))
 
-pub one_more : {b a₀ a₁ a₂ : List ℕ} {at m₀ m₁ t to : ℕ} (form j : ℕ) (k : Kind) (by : ℕ) (s : List ℕ) → operand_in (operands_at form) j ≡ Is k → Wrote b a₀ at (by ∷ []) m₀ → Argued k s a₀ a₁ m₀ t m₁
-    → Arguing (drop (j + 1) (operands_at form)) 44 (take (length s - t) (drop t s)) a₁ a₂ m₁ to → Arguing (drop j (operands_at form)) by s b a₂ at to
+pub one_more : {b a₀ a₁ a₂ : List ℕ} {at m₀ m₁ t to : ℕ} (form j : ℕ) (k : Kind) (by : ℕ) (s : List ℕ)
+    → operand_in (operands_at form) j ≡ Is k → Wrote b a₀ at (by ∷ []) m₀ → Argued k s a₀ a₁ m₀ t m₁
+    → Arguing (drop (j + 1) (operands_at form)) 44 (take (length s - t) (drop t s)) a₁ a₂ m₁ to
+    → Arguing (drop j (operands_at form)) by s b a₂ at to
 one_more {b} {a₀} {a₁} {a₂} {at} {m₀} {m₁} {t} {to} form j k by s e p w r =
     subst (λ ks. Arguing ks by s b a₂ at to) (sym (in_is (operands_at form) j k e))
     (more_kinds k (drop (suc j) (operands_at form)) by s p w
-    (subst (λ n. Arguing (drop n (operands_at form)) 44 (drop t s) a₁ a₂ m₁ to) next (subst (λ y. Arguing (drop (j + 1) (operands_at form)) 44 y a₁ a₂ m₁ to) (rest_is t s) r)))
+    (subst (λ n. Arguing (drop n (operands_at form)) 44 (drop t s) a₁ a₂ m₁ to) next
+    (subst (λ y. Arguing (drop (j + 1) (operands_at form)) 44 y a₁ a₂ m₁ to) (rest_is t s) r)))
   where
     next : j + 1 ≡ suc j
     next = omega arith
@@ -129,6 +149,7 @@ pub argued_as : {b a : List ℕ} {at t to : ℕ} {k l : Kind} (s : List ℕ) →
 argued_as {b} {a} {at} {t} {to} s e w = subst (λ y. Argued y s b a at t to) (sym e) w
 
 -- an expression with no mark
-pub plain_argued : {b a : List ℕ} {at t to : ℕ} (k : Kind) (s : List ℕ) → is_reg k ≡ false → ((e : Expr) → arg_text k (value e) ≡ expr_text e) → length b ≡ 1024 → at ≤ 1025 → Told false s b a at t to
+pub plain_argued : {b a : List ℕ} {at t to : ℕ} (k : Kind) (s : List ℕ) → is_reg k ≡ false
+    → ((e : Expr) → arg_text k (value e) ≡ expr_text e) → length b ≡ 1024 → at ≤ 1025 → Told false s b a at t to
     → Argued k s b a at t to
 plain_argued {b} {a} {at} k s n f z m w = value_argued k s [] n f (wrote_none b at z m) w

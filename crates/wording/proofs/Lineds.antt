@@ -93,7 +93,8 @@ lined {b} {a} {to} s k q w = on
     on : Lined s b a to
     on x (fits_instr f xs c h o) e =
         let z : get_or s 1 0 ≡ f = ap (λ y. get_or y 1 0) e in
-        subst (λ y. Wrote b a 0 (line_text (instr y xs c)) to) z (kinded (frame_of (instr f xs c)) e xs c (ap (drop 2) e) (subst (λ y. OperandsFit (operands_at y) xs) (sym z) o))
+        subst (λ y. Wrote b a 0 (line_text (instr y xs c)) to) z (kinded (frame_of (instr f xs c)) e xs c (ap (drop 2) e)
+        (subst (λ y. OperandsFit (operands_at y) xs) (sym z) o))
     on x (fits_label n h) e =
         subst (λ y. Wrote b a 0 (line_text (label y)) to) (ap (λ y. pair_at y 1) e ∙ pair_is n) (kinded (frame_of (label n)) e)
     on x (fits_variable n v h m) e =
@@ -104,13 +105,16 @@ lined {b} {a} {to} s k q w = on
     on x (fits_org l h) e =
         subst (λ y. Wrote b a 0 (line_text (org y)) to) (ap (λ y. pair_at y 1) e ∙ pair_is l) (kinded (frame_of (org l)) e)
     on x (fits_bytes es f) e =
-        subst (λ y. Wrote b a 0 (dot_word y ++ items_text 32 es) to) (first s (frame_of (bytes es)) e) (kinded (frame_of (bytes es)) e es (ap (drop 1) e) f.each)
+        subst (λ y. Wrote b a 0 (dot_word y ++ items_text 32 es) to) (first s (frame_of (bytes es)) e)
+        (kinded (frame_of (bytes es)) e es (ap (drop 1) e) f.each)
     on x (fits_words es f) e =
-        subst (λ y. Wrote b a 0 (dot_word y ++ items_text 32 es) to) (first s (frame_of (words es)) e) (kinded (frame_of (words es)) e es (ap (drop 1) e) f.each)
+        subst (λ y. Wrote b a 0 (dot_word y ++ items_text 32 es) to) (first s (frame_of (words es)) e)
+        (kinded (frame_of (words es)) e es (ap (drop 1) e) f.each)
     on x (fits_pad add m g h l) e =
         let z : get_or s 1 0 ≡ add = ap (λ y. get_or y 1 0) e in
         let n : pair_at s 2 ≡ m = ap (λ y. pair_at y 2) e ∙ pair_is m in
-        subst (λ y. Wrote b a 0 (line_text (pad add y)) to) n (subst (λ y. Wrote b a 0 (line_text (pad y (pair_at s 2))) to) z (kinded (frame_of (pad add m)) e))
+        subst (λ y. Wrote b a 0 (line_text (pad add y)) to) n (subst (λ y. Wrote b a 0 (line_text (pad y (pair_at s 2))) to) z
+        (kinded (frame_of (pad add m)) e))
 
 pub lined_data : {b a : List ℕ} {to : ℕ} (s : List ℕ) → (get_or s 0 0 ≡ 6) ⊎ (get_or s 0 0 ≡ 7) → DataWritten s b a to → Lined s b a to
 lined_data s (inl e) w = lined s 6 e w

@@ -1,7 +1,7 @@
 use mathlib.Core.Path.{◌≡◌}
 use Prim.Native.Nat.{◌-◌, ◌≤◌}
 use lib.ListN.{length}
-use Rattle.arguing.proofs.Arguing.{SoFar}
+use Rattle.arguing.proofs.Together.{SoFar}
 use Rattle.arguing.proofs.arguments.Given as goal
 
 abbrev pub invariant-loop-j : goal.invariant-loop-j

@@ -21,7 +21,8 @@ returns-then-d-lt48 c =
     let s = a.s.now in
     let e = c.look.ensures ∙ ap look (rest_is a.k s) in
     let q = sym e ∙ c.if-look-ne82.false in
-    no_digit s a.k a.form a.out.now a.out.now a.at q (byte_there s a.k 81 q) (low_digit (look (drop (a.k + 1) s)) c.look-d.result (c.look-d.ensures ∙ ap look (rest_is (a.k + 1) s)) c.if-d-lt48.true)
+    no_digit s a.k a.form a.out.now a.out.now a.at q (byte_there s a.k 81 q)
+    (low_digit (look (drop (a.k + 1) s)) c.look-d.result (c.look-d.ensures ∙ ap look (rest_is (a.k + 1) s)) c.if-d-lt48.true)
 
 pub returns-then-d-gt51 : goal.returns-then-d-gt51
 returns-then-d-gt51 c =
@@ -29,7 +30,8 @@ returns-then-d-gt51 c =
     let s = a.s.now in
     let e = c.look.ensures ∙ ap look (rest_is a.k s) in
     let q = sym e ∙ c.if-look-ne82.false in
-    no_digit s a.k a.form a.out.now a.out.now a.at q (byte_there s a.k 81 q) (high_digit (look (drop (a.k + 1) s)) c.look-d.result (c.look-d.ensures ∙ ap look (rest_is (a.k + 1) s)) c.if-d-gt51.true)
+    no_digit s a.k a.form a.out.now a.out.now a.at q (byte_there s a.k 81 q)
+    (high_digit (look (drop (a.k + 1) s)) c.look-d.result (c.look-d.ensures ∙ ap look (rest_is (a.k + 1) s)) c.if-d-gt51.true)
 
 pub returns : goal.returns
 returns c =
@@ -38,5 +40,6 @@ returns c =
     let e = c.look.ensures ∙ ap look (rest_is a.k s) in
     let q = sym e ∙ c.if-look-ne82.false in
     let z = c.look-d.ensures ∙ ap look (rest_is (a.k + 1) s) in
-    is_register s a.k a.form a.out.now c.put-to.new.out a.at q c.look-d.result c.put-to.result z (omega (arith, c.if-d-lt48.false)) (omega (arith, c.if-d-gt51.false))
+    is_register s a.k a.form a.out.now c.put-to.new.out a.at q c.look-d.result c.put-to.result z (omega (arith, c.if-d-lt48.false))
+    (omega (arith, c.if-d-gt51.false))
     (byte_past s (a.k + 1) c.look-d.result z (omega (arith, c.if-d-lt48.false))) c.put-to.ensures

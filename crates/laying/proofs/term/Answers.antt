@@ -14,4 +14,5 @@ returns-in-Ends c =
     let x = c.expression-r in
     let w = subst (λ t. Answered (whole 5) t (replicate 32 0) x.new.out 0 x.result) (rest_is a.k s) x.ensures in
     let p = c.in-Ends in
-    term_ends s a.k a.out.now c.put_term-to.new.out a.at (replicate 32 0) x.new.out x.result p.n p.end c.put_term-to.result c.requires.0 p.is w c.put_term-to.ensures
+    term_ends s a.k a.out.now c.put_term-to.new.out a.at (replicate 32 0) x.new.out x.result p.n p.end c.put_term-to.result c.requires.0
+    p.is w c.put_term-to.ensures

@@ -18,7 +18,11 @@ pub returns-then-i-lt75 : goal.returns-then-i-lt75
 returns-then-i-lt75 c =
     let i = c.args.i in
     let r = c.dot_word.ensures in
-    record { size = r.1; says = dot_spelling i (omega arith) (omega arith) (omega arith) ∙ ap (λ y. y ++ tail_of (opens (word_at i))) (sym r.0) }
+    record {
+      size = r.1;
+      says = dot_spelling i (omega arith) (omega arith) (omega arith)
+          ∙ ap (λ y. y ++ tail_of (opens (word_at i))) (sym r.0);
+    }
 
 -- src/lib.rt:73:1
 pub returns : goal.returns

@@ -15,14 +15,16 @@ returns-in-Global c =
     let a = c.args in
     let s = a.s.now in
     let y = subst (λ r. Begins s r) c.in-Global.is c.begin.ensures in
-    answers s c.global_line.new.out c.global_line.result (global_spoken s c.global_line.new.out c.global_line.result y c.global_line.ensures)
+    answers s c.global_line.new.out c.global_line.result (global_spoken s c.global_line.new.out c.global_line.result y
+    c.global_line.ensures)
 
 pub returns-in-Local : goal.returns-in-Local
 returns-in-Local c =
     let a = c.args in
     let s = a.s.now in
     let y = subst (λ r. Begins s r) c.in-Local.is c.begin.ensures in
-    answers s c.local_line.new.out c.local_line.result (local_spoken s c.local_line.new.out c.local_line.result y.0 y.1 c.local_line.ensures)
+    answers s c.local_line.new.out c.local_line.result (local_spoken s c.local_line.new.out c.local_line.result y.0 y.1
+    c.local_line.ensures)
 
 pub returns-else-row-lt70 : goal.returns-else-row-lt70
 returns-else-row-lt70 c =

@@ -18,8 +18,10 @@ returns-then-infix_of-lt1 c =
     let e : drop n s ≡ drop n s = refl in
     let d : drop c.spaces.result (drop n s) ≡ skip (drop n s) = drop-drop c.spaces.result n s ∙ p.1 in (
       p.0,
-      gap_stuck (drop n s) (drop (n + c.spaces.result) s) c.infix_of.result (spaced_look (drop n s) c.spaces.result (omega arith) (omega (arith, length-drop n s, p.0)) d) p.1
-          (c.infix_of.ensures ∙ ap (λ x. code_of (infix_of x)) (c.look.ensures ∙ ap look (rest_is (n + c.spaces.result) s))) c.if-infix_of-lt1.true,
+      gap_stuck (drop n s) (drop (n + c.spaces.result) s) c.infix_of.result
+          (spaced_look (drop n s) c.spaces.result (omega arith) (omega (arith, length-drop n s, p.0)) d) p.1
+          (c.infix_of.ensures ∙ ap (λ x. code_of (infix_of x)) (c.look.ensures ∙ ap look (rest_is (n + c.spaces.result) s)))
+          c.if-infix_of-lt1.true,
     )
 
 pub returns-else-k-n : goal.returns-else-k-n

@@ -1,4 +1,5 @@
--- `entry::read_people` meets its contract, on every input: what is measured is refused, or its room is judged and it is written. Assumes nothing.
+-- `entry::read_people` meets its contract, on every input: what is measured is refused, or its room is judged and it is written. Assumes
+-- nothing.
 use mathlib.Core.Path.{subst}
 use mathlib.Core.List.{List}
 use Prim.Native.Nat.{ℕ}

@@ -27,7 +27,8 @@ stuck t n is short c w = omega (arith, w.within, short, length-take-le n t (omeg
 -- a column as the code holds it
 told : (t : List ℕ) (i sum c : ℕ) → c ≤ 1024 → Judges i sum (first_line t) (no (Column (at_place i) (lib.IntN.pos c)))
     → Judges i sum (first_line t) (no (Column (at_place i) (to_z w32 c)))
-told t i sum c h j = subst (λ (z : ℤ). Judges i sum (first_line t) (no (Column (at_place i) z))) (sym (to_z_pos w32 {n = c} (omega arith))) j
+told t i sum c h j = subst (λ (z : ℤ). Judges i sum (first_line t) (no (Column (at_place i) z))) (sym (to_z_pos w32 {n = c} (omega arith)))
+    j
 
 pub returns-then-i-ge1024 : goal.returns-then-i-ge1024
 returns-then-i-ge1024 c = intake.many (omega (arith, c.if-i-ge1024.true))

@@ -1,4 +1,5 @@
--- `line_length` meets its contract: what is passed holds no line feed, so the line is i and what the search finds from i on. Assumes nothing.
+-- `line_length` meets its contract: what is passed holds no line feed, so the line is i and what the search finds from i on. Assumes
+-- nothing.
 use native.Mathlib.Omega.{arith}
 use Rattle.listing.proofs.FirstLine.{feed_here, feed_later, feed_missing}
 use Rattle.intake.proofs.lines.line_length.Goals as goal

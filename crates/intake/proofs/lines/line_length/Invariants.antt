@@ -1,4 +1,5 @@
--- `line_length` meets its contract: what is passed holds no line feed, so the line is i and what the search finds from i on. Assumes nothing.
+-- `line_length` meets its contract: what is passed holds no line feed, so the line is i and what the search finds from i on. Assumes
+-- nothing.
 use mathlib.Core.Path.{◌≡◌}
 use Prim.Native.Nat.{◌≤◌, ◌-◌, ◌+◌}
 use lib.ListN.{length, drop}

@@ -35,7 +35,12 @@ put_line-requires c =
     let j = c.judge_line in
     let r = read c.args.text.now l.q l.i l.sum c.in-Frame.end c.in-Frame.n j.new.room j.result c.in-Frame.is j.ensures in
     let there : c.in-Frame.n ≤ length j.new.room = omega (arith, r.short, r.room_size) in
-    omega (arith, room_for l.invariant.1 (omega (arith, c.loop-q-test.true)) r, l.invariant.1.size, length-take-le c.in-Frame.n j.new.room there)
+    omega (
+      arith,
+      room_for l.invariant.1 (omega (arith, c.loop-q-test.true)) r,
+      l.invariant.1.size,
+      length-take-le c.in-Frame.n j.new.room there,
+    )
 
 pub loop-q-preserved : goal.loop-q-preserved
 loop-q-preserved c =

@@ -25,7 +25,8 @@ returns-then-c-eq58 c =
     let P = fork none (λ c. eqb c 58 || eqb c 61) (after_global n) in
     subst (λ r. Spoken P s a.k c.put_head-at.new.out r) (sym c.ended.ensures)
     (global_label s a.k n c.put_head-at.new.out (ends_at (length s) (a.k + 1) c.put_head-at.result) q
-    (done_spoken (label n) s (a.k + 1) c.put_head-at.new.out c.put_head-at.result (byte_there s a.k 57 q) (label_held c.put_head-at.new.out c.put_head-at.result n c.put_head-at.ensures)))
+    (done_spoken (label n) s (a.k + 1) c.put_head-at.new.out c.put_head-at.result (byte_there s a.k 57 q)
+    (label_held c.put_head-at.new.out c.put_head-at.result n c.put_head-at.ensures)))
 
 -- src/names.rt:48:9
 pub returns-then-c-eq61 : goal.returns-then-c-eq61
@@ -33,7 +34,8 @@ returns-then-c-eq61 c =
     let a = c.args in
     let s = a.s.now in
     let e = c.look-c.ensures ∙ ap look (rest_is a.k s) in
-    global_variable s a.k a.name c.bound.new.out c.bound.result (sym e ∙ c.if-c-eq61.true) (c.bound.ensures a.name c.put_head-at-then-c-eq61.ensures)
+    global_variable s a.k a.name c.bound.new.out c.bound.result (sym e
+    ∙ c.if-c-eq61.true) (c.bound.ensures a.name c.put_head-at-then-c-eq61.ensures)
 
 -- src/names.rt:37:1
 pub returns : goal.returns

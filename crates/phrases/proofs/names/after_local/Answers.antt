@@ -23,7 +23,8 @@ returns-then-look-eq58 c =
     let P = fork none (λ c. eqb c 58) (λ c. done (label n)) in
     subst (λ r. Spoken P s a.k c.put_head-at.new.out r) (sym c.ended.ensures)
     (local_label s a.k n c.put_head-at.new.out (ends_at (length s) (a.k + 1) c.put_head-at.result) q
-    (done_spoken (label n) s (a.k + 1) c.put_head-at.new.out c.put_head-at.result (byte_there s a.k 57 q) (label_held c.put_head-at.new.out c.put_head-at.result n c.put_head-at.ensures)))
+    (done_spoken (label n) s (a.k + 1) c.put_head-at.new.out c.put_head-at.result (byte_there s a.k 57 q)
+    (label_held c.put_head-at.new.out c.put_head-at.result n c.put_head-at.ensures)))
 
 -- src/names.rt:54:1
 pub returns : goal.returns

@@ -16,7 +16,8 @@ returns-in-Is c =
     let a = c.args in
     let s = a.s.now in
     let w = valued_rest a.k s (λ t. fixed 32767 5 0 t) 32767 c.fixed.result c.fixed.ensures in
-    name_spoken (λ n. fork none (λ c. eqb c 58) (λ c. done (label (0x8000 + n)))) s a.k c.requires.0 c.after_local.new.out c.fixed.result w c.in-Is.n c.in-Is.v c.after_local.result c.in-Is.is c.after_local.ensures
+    name_spoken (λ n. fork none (λ c. eqb c 58) (λ c. done (label (0x8000 + n)))) s a.k c.requires.0 c.after_local.new.out c.fixed.result w
+    c.in-Is.n c.in-Is.v c.after_local.result c.in-Is.is c.after_local.ensures
 
 -- src/names.rt:75:1
 pub returns-in-Not : goal.returns-in-Not
@@ -25,4 +26,5 @@ returns-in-Not c =
     let a = c.args in
     let s = a.s.now in
     let w = valued_rest a.k s (λ t. fixed 32767 5 0 t) 32767 c.fixed.result c.fixed.ensures in
-    name_wrong (λ n. fork none (λ c. eqb c 58) (λ c. done (label (0x8000 + n)))) s a.k c.requires.0 a.out.now c.fixed.result w c.in-Not.n c.in-Not.is
+    name_wrong (λ n. fork none (λ c. eqb c 58) (λ c. done (label (0x8000 + n)))) s a.k c.requires.0 a.out.now c.fixed.result w c.in-Not.n
+    c.in-Not.is

@@ -10,7 +10,8 @@ returns-then-look-eq44 c =
     let a = c.args in
     let s = a.s.now in
     let e = c.look.ensures ∙ ap look (rest_is c.in-Is.n s) in
-    align_comma s a.k c.multiple_line.new.out c.number.result c.number.ensures c.in-Is.n c.in-Is.v c.in-Is.is c.multiple_line.result (sym e ∙ c.if-look-eq44.true) c.multiple_line.ensures
+    align_comma s a.k c.multiple_line.new.out c.number.result c.number.ensures c.in-Is.n c.in-Is.v c.in-Is.is c.multiple_line.result (sym e
+    ∙ c.if-look-eq44.true) c.multiple_line.ensures
 
 -- src/numbers.rt:65:1
 pub returns-else-look-eq44 : goal.returns-else-look-eq44

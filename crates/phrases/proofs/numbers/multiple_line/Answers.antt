@@ -20,7 +20,8 @@ pub returns-else-v-lt1 : goal.returns-else-v-lt1
 returns-else-v-lt1 c =
     let a = c.args in
     let s = a.s.now in
-    multiple_ends a.add s a.k c.put_pad.new.out c.number.result c.number.ensures c.in-Is.n c.in-Is.v c.in-Is.is c.put_pad.result c.if-n-s.false c.if-v-lt1.false c.put_pad.ensures
+    multiple_ends a.add s a.k c.put_pad.new.out c.number.result c.number.ensures c.in-Is.n c.in-Is.v c.in-Is.is c.put_pad.result
+    c.if-n-s.false c.if-v-lt1.false c.put_pad.ensures
 
 -- src/numbers.rt:47:1
 pub returns-in-Not : goal.returns-in-Not

@@ -10,7 +10,8 @@ returns-in-Is c =
     let a = c.args in
     let s = a.s.now in
     subst (λ r. Spoken org_plan s a.k c.put_head-at.new.out r) (sym c.ended.ensures)
-    (org_ends s a.k c.put_head-at.new.out c.number.result c.in-Is.n c.in-Is.v c.put_head-at.result c.in-Is.is c.number.ensures c.put_head-at.ensures)
+    (org_ends s a.k c.put_head-at.new.out c.number.result c.in-Is.n c.in-Is.v c.put_head-at.result c.in-Is.is c.number.ensures
+    c.put_head-at.ensures)
 
 -- src/numbers.rt:22:1
 pub returns-in-Not : goal.returns-in-Not

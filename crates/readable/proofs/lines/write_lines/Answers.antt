@@ -17,7 +17,14 @@ room : (l : goal.After-put_line-arg-1) → let a = l.args in l.loop-i.i < a.coun
 room l h =
     let a = l.args in
     let i = l.loop-i.i in
-    omega (arith, l.loop-i.invariant.2, length_more a.frames.now a.starts.now i, grows a.frames.now a.starts.now (i + 1) a.count (omega arith), l.requires.1)
+    omega (
+      arith,
+      l.loop-i.invariant.2,
+      length_more a.frames.now a.starts.now i,
+      grows a.frames.now a.starts.now (i + 1) a.count
+          (omega arith),
+      l.requires.1,
+    )
 
 -- the line of this turn fits
 room_2 : (l : goal.After-slice_known-in-loop-i-1) → let a = l.args in l.loop-i.i < a.count
@@ -25,7 +32,14 @@ room_2 : (l : goal.After-slice_known-in-loop-i-1) → let a = l.args in l.loop-i
 room_2 l h =
     let a = l.args in
     let i = l.loop-i.i in
-    omega (arith, l.loop-i.invariant.2, length_more a.frames.now a.starts.now i, grows a.frames.now a.starts.now (i + 1) a.count (omega arith), l.requires.1)
+    omega (
+      arith,
+      l.loop-i.invariant.2,
+      length_more a.frames.now a.starts.now i,
+      grows a.frames.now a.starts.now (i + 1) a.count
+          (omega arith),
+      l.requires.1,
+    )
 
 pub loop-i-init : goal.loop-i-init
 loop-i-init c =

@@ -9,7 +9,8 @@ use Rattle.readable.proofs.lines.write_lines.Given as goal
 
 abbrev pub invariant-loop-i : goal.invariant-loop-i
 invariant-loop-i l =
-    (l.i ≤ l.count) × (l.out ≡ laid l.initial.out 0 (text_of (input_of l.frames l.starts l.i))) × (l.at ≡ length (text_of (input_of l.frames l.starts l.i)))
+    (l.i ≤ l.count) × (l.out ≡ laid l.initial.out 0 (text_of (input_of l.frames l.starts l.i)))
+    × (l.at ≡ length (text_of (input_of l.frames l.starts l.i)))
     × (length l.out ≡ length l.initial.out)
 
 abbrev pub decreases-loop-i : goal.decreases-loop-i

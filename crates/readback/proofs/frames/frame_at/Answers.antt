@@ -103,6 +103,7 @@ returns-in-To c =
 
 pub returns-in-Outside : goal.returns-in-Outside
 returns-in-Outside c =
-    alone_frame c.args.q.0 (bytes_5 c) (form_5 c) refl c.put_data-in-Outside.result c.put_data-in-Outside.new.frame c.put_data-in-Outside.ensures.1
+    alone_frame c.args.q.0 (bytes_5 c) (form_5 c) refl c.put_data-in-Outside.result c.put_data-in-Outside.new.frame
+    c.put_data-in-Outside.ensures.1
     (there_2 c) c.requires.0
     (instruction_2 c _ c.in-Outside.is) c.put_data-in-Outside.ensures.0

@@ -30,7 +30,8 @@ returns c =
     let a = c.args in
     let e : c.loop-k.k ≡ a.n = omega arith in
     let n : length (take a.n a.s.now) ≡ a.n = length-take-le a.n a.s.now (omega arith) in (
-      ap (λ (k : ℕ). take (2 + 5 * k) c.loop-k.frame) (sym e) ∙ c.loop-k.invariant.2 ∙ ap (λ (k : ℕ). 6 ∷ a.n ∷ data_items (take k a.s.now)) e
+      ap (λ (k : ℕ). take (2 + 5 * k) c.loop-k.frame) (sym e) ∙ c.loop-k.invariant.2
+          ∙ ap (λ (k : ℕ). 6 ∷ a.n ∷ data_items (take k a.s.now)) e
           ∙ ap (λ (k : ℕ). 6 ∷ k ∷ data_items (take a.n a.s.now)) (sym n) ∙ sym (data_frame (take a.n a.s.now)),
       omega arith,
     )

@@ -33,8 +33,19 @@ loop-j-init c =
 
 pub put_argument-requires : goal.put_argument-requires
 put_argument-requires c =
-    let k = c.operand_count-count.ensures in
-    (c.requires.0, omega arith, c.requires.1, omega (arith, c.loop-j.invariant.2, room c, c.requires.2, few_operands c.args.form, c.loop-j.invariant.1))
+    let k = c.operand_count-count.ensures in (
+      c.requires.0,
+      omega arith,
+      c.requires.1,
+      omega (
+        arith,
+        c.loop-j.invariant.2,
+        room c,
+        c.requires.2,
+        few_operands c.args.form,
+        c.loop-j.invariant.1,
+      ),
+    )
 
 pub returns-in_default : goal.returns-in_default
 returns-in_default c =

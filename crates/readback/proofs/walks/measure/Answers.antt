@@ -12,15 +12,23 @@ loop-q-preserved c =
     let image = c.args.image.now in
     let e = c.step_at-step.ensures in
     let k = count_turn image c.loop-q.q c.step_at-step.result c.loop-q-test.true e in
-    let n = length_turn image c.loop-q.q c.step_at-step.result c.loop-q-test.true e in
-    (e.there, omega (arith, e.some), omega (arith, e.some, e.short), omega (arith, c.loop-q.invariant.3), omega (arith, c.loop-q.invariant.4))
+    let n = length_turn image c.loop-q.q c.step_at-step.result c.loop-q-test.true e in (
+      e.there,
+      omega (arith, e.some),
+      omega (arith, e.some, e.short),
+      omega (arith, c.loop-q.invariant.3),
+      omega (arith, c.loop-q.invariant.4),
+    )
 
 pub returns : goal.returns
 returns c =
     let e = none_left c.args.image.now c.loop-q.q c.loop-q-test.false in
     let n = ap (λ (p : Program). length p) e in
     let m = ap (λ (p : Program). length (listing_of p)) e in (
-      record { count = omega (arith, c.loop-q.invariant.3); length_is = omega (arith, c.loop-q.invariant.4, ap (λ t. length t) listing_none) },
+      record {
+        count = omega (arith, c.loop-q.invariant.3);
+        length_is = omega (arith, c.loop-q.invariant.4, ap (λ t. length t) listing_none);
+      },
       omega
           (arith, c.requires.1),
       omega (arith, c.requires.1),

@@ -20,7 +20,8 @@ loop-n-init c =
             (
               c.requires.0,
               λ make.
-                  none_yet make a.kind a.s.now a.k a.out.now c.put-a.new.out c.put-at.new.out c.put-a.result c.put-at.result c.requires.1 c.put-a.ensures c.put-at.ensures,
+                  none_yet make a.kind a.s.now a.k a.out.now c.put-a.new.out c.put-at.new.out c.put-a.result c.put-at.result c.requires.1
+                  c.put-a.ensures c.put-at.ensures,
             ),
           ),
         ),
@@ -33,7 +34,9 @@ returns-then-e-s c = λ make.
     let a = c.args in
     let s = a.s.now in
     let v = c.loop-n.invariant in
-    item_last make a.kind s a.k c.loop-n.out c.term.new.out c.loop-n.at c.loop-n.i c.loop-n.n (v.1.1.1.1.1 make) c.term.result c.term.ensures c.in-Ends.e c.in-Ends.to c.in-Ends.is c.count.new.out c.count.result v.0 (omega (arith, v.1.0)) c.if-e-s.true c.count.ensures
+    item_last make a.kind s a.k c.loop-n.out c.term.new.out c.loop-n.at c.loop-n.i c.loop-n.n (v.1.1.1.1.1 make) c.term.result
+    c.term.ensures c.in-Ends.e c.in-Ends.to c.in-Ends.is c.count.new.out c.count.result v.0 (omega (arith, v.1.0)) c.if-e-s.true
+    c.count.ensures
 
 -- src/items.rt:41:21
 pub returns-then-look-ne44 : goal.returns-then-look-ne44
@@ -42,7 +45,9 @@ returns-then-look-ne44 c = λ make.
     let s = a.s.now in
     let v = c.loop-n.invariant in
     let e = c.look.ensures ∙ ap look (rest_is c.in-Ends.e s) in
-    item_other make a.kind s a.k c.loop-n.out c.term.new.out c.loop-n.at c.loop-n.i c.loop-n.n (v.1.1.1.1.1 make) c.term.result c.term.ensures c.in-Ends.e c.in-Ends.to c.in-Ends.is v.0 (omega (arith, v.1.0)) (omega (arith, c.if-e-s.false)) (λ z. c.if-look-ne44.true (e ∙ z))
+    item_other make a.kind s a.k c.loop-n.out c.term.new.out c.loop-n.at c.loop-n.i c.loop-n.n (v.1.1.1.1.1 make) c.term.result
+    c.term.ensures c.in-Ends.e c.in-Ends.to c.in-Ends.is v.0 (omega (arith, v.1.0)) (omega (arith, c.if-e-s.false))
+    (λ z. c.if-look-ne44.true (e ∙ z))
 
 -- src/items.rt:44:21
 pub returns-then-n-eq16 : goal.returns-then-n-eq16
@@ -50,7 +55,8 @@ returns-then-n-eq16 c = λ make.
     let a = c.args in
     let s = a.s.now in
     let v = c.loop-n.invariant in
-    item_full make a.kind s a.k c.loop-n.out c.term.new.out c.loop-n.at c.loop-n.i c.loop-n.n (v.1.1.1.1.1 make) c.term.result c.term.ensures c.in-Ends.e c.in-Ends.to c.in-Ends.is c.if-n-eq16.true (omega (arith, c.if-e-s.false))
+    item_full make a.kind s a.k c.loop-n.out c.term.new.out c.loop-n.at c.loop-n.i c.loop-n.n (v.1.1.1.1.1 make) c.term.result
+    c.term.ensures c.in-Ends.e c.in-Ends.to c.in-Ends.is c.if-n-eq16.true (omega (arith, c.if-e-s.false))
 
 -- src/items.rt:50:17
 pub returns-in-Stuck : goal.returns-in-Stuck
@@ -58,7 +64,8 @@ returns-in-Stuck c = λ make.
     let a = c.args in
     let s = a.s.now in
     let v = c.loop-n.invariant in
-    item_stuck make a.kind s a.k c.loop-n.out c.term.new.out c.loop-n.at c.loop-n.i c.loop-n.n (v.1.1.1.1.1 make) c.term.result c.term.ensures c.in-Stuck.e (omega (arith, v.1.0)) v.0 c.in-Stuck.is
+    item_stuck make a.kind s a.k c.loop-n.out c.term.new.out c.loop-n.at c.loop-n.i c.loop-n.n (v.1.1.1.1.1 make) c.term.result
+    c.term.ensures c.in-Stuck.e (omega (arith, v.1.0)) v.0 c.in-Stuck.is
 
 -- src/items.rt:34:5
 pub loop-n-preserved : goal.loop-n-preserved
@@ -67,7 +74,8 @@ loop-n-preserved c =
     let s = a.s.now in
     let v = c.loop-n.invariant in
     let e = c.look.ensures ∙ ap look (rest_is c.in-Ends.e s) in
-    let r = term_room s c.loop-n.i c.loop-n.out c.term.new.out c.loop-n.at c.term.result c.in-Ends.e c.in-Ends.to c.in-Ends.is c.term.ensures in
+    let r = term_room s c.loop-n.i c.loop-n.out c.term.new.out c.loop-n.at c.term.result c.in-Ends.e c.in-Ends.to c.in-Ends.is
+    c.term.ensures in
     let h : c.loop-n.n < 16 = omega (arith, v.1.0, c.if-n-eq16.false) in (
       omega arith,
       (
@@ -79,7 +87,8 @@ loop-n-preserved c =
             (
               omega (arith, c.if-e-s.false),
               λ make.
-                  item_next make a.kind s a.k c.loop-n.out c.term.new.out c.loop-n.at c.loop-n.i c.loop-n.n (v.1.1.1.1.1 make) c.term.result c.term.ensures c.in-Ends.e c.in-Ends.to c.in-Ends.is v.0 h (sym e ∙ c.if-look-ne44.false),
+                  item_next make a.kind s a.k c.loop-n.out c.term.new.out c.loop-n.at c.loop-n.i c.loop-n.n (v.1.1.1.1.1 make) c.term.result
+                  c.term.ensures c.in-Ends.e c.in-Ends.to c.in-Ends.is v.0 h (sym e ∙ c.if-look-ne44.false),
             ),
           ),
         ),

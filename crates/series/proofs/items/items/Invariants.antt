@@ -9,7 +9,8 @@ use Rattle.series.proofs.items.items.Given as goal
 
 abbrev pub invariant-loop-n : goal.invariant-loop-n
 invariant-loop-n l =
-    (1 ≤ l.n) × ((l.n ≤ 16) × ((length l.out ≡ 120) × ((l.at ≤ 121) × ((l.i ≤ length l.s) × ((make : List Expr → Stmt) → SoFar make l.kind l.s l.k l.out l.at l.i l.n)))))
+    (1 ≤ l.n) × ((l.n ≤ 16) × ((length l.out ≡ 120)
+    × ((l.at ≤ 121) × ((l.i ≤ length l.s) × ((make : List Expr → Stmt) → SoFar make l.kind l.s l.k l.out l.at l.i l.n)))))
 
 abbrev pub decreases-loop-n : goal.decreases-loop-n
 decreases-loop-n l = 17 - l.n

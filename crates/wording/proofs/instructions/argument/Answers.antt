@@ -35,4 +35,5 @@ returns-in-A16 c =
 
 pub returns-in-Rel16 : goal.returns-in-Rel16
 returns-in-Rel16 c =
-    argued_as c.args.s.now c.in-Rel16.is (plain_argued Rel16 c.args.s.now refl (λ e. refl) c.requires.0 c.requires.1 c.term-in-Rel16.ensures)
+    argued_as c.args.s.now c.in-Rel16.is (plain_argued Rel16 c.args.s.now refl (λ e. refl) c.requires.0 c.requires.1
+    c.term-in-Rel16.ensures)

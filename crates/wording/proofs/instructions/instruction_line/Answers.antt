@@ -12,4 +12,5 @@ pub returns : goal.returns
 unfolding line_text
 returns c =
     let s = c.args.frame.now in
-    λ xs n q f. wrote_then c.put_mnemonic-a.ensures (c.arguments.ensures.all xs [] f (rest_is 2 s ∙ q ∙ sym (append-nil (each (λ x. operand_bytes x) xs))))
+    λ xs n q f. wrote_then c.put_mnemonic-a.ensures (c.arguments.ensures.all xs [] f (rest_is 2 s ∙ q
+    ∙ sym (append-nil (each (λ x. operand_bytes x) xs))))
