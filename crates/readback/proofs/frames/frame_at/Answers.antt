@@ -13,97 +13,54 @@ use Rattle.readback.specs.Frames.{Instruction, FrameOf}
 use Rattle.readback.proofs.OneFrame.{step, cut_frame, whole_frame, alone_frame}
 use Rattle.readback.proofs.frames.frame_at.Goals as goal
 
-abbrev bytes : (d : goal.After-put_data-arg-1) → List ℕ
-bytes d = d.args.s.now
-
-abbrev bytes_2 : (d : goal.After-slice_known-then-n-size-1) → List ℕ
-bytes_2 d = d.args.s.now
-
-abbrev bytes_3 : (d : goal.After-put_instruction-arg-1) → List ℕ
-bytes_3 d = d.args.s.now
-
-abbrev bytes_4 : (d : goal.In-To) → List ℕ
-bytes_4 d = d.args.s.now
-
-abbrev bytes_5 : (d : goal.After-slice_known-in-Outside-1) → List ℕ
-bytes_5 d = d.args.s.now
-
-abbrev form : (d : goal.After-put_data-arg-1) → ℕ
-form d = form_of_byte (get_or (bytes d) 0 0)
-
-abbrev form_2 : (d : goal.After-slice_known-then-n-size-1) → ℕ
-form_2 d = form_of_byte (get_or (bytes_2 d) 0 0)
-
-abbrev form_3 : (d : goal.After-put_instruction-arg-1) → ℕ
-form_3 d = form_of_byte (get_or (bytes_3 d) 0 0)
-
-abbrev form_4 : (d : goal.In-To) → ℕ
-form_4 d = form_of_byte (get_or (bytes_4 d) 0 0)
-
-abbrev form_5 : (d : goal.After-slice_known-in-Outside-1) → ℕ
-form_5 d = form_of_byte (get_or (bytes_5 d) 0 0)
-
-form_low : (d : goal.After-put_instruction-arg-1) → form_3 d < 70
-form_low d = (named_at (get_or (bytes_3 d) 0 0) (d.shared_slice_known-2-1.given 0).fits).0
-
-form_low_2 : (d : goal.In-To) → form_4 d < 70
-form_low_2 d = (named_at (get_or (bytes_4 d) 0 0) (d.shared_slice_known-2-1.given 0).fits).0
+-- the form that the first byte names
+abbrev form : List ℕ → ℕ
+form s = form_of_byte (get_or s 0 0)
 
 -- what the instruction's room holds, whatever the code calls the form and its size
-instruction : (p : goal.In-To) (w : Written) → p.put_instruction.result ≡ w →
-    Instruction (form_4 p) (bytes_4 p) (p.args.q.0 + size_at (form_4 p)) w p.put_instruction.new.frame
-instruction p w e =
-    let q = p.args.q.0 in
-    let room = p.put_instruction.new.frame in
-    let a = subst (λ (x : Written). Instruction p.decode-opcode.result.0 (bytes_4 p) (q + p.decode-opcode.result.1) x room) e
-    p.put_instruction.ensures in
-    let b = subst (λ (f : ℕ). Instruction f (bytes_4 p) (q + p.decode-opcode.result.1) w room) p.decode-opcode.ensures.0 a in
-    subst (λ (n : ℕ). Instruction (form_4 p) (bytes_4 p) (q + n) w room) p.decode-opcode.ensures.1 b
-
--- what the instruction's room holds, whatever the code calls the form and its size
-instruction_2 : (p : goal.After-slice_known-in-Outside-1) (w : Written) → p.put_instruction.result ≡ w →
-    Instruction (form_5 p) (bytes_5 p) (p.args.q.0 + size_at (form_5 p)) w p.put_instruction.new.frame
-instruction_2 p w e =
-    let q = p.args.q.0 in
-    let room = p.put_instruction.new.frame in
-    let a = subst (λ (x : Written). Instruction p.decode-opcode.result.0 (bytes_5 p) (q + p.decode-opcode.result.1) x room) e
-    p.put_instruction.ensures in
-    let b = subst (λ (f : ℕ). Instruction f (bytes_5 p) (q + p.decode-opcode.result.1) w room) p.decode-opcode.ensures.0 a in
-    subst (λ (n : ℕ). Instruction (form_5 p) (bytes_5 p) (q + n) w room) p.decode-opcode.ensures.1 b
-
-there : (p : goal.In-To) → size_at (form_4 p) ≤ length (bytes_4 p)
-there p = omega (arith, p.if-n-size.false, p.decode-opcode.ensures.1)
-
-there_2 : (p : goal.After-slice_known-in-Outside-1) → size_at (form_5 p) ≤ length (bytes_5 p)
-there_2 p = omega (arith, p.if-n-size.false, p.decode-opcode.ensures.1)
+instruction : (s : List ℕ) (q f n : ℕ) (room : List ℕ) (x w : Written) → x ≡ w → f ≡ form s → n ≡ size_at (form s)
+    → Instruction f s (q + n) x room → Instruction (form s) s (q + size_at (form s)) w room
+instruction s q f n room x w e g h i =
+    let a = subst (λ (y : Written). Instruction f s (q + n) y room) e i in
+    let b = subst (λ (g : ℕ). Instruction g s (q + n) w room) g a in
+    subst (λ (m : ℕ). Instruction (form s) s (q + m) w room) h b
 
 pub put_data-requires : goal.put_data-requires
 put_data-requires c =
-    (omega arith, omega (arith, c.if-n-size.true, c.decode-opcode.ensures.1, size_bound (form c)), c.requires.2)
+    (omega arith, omega (arith, c.if-n-size.true, c.decode-opcode.ensures.1, size_bound (form c.args.s.now)), c.requires.2)
 
 pub returns-then-n-size : goal.returns-then-n-size
 returns-then-n-size c =
-    let l : length (bytes_2 c) < size_at (form_2 c) = omega (arith, c.if-n-size.true, c.decode-opcode.ensures.1) in
-    cut_frame c.args.q.0 (bytes_2 c) (form_2 c) refl c.put_data.result c.put_data.new.frame c.put_data.ensures.1 l
-    c.requires.0 c.put_data.ensures.0
+    let s = c.args.s.now in
+    let d = c.put_data in
+    let l : length s < size_at (form s) = omega (arith, c.if-n-size.true, c.decode-opcode.ensures.1) in
+    cut_frame c.args.q.0 s (form s) refl d.result d.new.frame d.ensures.1 l c.requires.0 d.ensures.0
 
 pub put_instruction-requires : goal.put_instruction-requires
 put_instruction-requires c =
-    let low = form_low c in
+    let low = (named_at (get_or c.args.s.now 0 0) (c.type_inv.s 0).fits).0 in
     (omega (arith, c.decode-opcode.ensures.0), omega (arith, c.if-n-size.false, c.requires.1), c.requires.2)
 
 pub returns-in-To : goal.returns-in-To
 returns-in-To c =
-    let end = c.in-To.end in
-    let room = c.put_instruction.new.frame in
+    let s = c.args.s.now in
     let q = c.args.q.0 in
-    let g = instruction c _ c.in-To.is in
-    subst (λ (n : ℕ). FrameOf q (bytes_4 c) (step n end) room) (sym c.decode-opcode.ensures.1)
-    (whole_frame q (bytes_4 c) (form_4 c) refl end room g.2 (there c) (shaped (form_4 c) (form_low_2 c)).some g.0 g.1)
+    let o = c.decode-opcode in
+    let i = c.put_instruction in
+    let end = c.in-To.end in
+    let low : form s < 70 = (named_at (get_or s 0 0) (c.type_inv.s 0).fits).0 in
+    let there : size_at (form s) ≤ length s = omega (arith, c.if-n-size.false, o.ensures.1) in
+    let g = instruction s q o.result.0 o.result.1 i.new.frame i.result _ c.in-To.is o.ensures.0 o.ensures.1 i.ensures in
+    subst (λ (n : ℕ). FrameOf q s (step n end) i.new.frame) (sym o.ensures.1)
+    (whole_frame q s (form s) refl end i.new.frame g.2 there (shaped (form s) low).some g.0 g.1)
 
 pub returns-in-Outside : goal.returns-in-Outside
 returns-in-Outside c =
-    alone_frame c.args.q.0 (bytes_5 c) (form_5 c) refl c.put_data-in-Outside.result c.put_data-in-Outside.new.frame
-    c.put_data-in-Outside.ensures.1
-    (there_2 c) c.requires.0
-    (instruction_2 c _ c.in-Outside.is) c.put_data-in-Outside.ensures.0
+    let s = c.args.s.now in
+    let q = c.args.q.0 in
+    let o = c.decode-opcode in
+    let i = c.put_instruction in
+    let d = c.put_data-in-Outside in
+    let there : size_at (form s) ≤ length s = omega (arith, c.if-n-size.false, o.ensures.1) in
+    let g = instruction s q o.result.0 o.result.1 i.new.frame i.result _ c.in-Outside.is o.ensures.0 o.ensures.1 i.ensures in
+    alone_frame q s (form s) refl d.result d.new.frame d.ensures.1 there c.requires.0 g d.ensures.0
