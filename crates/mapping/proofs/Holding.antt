@@ -10,7 +10,7 @@ use lib.ListN.{length, get_or}
 use Rattle.laws.specs.Lists.{is_one_of}
 use Rattle.laws.proofs.Counts.{length_tab, get_or_tab}
 use Rattle.rules.specs.Expressions.{four}
-use Rattle.rules.specs.Programs.{Placeℕ, Stmt, gone, is_gone, kind_of, Program, at}
+use Rattle.rules.specs.Programs.{Placeℕ, gone, is_gone, kind_of, Program, at}
 use Rattle.rules.specs.Layout.{position}
 use Rattle.listing.specs.Tables.{input_at, input_of, Held}
 use Rattle.slots.specs.Slots.{Slots, gone_form, program_of}
