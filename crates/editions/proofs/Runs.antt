@@ -9,7 +9,7 @@ use lib.Dec.{T}
 use lib.ListN.{take, replicate}
 use Rattle.laws.specs.Lists.{same}
 use Rattle.laws.specs.Counts.{tab}
-use Rattle.rules.specs.Answers.{Judged, ◌>>=◌, ◌>>◌}
+use Rattle.rules.specs.Answers.{Judged}
 use Rattle.rules.specs.Listing.{unhex}
 use Rattle.rules.specs.Run.{Output, printed, listing_room_of_program, image_room_of_program}
 use Rattle.rules.proofs.Computed.{chars, lines, all, answer}
