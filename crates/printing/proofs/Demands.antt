@@ -3,12 +3,9 @@ use mathlib.Core.Path.{◌≡◌, refl, sym, ◌∙◌, ap}
 use mathlib.Core.List.{List, ◌++◌, append_assoc}
 use Prim.Native.Nat.{ℕ}
 use native.Mathlib.Omega.{arith}
-use lib.Dec.{leb}
 use lib.ListN.{length, take, drop}
 use lib.Seq.{take_at}
-use borrow.Author.Tests.{leb-true}
 use Rattle.laws.proofs.Tests.{clash}
-use Rattle.laws.proofs.Stores.{front_take, front_drop}
 use Rattle.rules.specs.declared.Answer.{Answer}
 use Rattle.rules.specs.declared.Answer.TheVariants.{Done, Refused}
 use Rattle.rules.specs.declared.Sizes.{Sizes}
@@ -17,12 +14,8 @@ use Rattle.rules.specs.declared.Refusal.{Refusal}
 use Rattle.rules.specs.declared.Refusal.TheVariants.{Broken, Limit, Again, NoName, Back, Beyond, NoValue, Range, Outside, Far, Page, Room, Pairing, Absent, Column, Start, Unknown, Full, Store}
 use Rattle.rules.specs.Refusals.{fault_of}
 use Rattle.rules.specs.Answers.{Judged, ok, no}
-use Rattle.rules.specs.Programs.{Program}
-use Rattle.rules.specs.Listing.{read_listing}
-use Rattle.rules.specs.Judging.{judge}
 use Rattle.rules.specs.Output.{done_line, refused_line}
-use Rattle.rules.specs.Run.{Output, run, assembled, answer_of, front, image_after, printed, listing_room_of_program, image_room_of_program, program}
-use Rattle.rules.proofs.Laws.{then_ok, require_ok}
+use Rattle.rules.specs.Run.{Output, run, answer_of, front, image_after, printed, listing_room_of_program, image_room_of_program, program}
 use Rattle.promises.specs.Entry.{Promised}
 use Rattle.promises.proofs.Entry.{promised}
 use Rattle.promises.proofs.OutputRoom.{never_room}
