@@ -15,7 +15,7 @@ use Rattle.laws.proofs.Tests.{clash}
 use Rattle.promises.proofs.Accepted.{accepted_iff}
 use Rattle.starting.specs.Begun.{accepted}
 use Rattle.starting.proofs.Accepts.{accepted_of, accepted_run, run_accepted, accepted_never_12}
-use Rattle.audit.specs.Audit.{Finding, same, held, audit}
+use Rattle.audit.specs.Audit.{Finding, held, audit}
 use Rattle.audit.specs.Promise.{Says, Audited, AsRun}
 use Rattle.audit.proofs.Findings.{held_says, held_same}
 

@@ -1,15 +1,14 @@
 -- The finding on an end form is the one that the definition asks for: its image is the image that is handed out.
-use mathlib.Core.Path.{◌≡◌, refl, sym, ap, ◌∙◌}
+use mathlib.Core.Path.{◌≡◌, sym, ap, ◌∙◌}
 use mathlib.Core.List.{List, []}
 use Prim.Native.Nat.{ℕ, ◌≤◌}
 use native.Mathlib.Omega.{arith}
 use lib.ListN.{length}
 use Rattle.laws.specs.Lists.{total}
 use Rattle.rules.specs.declared.Settings.{Settings}
-use Rattle.rules.specs.Answers.{Judged, ok, judged_or}
+use Rattle.rules.specs.Answers.{Judged, judged_or}
 use Rattle.rules.specs.Programs.{Program}
 use Rattle.rules.specs.Layout.{origin_from}
-use Rattle.rules.specs.Judging.{judge}
 use Rattle.rules.specs.Rewriting.{Chain, anchor, chain, optimized, instr_bytes}
 use Rattle.rules.specs.Run.{rewritten}
 use Rattle.promises.specs.Demand2.{Input}
@@ -22,7 +21,7 @@ use Rattle.image.specs.Tables.{Tables, program}
 use Rattle.image.specs.Image.{image_of}
 use Rattle.optimize.specs.Optimized.{Optimized}
 use Rattle.finishing.specs.Ending.{Assembled}
-use Rattle.audit.specs.Audit.{Finding, held}
+use Rattle.audit.specs.Audit.{held}
 use Rattle.audit.specs.Held.{end_image, end_finding}
 
 -- the tables of an end form encode to its image

@@ -1,5 +1,5 @@
 -- A finding as the code holds it.
-use Rattle.std.specs.Prelude.{◌≡◌, List, [], ℕ}
+use Rattle.std.specs.Prelude.{List, [], ℕ}
 use Rattle.laws.specs.Lists.{total}
 use Rattle.rules.specs.declared.Address.{Address}
 use Rattle.rules.specs.declared.Settings.{Settings}

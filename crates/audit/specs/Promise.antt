@@ -1,11 +1,11 @@
 -- What is shown of an audit: it says "same" exactly of the image that the run hands out, and the address is the first that differs.
-use Rattle.std.specs.Prelude.{◌≡◌, List, ◌⊎◌, ℕ, ◌≤◌, ◌<◌, length, get_or, take}
+use Rattle.std.specs.Prelude.{◌≡◌, List, ℕ, ◌<◌, length, get_or, take}
 use Rattle.std.proofs.Math.Option.{Option}
 use Rattle.rules.specs.declared.Settings.{Settings}
 use Rattle.rules.specs.declared.Refusal.{Refusal}
 use Rattle.rules.specs.declared.Refusal.TheVariants.{Room}
 use Rattle.rules.specs.Answers.{ok, no}
-use Rattle.rules.specs.Programs.{Placeℕ, Addressℕ, Program}
+use Rattle.rules.specs.Programs.{Addressℕ, Program}
 use Rattle.rules.specs.Layout.{Origin, origin_from}
 use Rattle.rules.specs.Rewriting.{optimized}
 use Rattle.rules.specs.Run.{Output, run}
