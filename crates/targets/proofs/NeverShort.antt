@@ -1,5 +1,5 @@
 -- A room of 1,024 lines is never too short: 12 is not given of it.
-use mathlib.Core.Path.{◌≡◌, refl, sym, ap, ◌∙◌, subst}
+use mathlib.Core.Path.{◌≡◌, refl, ap, ◌∙◌, subst}
 use mathlib.Core.List.{List}
 use mathlib.Core.Bool.{Bool, true, false}
 use Prim.Native.Nat.{ℕ, zero, suc, ◌+◌, ◌≤◌}
@@ -11,7 +11,6 @@ use borrow.Author.Tests.{le-leb}
 use Rattle.laws.specs.Lists.{total}
 use Rattle.laws.proofs.Tests.{clash}
 use Rattle.rules.specs.declared.Settings.{Settings}
-use Rattle.rules.specs.declared.Refusal.{Refusal}
 use Rattle.rules.specs.declared.Refusal.TheVariants.{Room}
 use Rattle.rules.specs.Answers.{Judged, ok, no, ◌>>=◌, require}
 use Rattle.rules.specs.Forms.{is_transfer}
