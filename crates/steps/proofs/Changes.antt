@@ -1,12 +1,12 @@
 -- The first place that a rewrite changes is its own: what it drops stands behind it, and another form or target stands there.
 use mathlib.Core.Path.{◌≡◌, refl, sym, ap, ap₂, ◌∙◌}
-use mathlib.Core.List.{List, [], ◌∷◌}
+use mathlib.Core.List.{List}
 use mathlib.Core.Bool.{Bool, true, false, not, cond}
 use mathlib.Core.Logic.{⊎_elim}
-use Prim.Native.Nat.{ℕ, ◌+◌, ◌≤◌, ◌<◌}
+use Prim.Native.Nat.{ℕ, ◌≤◌, ◌<◌}
 use native.Mathlib.Omega.{arith}
 use lib.Dec.{eqb}
-use lib.ListN.{length, set, get_or}
+use lib.ListN.{length, set}
 use lib.Seq.{get_or-set_same, get_or-set_other}
 use borrow.Author.Tests.{eq-eqb, ne_eqb}
 use Rattle.laws.specs.Lists.{total}
@@ -23,7 +23,7 @@ use Rattle.promises.proofs.Steps.{Inverted, Trampoline, Shrunk, Step}
 use Rattle.promises.proofs.Weights.{instr_inside, jump_behind, order}
 use Rattle.promises.proofs.Carried.{of_place, of_place_own, of_place_step, of_place_made}
 use Rattle.steps.specs.declared.Seat.{Seat}
-use Rattle.steps.specs.Steps.{seat_of, same_seat, is_changed, changed_at, changed, Rewrite, rewrite_at, rewrite_of}
+use Rattle.steps.specs.Steps.{seat_of, same_seat, is_changed, changed_at, changed, rewrite_at, rewrite_of}
 
 -- ---- the first place at which a test holds
 pub scan_is : (P : ℕ → Bool) (n i : ℕ) → i < n → P i ≡ true → ((k : ℕ) → k < i → P k ≡ false) → scan P n 0 ≡ i

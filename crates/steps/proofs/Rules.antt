@@ -11,7 +11,7 @@ use Rattle.laws.specs.Lists.{every}
 use Rattle.laws.proofs.Tests.{and_true, or_true, or_first, or_second, cond_true, cond_false, false_true}
 use Rattle.rules.specs.Forms.{size_at, form_at, is_transfer, is_unconditional, jmp, jmpf, br, callf, Pair, pairs}
 use Rattle.promises.proofs.Steps.{other_of}
-use Rattle.steps.specs.Steps.{Rule, inverting, bouncing, shrinking, rule_of}
+use Rattle.steps.specs.Steps.{inverting, bouncing, shrinking, rule_of}
 
 -- a trampoline keeps its branch
 pub rule_bounce : (f : ℕ) → rule_of f f ≡ bouncing

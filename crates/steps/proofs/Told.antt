@@ -1,9 +1,8 @@
 -- What the entry answers: the count is the number of lines, and 12 is judged by it.
 use mathlib.Core.Path.{◌≡◌, refl, sym, ap, ap₂, ◌∙◌}
-use mathlib.Core.List.{List, []}
+use mathlib.Core.List.{List}
 use Prim.Native.Nat.{ℕ, ◌*◌, ◌≤◌, ◌<◌}
 use native.Mathlib.Omega.{arith}
-use lib.Dec.{leb}
 use lib.ListN.{length}
 use borrow.Author.Tests.{le-leb, lt-leb}
 use Rattle.laws.specs.Lists.{total}
@@ -15,7 +14,7 @@ use Rattle.rules.specs.declared.Refusal.{Refusal}
 use Rattle.rules.specs.declared.Refusal.TheVariants.{Room}
 use Rattle.rules.specs.Answers.{Judged, ok, no, ◌>>=◌, require}
 use Rattle.rules.specs.Programs.{Program}
-use Rattle.rules.specs.Rewriting.{Chain, anchor, chain, instr_bytes}
+use Rattle.rules.specs.Rewriting.{Chain, anchor, instr_bytes}
 use Rattle.promises.proofs.Anchors.{instr_bytes_anchor, length_anchor}
 use Rattle.slots.specs.Slots.{Slots, program_of}
 use Rattle.env.proofs.Programs.{length_program}

@@ -2,15 +2,13 @@
 use mathlib.Core.Path.{◌≡◌, refl, sym, ap, ◌∙◌}
 use mathlib.Core.List.{List}
 use mathlib.Core.Logic.{◌⊎◌, inl, inr, ⊎_elim}
-use mathlib.Core.Option.{Option, none, some}
+use mathlib.Core.Option.{some}
 use mathlib.Core.Bool.{Bool, true, false}
 use Prim.Native.Nat.{ℕ, ◌≤◌, ◌<◌}
 use native.Mathlib.Omega.{arith}
 use lib.Dec.{eqb, leb}
 use lib.ListN.{length}
 use borrow.Author.Tests.{eqb-true, leb-false}
-use Rattle.laws.specs.Lists.{total}
-use Rattle.laws.specs.Options.{given}
 use Rattle.laws.proofs.Lists.{total_bound}
 use Rattle.laws.proofs.Options.{given_some, bind_some}
 use Rattle.laws.proofs.Tests.{clash, and_true}
@@ -20,8 +18,8 @@ use Rattle.rules.specs.declared.Refusal.TheVariants.{Room}
 use Rattle.rules.specs.Answers.{Judged, ok, no, ◌>>=◌, require}
 use Rattle.rules.specs.Forms.{size_at}
 use Rattle.rules.specs.Programs.{Stmt, Program, at}
-use Rattle.rules.specs.Rewriting.{anchor, instr_bytes, optimized}
-use Rattle.rules.specs.Run.{Output, output_of, rewritten, run}
+use Rattle.rules.specs.Rewriting.{anchor, instr_bytes}
+use Rattle.rules.specs.Run.{Output, output_of, rewritten}
 use Rattle.rules.proofs.Laws.{require_ok, by_instr, other}
 use Rattle.instruction.proofs.Numbers.{size_bound}
 use Rattle.promises.proofs.Accepted.{accepted_iff}
