@@ -11,12 +11,11 @@ use borrow.Author.Tests.{le-leb}
 use Rattle.laws.specs.Lists.{every, total}
 use Rattle.laws.proofs.Tests.{clash}
 use Rattle.rules.specs.declared.Settings.{Settings}
-use Rattle.rules.specs.declared.Refusal.{Refusal}
 use Rattle.rules.specs.declared.Refusal.TheVariants.{Room}
 use Rattle.rules.specs.Answers.{Judged, ok, no, require}
 use Rattle.rules.specs.Programs.{Program}
 use Rattle.rules.specs.Rewriting.{anchor, step, optimized, instr_bytes}
-use Rattle.rules.specs.Run.{Output, output_of, rewritten, run}
+use Rattle.rules.specs.Run.{Output, output_of, rewritten}
 use Rattle.promises.proofs.Accepted.{accepted_iff}
 use Rattle.promises.proofs.Anchors.{instr_bytes_anchor, length_anchor}
 use Rattle.promises.proofs.Chains.{chain_ends, chain_keeps}

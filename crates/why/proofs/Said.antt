@@ -2,16 +2,15 @@
 use mathlib.Core.Path.{◌≡◌, refl, sym, ap, ◌∙◌}
 use mathlib.Core.List.{List}
 use mathlib.Core.Option.{Option, none, some}
-use mathlib.Core.Bool.{Bool, true, false, cond}
+use mathlib.Core.Bool.{Bool, true, false}
 use Prim.Native.Nat.{ℕ}
 use lib.Dec.{eqb}
 use lib.ListN.{set}
 use Rattle.laws.specs.Options.{bind, given}
-use Rattle.rules.specs.Programs.{Placeℕ, Stmt, instr, Program, at, Instruction, as_instr}
+use Rattle.rules.specs.Programs.{Placeℕ, instr, Program, at, Instruction, as_instr}
 use Rattle.rules.specs.Names.{Entry}
 use Rattle.rules.specs.Rewriting.{is_change_jump, no_inner_label_between, no_interior_label_at, branch, Pattern}
 use Rattle.patterns.specs.Shapes.{Shape, shape_at}
-use Rattle.staying.specs.declared.Attempted.{Attempted}
 use Rattle.staying.specs.declared.Attempted.TheVariants.{Stays, Untried}
 use Rattle.staying.specs.declared.Reason.{Reason}
 use Rattle.staying.specs.declared.Reason.TheVariants.{Change, Inside, Between}

@@ -3,7 +3,6 @@ use mathlib.Core.Path.{◌≡◌, refl, sym, ap, ap₂, ◌∙◌, subst}
 use mathlib.Core.List.{List}
 use Prim.Native.Nat.{ℕ, ◌*◌, ◌≤◌, ◌<◌}
 use native.Mathlib.Omega.{arith}
-use lib.Dec.{leb}
 use lib.ListN.{length}
 use borrow.Author.Tests.{le-leb, lt-leb}
 use Rattle.laws.specs.Lists.{total}
@@ -24,7 +23,7 @@ use Rattle.digits.specs.Digits.{laid}
 use Rattle.digits.proofs.Rooms.{laid_front}
 use Rattle.staying.specs.Reasons.{whys}
 use Rattle.staying.specs.Lines.{why_lines}
-use Rattle.why.specs.Entry.{Told, end_told, chain_told, told_in, told, answer_as, room_as, Leaves, told_from}
+use Rattle.why.specs.Entry.{Told, end_told, chain_told, told_in, told, Leaves, told_from}
 use Rattle.why.proofs.Walks.{length_lines}
 
 -- the same answer under another name

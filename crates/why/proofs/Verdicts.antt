@@ -14,7 +14,6 @@ use Rattle.rules.specs.Rewriting.{every_inner_label}
 use Rattle.asm.specs.declared.Verdict.{Verdict}
 use Rattle.asm.specs.declared.Verdict.TheVariants.{Good, Refused as Bad}
 use Rattle.asm.specs.Verdicts.{verdict_as}
-use Rattle.staying.specs.declared.Reason.{Reason}
 use Rattle.staying.specs.declared.Reason.TheVariants.{Counts, Beyond, Refused}
 use Rattle.staying.specs.Reasons.{by_verdict, reason_of}
 

@@ -1,5 +1,5 @@
 -- The lines up to a try: one more try, and the room for them.
-use mathlib.Core.Path.{◌≡◌, refl, sym, ap, ap₂, ◌∙◌}
+use mathlib.Core.Path.{◌≡◌, refl, sym, ap, ◌∙◌}
 use mathlib.Core.List.{List, [], ◌∷◌, ◌++◌}
 use mathlib.Core.Option.{Option, none, some}
 use Prim.Native.Nat.{ℕ, zero, suc, ◌+◌, ◌*◌, ◌/◌, ◌%◌, ◌≤◌, ◌<◌}
@@ -15,7 +15,6 @@ use Rattle.rules.specs.Programs.{Program}
 use Rattle.digits.specs.Digits.{laid}
 use Rattle.digits.proofs.Rooms.{length_laid, laid_more, laid_nothing, length_line}
 use Rattle.staying.specs.declared.Attempted.{Attempted}
-use Rattle.staying.specs.declared.Attempted.TheVariants.{Stays, Untried}
 use Rattle.staying.specs.declared.Reason.{Reason}
 use Rattle.staying.specs.Reasons.{attempt_at, Why, why_of, reason_in, whys_in, whys}
 use Rattle.rules.specs.Expressions.{pair}

@@ -46,7 +46,8 @@ module _ (c : goal.After-tried-4-1) where
   held : Holding (table_of c.args.frames.now edited c.args.count) folded
   held =
       held_kept c.args.frames.now state edited c.args.count kept folded
-      (bounced_holds _ _ _ _ _ _ _ c.requires.0 c.args.form i skip target last (forms_in edited) (carry_in edited) c.requires.1 forms_are carry_is)
+      (bounced_holds _ _ _ _ _ _ _ c.requires.0 c.args.form i skip target last (forms_in edited) (carry_in edited) c.requires.1 forms_are
+      carry_is)
 
 -- the candidate, in the copy
 module _ (c : goal.After-reason_of) where
@@ -83,7 +84,8 @@ module _ (c : goal.After-reason_of) where
   held_2 : Holding (table_of c.args.frames.now edited_2 c.args.count) folded_2
   held_2 =
       held_kept c.args.frames.now state_2 edited_2 c.args.count kept_2 folded_2
-      (bounced_holds _ _ _ _ _ _ _ c.requires.0 c.args.form i_2 skip_2 target_2 last_2 (forms_in edited_2) (carry_in edited_2) c.requires.1 forms_are_2 carry_is_2)
+      (bounced_holds _ _ _ _ _ _ _ c.requires.0 c.args.form i_2 skip_2 target_2 last_2 (forms_in edited_2) (carry_in edited_2) c.requires.1
+      forms_are_2 carry_is_2)
 
 pub reason_of-requires : goal.reason_of-requires
 reason_of-requires c =

@@ -1,6 +1,5 @@
 -- `why::candidates::form_reason` meets its contract: the copy holds the program with the form in place.
-use Prim.Native.Nat.{ℕ, ◌<◌}
-use native.Mathlib.Omega.{arith}
+use Prim.Native.Nat.{ℕ}
 use mathlib.Core.Path.{ap, ◌∙◌}
 use mathlib.Core.List.{List}
 use lib.ListN.{get_or, set}
@@ -24,9 +23,6 @@ module _ (s : goal.After-tried-3-1) where
   abbrev formed : Program
   formed = set (program_of old) i (instr s.args.form (args_of (slot_at old i)) (get_or (carry_in state) i 0))
 
-  at_in : i < 1024
-  at_in = omega (arith, s.requires.1, s.requires.0.sound.held.few)
-
 module _ (s : goal.After-reason_of) where
   abbrev state_2 : List (List ℕ)
   state_2 = s.args.state.now
@@ -39,9 +35,6 @@ module _ (s : goal.After-reason_of) where
 
   abbrev formed_2 : Program
   formed_2 = set (program_of old_2) i_2 (instr s.args.form (args_of (slot_at old_2 i_2)) (get_or (carry_in state_2) i_2 0))
-
-  at_in_2 : i_2 < 1024
-  at_in_2 = omega (arith, s.requires.1, s.requires.0.sound.held.few)
 
 -- with the form in place
 module _ (c : goal.After-tried-3-1) where
@@ -62,7 +55,8 @@ module _ (c : goal.After-reason_of) where
   held_2 : Holding (table_of c.args.frames.now edited_2 c.args.count) (formed_2 c)
   held_2 =
       held_kept c.args.frames.now (state_2 c) edited_2 c.args.count c.put_form.ensures.kept (formed_2 c)
-      (formed_holds _ _ _ _ _ _ _ c.requires.0 c.args.form (i_2 c) (forms_in edited_2) (carry_in edited_2) c.requires.1 c.requires.2 c.requires.3
+      (formed_holds _ _ _ _ _ _ _ c.requires.0 c.args.form (i_2 c) (forms_in edited_2) (carry_in edited_2) c.requires.1 c.requires.2
+      c.requires.3
       c.put_form.ensures.forms c.put_form.ensures.carry)
 
 pub reason_of-requires : goal.reason_of-requires

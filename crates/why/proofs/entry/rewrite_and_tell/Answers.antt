@@ -12,4 +12,5 @@ here c = table_of c.args.frames.now c.args.state.now c.args.count
 
 pub returns : goal.returns
 returns c =
-    leaves_as _ _ _ _ _ (ap (λ (x : Told). told_in c.args.count x (length c.args.out.now)) (told_from_lem c.args.asked (here c) _ _ c.optimize-rewrites.ensures)) c.tell_end.ensures
+    leaves_as _ _ _ _ _ (ap (λ (x : Told). told_in c.args.count x (length c.args.out.now)) (told_from_lem c.args.asked (here c) _ _
+    c.optimize-rewrites.ensures)) c.tell_end.ensures

@@ -15,4 +15,5 @@ lay_and_define-requires c =
 pub returns-in-Refused : goal.returns-in-Refused
 returns-in-Refused c =
     never_refused (here c) _ _ _ _ _ c.requires.1
-    (c.lay_and_define.ensures (carry_in c.args.state.now) (owners_in c.args.state.now) (offsets_in c.args.state.now) c.requires.0.named) c.in-Refused.is
+    (c.lay_and_define.ensures (carry_in c.args.state.now) (owners_in c.args.state.now) (offsets_in c.args.state.now) c.requires.0.named)
+    c.in-Refused.is

@@ -10,5 +10,8 @@ use Rattle.why.proofs.lines.put_tried.Goals as goal
 
 pub returns-in-Untried : goal.returns-in-Untried
 returns-in-Untried c =
-    let e = c.in-Untried.is in
-    (omega (arith, ap tried_count e), sym (ap (λ (x : Attempted). laid c.args.out.now (27 * c.args.n) (tried_lines c.args.m x)) e ∙ laid_nothing c.args.out.now (27 * c.args.n)))
+    let e = c.in-Untried.is in (
+      omega (arith, ap tried_count e),
+      sym (ap (λ (x : Attempted). laid c.args.out.now (27 * c.args.n) (tried_lines c.args.m x)) e
+          ∙ laid_nothing c.args.out.now (27 * c.args.n)),
+    )

@@ -31,7 +31,10 @@ returns c =
     let m : b < 2 ^ 32 = rw k (Fits-of_z fit).fits in
     c.put_line.ensures
     ∙ ap (λ (x : List ℕ). laid out at (line_of x))
-    (why_bytes t i kind g.number g.place g.argument b _ _ _ _ _ _ _ _ _ _ _ c.requires.1 m c.attempt_byte.ensures c.low_byte.ensures c.low_byte-2.ensures
-    c.reason_byte.ensures c.low_byte-3.ensures c.low_byte-4.ensures c.low_byte-5.ensures c.low_bits.ensures c.low_bits-2.ensures c.low_bits-3.ensures c.low_bits-4.ensures)
-    ∙ ap (λ (n : ℕ). laid out at (line_of (0x75 ∷ t ∷ (pair i ++ (kind ∷ (g.number ∷ (pair (g.place % 65536) ++ (g.argument % 256 ∷ four n)))))))) k
+    (why_bytes t i kind g.number g.place g.argument b _ _ _ _ _ _ _ _ _ _ _ c.requires.1 m c.attempt_byte.ensures c.low_byte.ensures
+    c.low_byte-2.ensures
+    c.reason_byte.ensures c.low_byte-3.ensures c.low_byte-4.ensures c.low_byte-5.ensures c.low_bits.ensures c.low_bits-2.ensures
+    c.low_bits-3.ensures c.low_bits-4.ensures)
+    ∙ ap (λ (n : ℕ). laid out at
+    (line_of (0x75 ∷ t ∷ (pair i ++ (kind ∷ (g.number ∷ (pair (g.place % 65536) ++ (g.argument % 256 ∷ four n)))))))) k
     ∙ ap (λ (x : Fault). laid out at (line_of (0x75 ∷ t ∷ (pair i ++ (kind ∷ fault_bytes x))))) (fault_given g _ c.fault_in-f.ensures)

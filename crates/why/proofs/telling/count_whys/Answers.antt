@@ -1,12 +1,10 @@
 -- `why::telling::count_whys` meets its contract: the loop counts the reasons before each try.
 use mathlib.Core.Path.{◌∙◌}
-use Prim.Native.Nat.{◌-◌}
 use native.Mathlib.Omega.{arith}
-use lib.ListN.{length}
 use Rattle.slots.specs.Slots.{Slots, program_of}
 use Rattle.slots.specs.State.{table_of}
 use Rattle.env.proofs.Programs.{length_program}
-use Rattle.why.proofs.Walks.{before, count_more, few, none_before, all_before}
+use Rattle.why.proofs.Walks.{count_more, few, none_before, all_before}
 use Rattle.why.proofs.telling.count_whys.Goals as goal
 
 abbrev over : (c : goal.After-shared_slice_known-1) → Slots
@@ -23,7 +21,14 @@ loop-m-init c = (omega arith, none_before c.args.asked (program_of (over c)))
 
 pub overflow_add-n : goal.overflow_add-n
 overflow_add-n c =
-    omega (arith, c.loop-m.invariant.1, few c.args.asked (program_of (over_2 c)) c.loop-m.m, c.loop-m-test.true, c.is_tried-n.ensures.1, c.requires.0.sound.held.few)
+    omega (
+      arith,
+      c.loop-m.invariant.1,
+      few c.args.asked (program_of (over_2 c)) c.loop-m.m,
+      c.loop-m-test.true,
+      c.is_tried-n.ensures.1,
+      c.requires.0.sound.held.few,
+    )
 
 pub loop-m-preserved : goal.loop-m-preserved
 loop-m-preserved c =
@@ -32,4 +37,5 @@ loop-m-preserved c =
 
 pub returns : goal.returns
 returns c =
-    c.loop-m.invariant.1 ∙ all_before c.args.asked (program_of (over_3 c)) c.loop-m.m (omega (arith, c.loop-m.invariant.0, c.loop-m-test.false, length_program (over_3 c)))
+    c.loop-m.invariant.1 ∙ all_before c.args.asked (program_of (over_3 c)) c.loop-m.m
+    (omega (arith, c.loop-m.invariant.0, c.loop-m-test.false, length_program (over_3 c)))

@@ -13,20 +13,11 @@ module _ (s : goal.Then-not-asked) where
   abbrev program : Program
   program = program_of (table_of s.args.frames.now s.args.state.now s.args.count)
 
-  inside : s.args.m / 26 < s.args.count
-  inside = omega (arith, s.requires.3)
-
 module _ (s : goal.After-try_fold) where
   abbrev program_2 : Program
   program_2 = program_of (table_of s.args.frames.now s.args.state.now s.args.count)
 
-  inside_2 : s.args.m / 26 < s.args.count
-  inside_2 = omega (arith, s.requires.3)
-
 module _ (s : goal.Then-k-eq23) where
-  abbrev program_3 : Program
-  program_3 = program_of (table_of s.args.frames.now s.args.state.now s.args.count)
-
   inside_3 : s.args.m / 26 < s.args.count
   inside_3 = omega (arith, s.requires.3)
 
@@ -34,13 +25,7 @@ module _ (s : goal.After-try_shorter) where
   abbrev program_4 : Program
   program_4 = program_of (table_of s.args.frames.now s.args.state.now s.args.count)
 
-  inside_4 : s.args.m / 26 < s.args.count
-  inside_4 = omega (arith, s.requires.3)
-
 module _ (s : goal.Then-k-eq24) where
-  abbrev program_5 : Program
-  program_5 = program_of (table_of s.args.frames.now s.args.state.now s.args.count)
-
   inside_5 : s.args.m / 26 < s.args.count
   inside_5 = omega (arith, s.requires.3)
 
@@ -48,20 +33,11 @@ module _ (s : goal.After-try_shorter-then-k-eq24) where
   abbrev program_6 : Program
   program_6 = program_of (table_of s.args.frames.now s.args.state.now s.args.count)
 
-  inside_6 : s.args.m / 26 < s.args.count
-  inside_6 = omega (arith, s.requires.3)
-
 module _ (s : goal.Then-not-asked-2) where
   abbrev program_7 : Program
   program_7 = program_of (table_of s.args.frames.now s.args.state.now s.args.count)
 
-  inside_7 : s.args.m / 26 < s.args.count
-  inside_7 = omega (arith, s.requires.3)
-
 module _ (s : goal.Else-not-asked-2) where
-  abbrev program_8 : Program
-  program_8 = program_of (table_of s.args.frames.now s.args.state.now s.args.count)
-
   inside_8 : s.args.m / 26 < s.args.count
   inside_8 = omega (arith, s.requires.3)
 
@@ -69,15 +45,13 @@ module _ (s : goal.After-try_shorter-2) where
   abbrev program_9 : Program
   program_9 = program_of (table_of s.args.frames.now s.args.state.now s.args.count)
 
-  inside_9 : s.args.m / 26 < s.args.count
-  inside_9 = omega (arith, s.requires.3)
-
 pub returns-then-not-asked : goal.returns-then-not-asked
 returns-then-not-asked c = fold_off c.args.asked (program c) c.args.m c.if-k-lt23.true (not-true _ c.if-not-asked.true)
 
 pub returns-then-k-lt23 : goal.returns-then-k-lt23
 returns-then-k-lt23 c =
-    fold_on c.args.asked (program_2 c) c.args.m c.if-k-lt23.true (not-false _ c.if-not-asked.false) (pattern_of c.pattern.result) c.pattern.ensures.0 _ c.try_fold.ensures
+    fold_on c.args.asked (program_2 c) c.args.m c.if-k-lt23.true (not-false _ c.if-not-asked.false) (pattern_of c.pattern.result)
+    c.pattern.ensures.0 _ c.try_fold.ensures
 
 pub try_shorter-requires : goal.try_shorter-requires
 try_shorter-requires c = (c.requires.0, c.requires.1, c.requires.2, inside_3 c, jmpf_transfers, br_fits)
@@ -92,11 +66,13 @@ pub returns-then-k-eq24 : goal.returns-then-k-eq24
 returns-then-k-eq24 c = jmp_on c.args.asked (program_6 c) c.args.m c.if-k-eq24.true _ c.try_shorter-then-k-eq24.ensures
 
 pub returns-then-not-asked-2 : goal.returns-then-not-asked-2
-returns-then-not-asked-2 c = call_off c.args.asked (program_7 c) c.args.m c.if-k-lt23.false c.if-k-eq23.false c.if-k-eq24.false (not-true _ c.if-not-asked-2.true)
+returns-then-not-asked-2 c = call_off c.args.asked (program_7 c) c.args.m c.if-k-lt23.false c.if-k-eq23.false c.if-k-eq24.false
+    (not-true _ c.if-not-asked-2.true)
 
 pub try_shorter-requires-2 : goal.try_shorter-requires-2
 try_shorter-requires-2 c = (c.requires.0, c.requires.1, c.requires.2, inside_8 c, callf_transfers, call_fits)
 
 pub returns : goal.returns
 returns c =
-    call_on c.args.asked (program_9 c) c.args.m c.if-k-lt23.false c.if-k-eq23.false c.if-k-eq24.false (not-false _ c.if-not-asked-2.false) _ c.try_shorter-2.ensures
+    call_on c.args.asked (program_9 c) c.args.m c.if-k-lt23.false c.if-k-eq23.false c.if-k-eq24.false (not-false _ c.if-not-asked-2.false)
+    _ c.try_shorter-2.ensures

@@ -78,7 +78,8 @@ returns-in_default c =
 
 pub returns-then-not-no_inner_label_between : goal.returns-then-not-no_inner_label_between
 returns-then-not-no_inner_label_between c =
-    fold_between (program_of (old_2 c)) (inverted c.args.from c.args.to) (i_2 c) _ ((found c).shape c.args.to) (sym c.no_inner_label_between.ensures ∙ c.if-not-no_inner_label_between.true)
+    fold_between (program_of (old_2 c)) (inverted c.args.from c.args.to) (i_2 c) _ ((found c).shape c.args.to)
+    (sym c.no_inner_label_between.ensures ∙ c.if-not-no_inner_label_between.true)
 
 pub returns-then-not-no_interior_label_at : goal.returns-then-not-no_interior_label_at
 returns-then-not-no_interior_label_at c =

@@ -51,9 +51,6 @@ module _ (s : goal.Else-not-no_interior_label_at) where
   abbrev old_4 : Slots
   old_4 = table_of s.args.frames.now s.args.state.now s.args.count
 
-  abbrev program_4 : Program
-  program_4 = program_of old_4
-
   abbrev i_4 : ℕ
   i_4 = s.args.at.0
 
@@ -71,10 +68,6 @@ module _ (s : goal.After-form_reason) where
 module _ (c : goal.Then-not-branch_at) where
   stands : c.branch_at.result ≡ is_some (branch c.args.long (stands_at (old c) (i c)))
   stands = c.branch_at.ensures (carry_in c.args.state.now) (owners_in c.args.state.now) (offsets_in c.args.state.now)
-
-  slot : c.branch_at.result ≡ true → Moves (old c) (i c) × (get_or (forms_in c.args.state.now) (i c) 0 ≡ c.args.long)
-      × (branch c.args.long (stands_at (old c) (i c)) ≡ some (instr_at (old c) (i c)))
-  slot e = branch_slot (old c) c.requires.0.sound.held (i c) c.requires.3 c.args.long c.requires.4 (sym stands ∙ e)
 
 -- whether the long form stands there
 module _ (c : goal.Then-is_change_jump) where
@@ -122,12 +115,14 @@ returns-then-not-branch_at c =
 
 pub returns-then-is_change_jump : goal.returns-then-is_change_jump
 returns-then-is_change_jump c =
-    form_change (names_of (program_2 c)) (program_2 c) c.args.form c.args.long (i_2 c) (instr_at (old_2 c) (i_2 c)) (slot_2 c (c.if-not-branch_at.false)).2
+    form_change (names_of (program_2 c)) (program_2 c) c.args.form c.args.long (i_2 c) (instr_at (old_2 c) (i_2 c))
+    (slot_2 c (c.if-not-branch_at.false)).2
     (sym c.is_change_jump.ensures ∙ c.if-is_change_jump.true)
 
 pub returns-then-not-no_interior_label_at : goal.returns-then-not-no_interior_label_at
 returns-then-not-no_interior_label_at c =
-    form_inside (names_of (program_3 c)) (program_3 c) c.args.form c.args.long (i_3 c) (instr_at (old_3 c) (i_3 c)) (slot_3 c (c.if-not-branch_at.false)).2
+    form_inside (names_of (program_3 c)) (program_3 c) c.args.form c.args.long (i_3 c) (instr_at (old_3 c) (i_3 c))
+    (slot_3 c (c.if-not-branch_at.false)).2
     (sym c.is_change_jump.ensures ∙ c.if-is_change_jump.false) (sym c.no_interior_label_at.ensures ∙ c.if-not-no_interior_label_at.true)
 
 pub form_reason-requires : goal.form_reason-requires
@@ -137,6 +132,7 @@ form_reason-requires c =
 
 pub returns : goal.returns
 returns c =
-    form_said (names_of (program_5 c)) (program_5 c) c.args.form c.args.long (i_5 c) (instr_at (old_5 c) (i_5 c)) (slot_5 c (c.if-not-branch_at.false)).2
+    form_said (names_of (program_5 c)) (program_5 c) c.args.form c.args.long (i_5 c) (instr_at (old_5 c) (i_5 c))
+    (slot_5 c (c.if-not-branch_at.false)).2
     (sym c.is_change_jump.ensures ∙ c.if-is_change_jump.false) (sym c.no_interior_label_at.ensures ∙ c.if-not-no_interior_label_at.false)
     c.form_reason.result c.form_reason.ensures

@@ -96,7 +96,8 @@ returns-in_default c =
 
 pub returns-then-not-no_inner_label_between : goal.returns-then-not-no_inner_label_between
 returns-then-not-no_inner_label_between c =
-    fold_between (program_of (old_2 c)) (trampoline c.args.form) (i_2 c) _ (found c).shape (sym c.no_inner_label_between.ensures ∙ c.if-not-no_inner_label_between.true)
+    fold_between (program_of (old_2 c)) (trampoline c.args.form) (i_2 c) _ (found c).shape (sym c.no_inner_label_between.ensures
+    ∙ c.if-not-no_inner_label_between.true)
 
 pub returns-then-not-no_interior_label_at : goal.returns-then-not-no_interior_label_at
 returns-then-not-no_interior_label_at c =
@@ -109,4 +110,5 @@ returns c =
     fold_said (program_of (old_4 c)) (trampoline c.args.form) (i_4 c) _ (found_3 c).shape
     (sym c.no_inner_label_between.ensures ∙ c.if-not-no_inner_label_between.false)
     (sym c.no_interior_label_at.ensures ∙ c.if-not-no_interior_label_at.false)
-    c.bounced_reason.result (c.bounced_reason.ensures ∙ ap reason_of (bounced_left (old_4 c) c.args.form (i_4 c) (skip_3 c) (target_3 c) (last_3 c)))
+    c.bounced_reason.result (c.bounced_reason.ensures ∙ ap reason_of (bounced_left (old_4 c) c.args.form (i_4 c) (skip_3 c) (target_3 c)
+    (last_3 c)))
