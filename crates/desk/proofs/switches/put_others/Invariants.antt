@@ -2,8 +2,8 @@
 use Rattle.std.proofs.Common.{◌-◌, ◌≤◌}
 use Rattle.desk.proofs.switches.put_others.Given as goal
 
-abbrev pub invariant_loop_k : goal.invariant_loop_k
-invariant_loop_k g l = l.k ≤ 7
+abbrev pub invariant-loop-k : goal.invariant-loop-k
+invariant-loop-k g l = l.k ≤ 7
 
-abbrev pub decreases_loop_k : goal.decreases_loop_k
-decreases_loop_k g l = 7 - l.k
+abbrev pub decreases-loop-k : goal.decreases-loop-k
+decreases-loop-k g l = 7 - l.k
