@@ -81,7 +81,7 @@ pub record Upto (text : List ℕ) (q i sum : ℕ) (p : Program) : Type 0 where
 pub starts : (text : List ℕ) → Upto text 0 0 0 []
 unfolding text_of lines_in
 starts text =
-    record { within = omega arith; few = omega arith; short = omega arith; count = refl; size = refl; goes_on = on; }
+    record { within = omega arith; few = omega arith; short = omega arith; count = refl; size = refl; goes_on = on }
   where
     on : (j : Judged Program) → Takes 0 0 (lines_of text) j → Takes 0 0 (lines_of text) (behind [] j)
     on (ok r) t = t

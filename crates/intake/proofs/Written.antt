@@ -32,7 +32,7 @@ pub record Stands (text before : List ℕ) (q i sum : ℕ) (out : List ℕ) : Ty
 pub begins : (text before : List ℕ) → Roomy text (length before) → Stands text before 0 0 0 before
 unfolding text_of lines_in
 begins text before h =
-    record { p = []; r = h.0; so_far = starts text; left = h.1.0; fits = h.1.1; size = refl; is = sym (laid_nothing before 0); }
+    record { p = []; r = h.0; so_far = starts text; left = h.1.0; fits = h.1.1; size = refl; is = sym (laid_nothing before 0) }
 
 module _ {text before : List ℕ} {q i sum : ℕ} {out : List ℕ} (w : Stands text before q i sum out) where
   pub ends : length text ≤ q → Writes text before out

@@ -27,7 +27,7 @@ put_one b a x at n v h e =
 
 pub too_long : (b a e : List ℕ) (at : ℕ) → length a ≡ 32 → 32 < at + length e → Put b a at e 33
 too_long b a e at s h =
-    record { size = s; within = omega arith; ends = λ k. absurd (omega arith); stands = λ k. absurd (omega arith); over = λ k. h; }
+    record { size = s; within = omega arith; ends = λ k. absurd (omega arith); stands = λ k. absurd (omega arith); over = λ k. h }
 
 pub fits : (b a e : List ℕ) (at to : ℕ) → length a ≡ 32 → to ≤ 32 → to ≡ at + length e → take to a ≡ take at b ++ e → Put b a at e to
 fits b a e at to s h k q = record { size = s; within = omega arith; ends = λ z. k; stands = λ z. q; over = λ z. absurd (omega arith) }
