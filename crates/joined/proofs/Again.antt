@@ -91,12 +91,3 @@ module _ (listing : List ℕ) (p : Program) (e : read_listing listing ≡ ok p) 
         let x : in_room (length out) r.reads.judged ≡ in_room (length out) q = ap (in_room (length out)) (judged q t.1) in
         let l : Left (in_room (length out) q) b out out' = subst (λ y. Left y b out out') x r.reads.leaves in
         record { place = t.0; answer = l.answer; room = l.room }
-
--- a listing of the old form keeps the total: it comes back byte for byte, with no condition
-pub old_again : (listing : List ℕ) (p : Program) → read_listing listing ≡ ok p → form_in (lines_of listing) ≡ old_form
-    → (text text' out out' : List ℕ) (a b : Answer) → 86016 ≤ length text → 50176 ≤ length out → Ran listing text text' out out' a b
-    → written b out' ≡ listing
-old_again listing p e o text text' out out' a b long wide r =
-    let m = (read_limits listing p e).1 in
-    let k : WithinTotal old_form p = subst (λ (w : ListingForm). 2 * total (line_room w) p ≤ most_characters w) o m in
-    (read_again listing p e text text' out out' a b long r k wide).as_given o
