@@ -92,7 +92,7 @@ pub fn mnemonic(form: u8) -> [u8; 8]
     requires { form < 70 }
     ensures { (said result ≡ mnemonic_of form) × (length result ≡ 8) }
 {
-    MNEMONICS[form as usize]
+    MNEMONICS[usize::from(form)]
 }
 
 // The word that opens a frame's line by its kind.
@@ -100,5 +100,5 @@ pub fn dot_word(kind: u8) -> [u8; 8]
     requires { (4 ≤ kind) × (kind ≤ 8) }
     ensures { (said result ≡ dot_word kind) × (length result ≡ 8) }
 {
-    DOT_WORDS[kind as usize - 4]
+    DOT_WORDS[usize::from(kind - 4)]
 }

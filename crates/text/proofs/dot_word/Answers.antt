@@ -1,7 +1,7 @@
 -- `text::dot_word` meets its contract: the table's rule is a test at each of its entries.
 use mathlib.Core.Path.{◌≡◌, ◌∙◌, ap}
 use mathlib.Core.List.{List, [], ◌∷◌, map}
-use Prim.Native.Nat.{ℕ, ◌+◌, ◌-◌}
+use Prim.Native.Nat.{ℕ, ◌+◌}
 use native.Mathlib.Omega.{arith}
 use Rattle.laws.specs.Counts.{all_to}
 use Rattle.laws.specs.Lists.{same}
@@ -19,7 +19,6 @@ rows = map (λ s. codes s) (
 pub returns : goal.returns
 unfolding rows all_to said dot_word same
 returns c =
-    let k : ℕ = c.args.kind in
-    let back : k - 4 + 4 ≡ k = omega (arith, c.requires) in
-    let w = word_is (λ n. dot_word (n + 4)) [] rows 5 tt (k - 4) (omega (arith, c.requires)) in
+    let back : c.from.result + 4 ≡ c.args.kind = omega (arith, c.requires, c.from.ensures) in
+    let w = word_is (λ n. dot_word (n + 4)) [] rows 5 tt c.from.result (omega (arith, c.requires, c.from.ensures)) in
     (w.0 ∙ ap dot_word back, w.1)

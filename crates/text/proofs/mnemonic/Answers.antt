@@ -1,7 +1,8 @@
 -- `text::mnemonic` meets its contract: the table's rule is a test at each of its entries.
+use mathlib.Core.Path.{◌∙◌, ap}
 use mathlib.Core.List.{List, [], ◌∷◌, map}
 use Prim.Native.Nat.{ℕ}
-use borrow.Author.Rules.{rules}
+use native.Mathlib.Omega.{arith}
 use Rattle.laws.specs.Counts.{all_to}
 use Rattle.laws.specs.Lists.{same}
 use Rattle.rules.specs.Forms.{form_at}
@@ -25,4 +26,6 @@ rows = map (λ s. codes s) (
 
 pub returns : goal.returns
 unfolding rows all_to said mnemonic form_at same
-returns c = word_is (λ f. mnemonic f) [] rows 70 tt c.args.form (search rules)
+returns c =
+    let w = word_is (λ f. mnemonic f) [] rows 70 tt c.from.result (omega (arith, c.requires, c.from.ensures)) in
+    (w.0 ∙ ap mnemonic c.from.ensures, w.1)
