@@ -5,7 +5,7 @@ use mathlib.Core.Bool.{true, false}
 use Prim.Native.Nat.{ℕ, ◌+◌, ◌<◌, ◌≤◌}
 use native.Mathlib.Omega.{arith}
 use lib.ListN.{length, get_or, take, length-map}
-use lib.Seq.{take_all, length-take-le}
+use lib.Seq.{length-take-le}
 use borrow.Author.Tests.{lt-ltb, le-ltb}
 use Rattle.rules.specs.Forms.{size_at, operands_at}
 use Rattle.rules.specs.Programs.{Placeℕ, Addressℕ, Stmt, byte_count}
@@ -44,12 +44,11 @@ module _ (q : Addressℕ) (s : List ℕ) (f : ℕ) (is : f ≡ form_of_byte (get
   as_form i = ap (of_form i q s) (sym is)
 
   -- "where the end cuts an instruction, all bytes that remain"
-  pub cut_frame : length s < size_at f → 1 ≤ length s → take end room ≡ frame_of (data_of (take (length s) s))
+  pub cut_frame : length s < size_at f → 1 ≤ length s → take end room ≡ frame_of (data_of s)
       → FrameOf q s (step (length s) end) room
   cut_frame l some e =
       is_frame q s (length s) end room (λ i. data_of s) (λ i. as_form i ∙ rw (lt-ltb (length s) (size_at f) l)) (λ i. data_count s)
-      (λ i. ap (λ (n : ℕ). q + n) (data_count s)) some (omega arith)
-      (λ i. e ∙ ap (λ (t : List ℕ). frame_of (data_of t)) (take_all (length s) s (omega arith))) short
+      (λ i. ap (λ (n : ℕ). q + n) (data_count s)) some (omega arith) (λ i. e) short
 
   module _ (l : size_at f ≤ length s) where
     pub whole_frame : 1 ≤ size_at f → none_outside f s (q + size_at f) 0 (operands_at f) ≡ true

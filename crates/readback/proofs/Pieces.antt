@@ -2,34 +2,28 @@
 use mathlib.Core.Path.{◌≡◌, refl, sym, ap, ◌∙◌}
 use mathlib.Core.List.{List, [], ◌∷◌, ◌++◌, append_assoc, map}
 use mathlib.Core.Bool.{true, false}
-use Prim.Native.Nat.{ℕ, ◌+◌, ◌*◌, ◌/◌, ◌%◌, ◌<◌, ◌≤◌}
+use Prim.Native.Nat.{ℕ, ◌+◌, ◌-◌, ◌*◌, ◌/◌, ◌%◌, ◌<◌, ◌≤◌}
 use native.Mathlib.Omega.{arith}
 use lib.ListN.{length, get_or, set, take, drop, length-append, length-map}
 use lib.Seq.{length-take-le, take_at}
+use borrow.Rule.Slice.PartMut.{put_mid}
+use Rattle.std.proofs.lemmas.List.{drop-drop}
 use Rattle.laws.specs.Lists.{each}
 use Rattle.laws.proofs.Lists.{each_more}
 use Rattle.rules.specs.declared.Kind.{Kind}
 use Rattle.rules.specs.Expressions.{bytes_of}
 use Rattle.rules.specs.Output.{frame_of}
 use Rattle.digits.specs.Digits.{laid}
-use Rattle.digits.proofs.Rooms.{length_laid, laid_more, laid_one, laid_two}
 use Rattle.decoding.specs.Operands.{plain}
 use Rattle.readback.specs.ReadBack.{data_of}
 use Rattle.readback.specs.Frames.{is_register, value_bytes}
 
--- one more element behind a piece
-pub laid_next : (d x : List ℕ) (a b v : ℕ) → a + length x ≡ b → b < length d → set (laid d a x) b v ≡ laid d a (x ++ (v ∷ []))
-laid_next d x a b v e h =
-    let n = length_laid d a x (omega arith) in
-    laid_one (laid d a x) b v (omega arith) ∙ laid_more d x (v ∷ []) a b e (omega arith)
-
-pub laid_five : (d : List ℕ) (a v0 v1 v2 v3 v4 : ℕ) → a + 5 ≤ length d
-    → set (set (set (set (set d a v0) (a + 1) v1) (a + 2) v2) (a + 3) v3) (a + 4) v4 ≡ laid d a (v0 ∷ v1 ∷ v2 ∷ v3 ∷ v4 ∷ [])
-laid_five d a v0 v1 v2 v3 v4 h =
-    ap (λ l. set (set (set l (a + 2) v2) (a + 3) v3) (a + 4) v4) (laid_two d a v0 v1 (omega arith))
-    ∙ ap (λ l. set (set l (a + 3) v3) (a + 4) v4) (laid_next d (v0 ∷ v1 ∷ []) a (a + 2) v2 refl (omega arith))
-    ∙ ap (λ l. set l (a + 4) v4) (laid_next d (v0 ∷ v1 ∷ v2 ∷ []) a (a + 3) v3 refl (omega arith))
-    ∙ laid_next d (v0 ∷ v1 ∷ v2 ∷ v3 ∷ []) a (a + 4) v4 refl (omega arith)
+-- a piece copied into its part of a room
+pub laid_copied : (d x : List ℕ) (a k : ℕ) → length x ≡ k → put_mid a (a + k - a) d x ≡ laid d a x
+unfolding laid
+laid_copied d x a k e =
+    let n : a + (a + k - a) ≡ a + length x = omega arith in
+    rw (drop-drop (a + k - a) a d, n)
 
 pub number_bytes : (v : ℕ) → v < 65536 → bytes_of (plain v) ≡ 0 ∷ 0 ∷ 0 ∷ v / 256 ∷ v % 256 ∷ []
 unfolding bytes_of

@@ -28,7 +28,7 @@ pub struct Step(pub usize, pub usize);
 fn byte_at(s: &[u8], k: usize) -> u8
     ensures { result ≡ get_or s.now k 0 }
 {
-    if k < s.len() { s[k] } else { 0 }
+    s.get(k).copied().unwrap_or(0)
 }
 
 // A plain number: 00 and its four bytes, high byte first.
@@ -36,27 +36,15 @@ fn put_number(frame: &mut [u8], at: usize, v: usize)
     requires { (at + 5 ≤ length frame.old) × (v < 65536) }
     ensures { frame.new ≡ laid frame.old at (bytes_of (plain v)) }
 {
-    frame[at] = 0;
-    frame[at + 1] = 0;
-    frame[at + 2] = 0;
-    frame[at + 3] = (v / 256) as u8;
-    frame[at + 4] = (v % 256) as u8;
+    let bytes = [0, 0, 0, (v / 256) as u8, (v % 256) as u8];
+    frame[at..at + 5].copy_from_slice(&bytes);
 }
 
 // A register is one byte of a frame; no other argument is.
 fn is_register(kind: Kind) -> bool
     ensures { result ≡ is_register kind }
 {
-    match kind {
-        Kind::Reg => true,
-        Kind::I8 => false,
-        Kind::D9 => false,
-        Kind::Bit => false,
-        Kind::Rel8 => false,
-        Kind::A12 => false,
-        Kind::A16 => false,
-        Kind::Rel16 => false,
-    }
+    matches!(kind, Kind::Reg)
 }
 
 // An argument: a register is one byte, any other a plain number.
@@ -73,18 +61,16 @@ fn put_value(frame: &mut [u8], at: usize, kind: Kind, v: usize) -> usize
 }
 
 // Bytes as data: 06, how many, and each as a plain number.
-fn put_data(s: &[u8], n: usize, frame: &mut [u8]) -> usize
-    requires { (n ≤ length s.now) × (n ≤ 3) × (17 ≤ length frame.old) }
-    ensures { (take result frame.new ≡ frame_of (data_of (take n s.now))) × (result ≤ 17) }
+fn put_data(s: &[u8], frame: &mut [u8]) -> usize
+    requires { (length s.now ≤ 3) × (17 ≤ length frame.old) }
+    ensures { (take result frame.new ≡ frame_of (data_of s.now)) × (result ≤ 17) }
 {
     frame[0] = 6;
-    frame[1] = n as u8;
-    let mut k = 0;
-    while k < n {
-        put_number(frame, 2 + 5 * k, s[k] as usize);
-        k += 1;
+    frame[1] = s.len() as u8;
+    for (k, b) in s.iter().enumerate() {
+        put_number(frame, 2 + 5 * k, usize::from(*b));
     }
-    2 + 5 * n
+    2 + 5 * s.len()
 }
 
 // Argument j of the instruction of this form and these bytes, with n the address after it.
@@ -109,15 +95,12 @@ fn put_instruction(s: &[u8], form: u8, n: Address, frame: &mut [u8]) -> Written
 {
     frame[0] = 1;
     frame[1] = form;
-    let count = operand_count(form);
     let mut at = 2;
-    let mut j = 0;
-    while j < count {
+    for j in 0..operand_count(form) {
         let Written::To(end) = put_argument(s, form, j, n, frame, at) else {
             return Written::Outside;
         };
         at = end;
-        j += 1;
     }
     Written::To(at)
 }
@@ -132,10 +115,10 @@ pub fn frame_at(s: &[u8], q: Address, frame: &mut [u8]) -> Step
     let size = opcode.1;
     let n = s.len();
     if n < size {
-        return Step(n, put_data(s, n, frame));
+        return Step(n, put_data(s, frame));
     }
     match put_instruction(s, form, Address(q.0 + size), frame) {
         Written::To(end) => Step(size, end),
-        Written::Outside => Step(1, put_data(s, 1, frame)),
+        Written::Outside => Step(1, put_data(&s[..1], frame)),
     }
 }

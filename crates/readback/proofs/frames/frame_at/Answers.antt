@@ -27,7 +27,7 @@ instruction s q f n room x w e g h i =
 
 pub put_data-requires : goal.put_data-requires
 put_data-requires c =
-    (omega arith, omega (arith, c.if-n-size.true, c.decode-opcode.ensures.1, size_bound (form c.args.s.now)), c.requires.2)
+    (omega (arith, c.if-n-size.true, c.decode-opcode.ensures.1, size_bound (form c.args.s.now)), c.requires.2)
 
 pub returns-then-n-size : goal.returns-then-n-size
 returns-then-n-size c =

@@ -14,17 +14,12 @@ use Rattle.readback.proofs.Instructions.{bytes_left, instr_more, inside_next, ou
 use Rattle.readback.proofs.frames.put_instruction.Goals as goal
 
 -- the two bytes in front keep the room's length
-room : (s : goal.After-put_argument-arg-1) → length (set (set s.args.frame.now 0 1) 1 s.args.form) ≡ length s.args.frame.now
-room s = length-set (set s.args.frame.now 0 1) 1 s.args.form ∙ length-set s.args.frame.now 0 1
-
--- the two bytes in front keep the room's length
-room_2 : (s : goal.In-To) → length (set (set s.args.frame.now 0 1) 1 s.args.form) ≡ length s.args.frame.now
-room_2 s = length-set (set s.args.frame.now 0 1) 1 s.args.form ∙ length-set s.args.frame.now 0 1
+room : (d : List ℕ) (form : ℕ) → length (set (set d 0 1) 1 form) ≡ length d
+room d form = simp length-set
 
 pub loop-j-init : goal.loop-j-init
 loop-j-init c =
     let a = c.args in (
-      omega arith,
       omega arith,
       refl,
       refl,
@@ -33,26 +28,26 @@ loop-j-init c =
 
 pub put_argument-requires : goal.put_argument-requires
 put_argument-requires c =
-    let k = c.operand_count-count.ensures in (
+    let k = c.operand_count-j-end.ensures in (
       c.requires.0,
       omega arith,
       c.requires.1,
       omega (
         arith,
-        c.loop-j.invariant.2,
-        room c,
+        c.loop-j.invariant.1,
+        room c.args.frame.now c.args.form,
         c.requires.2,
         few_operands c.args.form,
-        c.loop-j.invariant.1,
+        c.loop-j.invariant.0,
       ),
     )
 
 pub returns-in_default : goal.returns-in_default
 returns-in_default c =
     let a = c.args in
-    let k = c.operand_count-count.ensures in
+    let k = c.operand_count-j-end.ensures in
     let x = c.put_argument.new.frame in
-    outside_here a.form a.s.now a.n.0 c.loop-j.j (omega arith) c.loop-j.invariant.3
+    outside_here a.form a.s.now a.n.0 c.loop-j.j (omega arith) c.loop-j.invariant.2
     (subst (λ (w : Written). Argument a.form a.s.now a.n.0 c.loop-j.j c.loop-j.frame c.loop-j.at w x)
     c.in_default.is c.put_argument.ensures)
 
@@ -60,27 +55,26 @@ pub loop-j-preserved : goal.loop-j-preserved
 loop-j-preserved c =
     let a = c.args in
     let j = c.loop-j.j in
-    let k = c.operand_count-count.ensures in
+    let k = c.operand_count-j-end.ensures in
     let few = few_operands a.form in
     let x = c.put_argument.new.frame in
     let g = subst (λ (w : Written). Argument a.form a.s.now a.n.0 j c.loop-j.frame c.loop-j.at w x) c.in-To.is
     c.put_argument.ensures in
     let end = c.in-To.end in
-    let h : c.loop-j.at ≤ length c.loop-j.frame = omega (arith, c.loop-j.invariant.2, c.loop-j.invariant.1, room_2 c, c.requires.2) in (
-      omega arith,
-      omega (arith, g.2, operand_few a.n.0 (kind_at a.form j) (held_at a.form a.s.now j), c.loop-j.invariant.1),
-      c.put_argument.auto.frame ∙ c.loop-j.invariant.2,
-      inside_next a.form a.s.now a.n.0 j (omega arith) c.loop-j.invariant.3 g.0,
+    let h : c.loop-j.at ≤ length c.loop-j.frame = omega (arith, c.loop-j.invariant.1, c.loop-j.invariant.0, room c.args.frame.now c.args.form, c.requires.2) in (
+      omega (arith, g.2, operand_few a.n.0 (kind_at a.form j) (held_at a.form a.s.now j), c.loop-j.invariant.0),
+      c.put_argument.auto.frame ∙ c.loop-j.invariant.1,
+      inside_next a.form a.s.now a.n.0 j (omega arith) c.loop-j.invariant.2 g.0,
       ap (λ (t : List ℕ). take end t ++ bytes_left a.form a.s.now a.n.0 (j + 1)) g.1
-          ∙ rw g.2 (instr_more a.form a.s.now a.n.0 j (omega arith) c.loop-j.frame c.loop-j.at h c.loop-j.invariant.4),
+          ∙ rw g.2 (instr_more a.form a.s.now a.n.0 j (omega arith) c.loop-j.frame c.loop-j.at h c.loop-j.invariant.3),
     )
 
 pub returns : goal.returns
 returns c =
     let a = c.args in
-    let k = c.operand_count-count.ensures in
+    let k = c.operand_count-j-end.ensures in
     let few = few_operands a.form in (
-      all_inside a.form a.s.now a.n.0 c.loop-j.j (omega arith) c.loop-j.invariant.3,
-      all_there a.form a.s.now a.n.0 c.loop-j.j (omega arith) (take c.loop-j.at c.loop-j.frame) c.loop-j.invariant.4,
-      omega (arith, c.loop-j.invariant.1),
+      all_inside a.form a.s.now a.n.0 c.loop-j.j (omega arith) c.loop-j.invariant.2,
+      all_there a.form a.s.now a.n.0 c.loop-j.j (omega arith) (take c.loop-j.at c.loop-j.frame) c.loop-j.invariant.3,
+      omega (arith, c.loop-j.invariant.0),
     )
