@@ -14,6 +14,7 @@ pub mod Coincide
 pub mod PlaceByPlace
 pub mod Rewritten
 pub mod JudgedFirst
+pub mod Ranges
 pub mod Answered
 -- ---- runs that the checker computes
 pub mod Runs

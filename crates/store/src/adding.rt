@@ -16,14 +16,9 @@ fn first_free(room: &[u8]) -> usize
     requires { 160 ≤ length room.now }
     ensures { FirstFree (store_in room.now) result }
 {
-    let mut k = 0;
-    while k < 32 {
-        if is_free(read_setting(room, k)) {
-            return k;
-        }
-        k += 1;
-    }
-    32
+    (0..32)
+        .find(|k| is_free(read_setting(room, *k)))
+        .unwrap_or(32)
 }
 
 // A new edition of a good store.
@@ -34,10 +29,7 @@ fn add_to(room: &mut [u8], family: u16, switches: u8) -> Numbered
 {
     let k = first_free(room);
     let top = newest_of(room, family);
-    if 32 <= k {
-        return Numbered::Refused(Refusal::Full);
-    }
-    if 65535 <= top {
+    if 32 <= k || 65535 <= top {
         return Numbered::Refused(Refusal::Full);
     }
     let number = top + 1;

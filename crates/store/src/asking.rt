@@ -13,13 +13,11 @@ fn find_switches(room: &[u8], family: u16, edition: u16) -> Held
     requires { 160 ≤ length room.now }
     ensures { result ≡ held_as (find family edition (store_in room.now)) }
 {
-    let mut k = 0;
-    while k < 32 {
+    for k in 0..32 {
         let s = read_setting(room, k);
         if is_of(s, family, edition) {
             return Held::Is(s.switches);
         }
-        k += 1;
     }
     Held::Nothing
 }
@@ -30,10 +28,8 @@ pub fn newest_of(room: &[u8], family: u16) -> u16
     ensures { result ≡ newest family (store_in room.now) }
 {
     let mut top = 0;
-    let mut k = 0;
-    while k < 32 {
+    for k in 0..32 {
         top = newer(read_setting(room, k), family, top);
-        k += 1;
     }
     top
 }

@@ -34,10 +34,8 @@ fn clear_old(room: &mut [u8], family: u16, top: u16)
     ensures { let ss = store_in room.old in
         room.new ≡ room_with room.old (map (λ s. cleared family top s) ss) }
 {
-    let mut k = 0;
-    while k < 32 {
+    for k in 0..32 {
         clear_place(room, k, family, top);
-        k += 1;
     }
 }
 

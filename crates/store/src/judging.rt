@@ -13,14 +13,7 @@ fn all_in_range(room: &[u8]) -> bool
     requires { 160 ≤ length room.now }
     ensures { result ≡ every (λ s. in_range s) (store_in room.now) }
 {
-    let mut k = 0;
-    while k < 32 {
-        if !in_range(read_setting(room, k)) {
-            return false;
-        }
-        k += 1;
-    }
-    true
+    (0..32).all(|k| in_range(read_setting(room, k)))
 }
 
 // No place from `from` on holds this family and edition.
@@ -28,14 +21,7 @@ fn none_holds(room: &[u8], family: u16, edition: u16, from: usize) -> bool
     requires { (160 ≤ length room.now) × (from ≤ 32) }
     ensures { result ≡ none_holds family edition (drop from (store_in room.now)) }
 {
-    let mut k = from;
-    while k < 32 {
-        if is_of(read_setting(room, k), family, edition) {
-            return false;
-        }
-        k += 1;
-    }
-    true
+    (from..32).all(|k| !is_of(read_setting(room, k), family, edition))
 }
 
 // No place behind k holds what it holds, unless it is free.
@@ -44,24 +30,14 @@ fn is_alone(room: &[u8], k: usize) -> bool
     ensures { result ≡ alone (setting_at room.now k) (drop (k + 1) (store_in room.now)) }
 {
     let s = read_setting(room, k);
-    if is_free(s) {
-        return true;
-    }
-    none_holds(room, s.family, s.edition, k + 1)
+    is_free(s) || none_holds(room, s.family, s.edition, k + 1)
 }
 
 fn none_twice(room: &[u8]) -> bool
     requires { 160 ≤ length room.now }
     ensures { result ≡ none_twice (store_in room.now) }
 {
-    let mut k = 0;
-    while k < 32 {
-        if !is_alone(room, k) {
-            return false;
-        }
-        k += 1;
-    }
-    true
+    (0..32).all(|k| is_alone(room, k))
 }
 
 pub fn judge(room: &[u8]) -> Verdict
@@ -70,11 +46,9 @@ pub fn judge(room: &[u8]) -> Verdict
     if room.len() < 160 {
         return Verdict::Refused(Refusal::Room(0));
     }
-    if !all_in_range(room) {
-        return Verdict::Refused(Refusal::Store);
+    if all_in_range(room) && none_twice(room) {
+        Verdict::Good
+    } else {
+        Verdict::Refused(Refusal::Store)
     }
-    if !none_twice(room) {
-        return Verdict::Refused(Refusal::Store);
-    }
-    Verdict::Good
 }

@@ -4,20 +4,14 @@ ghost use Rattle.store.specs.Rooms.{setting_at, with_place};
 
 use crate::Setting;
 
-fn two_bytes(high: u8, low: u8) -> u16
-    ensures { result ≡ high * 256 + low }
-{
-    (high as u16) * 256 + (low as u16)
-}
-
 pub fn read_setting(room: &[u8], k: usize) -> Setting
     requires { (k < 32) × (160 ≤ length room.now) }
     ensures { result ≡ setting_at room.now k }
 {
     let at = 5 * k;
     Setting {
-        family: two_bytes(room[at], room[at + 1]),
-        edition: two_bytes(room[at + 2], room[at + 3]),
+        family: u16::from_be_bytes([room[at], room[at + 1]]),
+        edition: u16::from_be_bytes([room[at + 2], room[at + 3]]),
         switches: room[at + 4],
     }
 }

@@ -18,9 +18,10 @@ fn show_at(room: &[u8], k: usize) -> Shown
     }
     let s = read_setting(room, k);
     if is_free(s) {
-        return Shown::Free;
+        Shown::Free
+    } else {
+        Shown::Is(s)
     }
-    Shown::Is(s)
 }
 
 // What place k holds, or refusal 12 or 19; there is nothing from place 32 on.

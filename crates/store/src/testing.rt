@@ -9,57 +9,37 @@ use rules::Settings;
 pub fn is_free(s: Setting) -> bool
     ensures { result ≡ is_free s }
 {
-    if s.family != 0 {
-        return false;
-    }
-    if s.edition != 0 {
-        return false;
-    }
-    s.switches == 0
+    s.family == 0 && s.edition == 0 && s.switches == 0
 }
 
 pub fn in_range(s: Setting) -> bool
     ensures { result ≡ in_range s }
 {
-    if is_free(s) {
-        return true;
-    }
-    if s.edition < 1 {
-        return false;
-    }
-    s.switches < 8
+    is_free(s) || (s.edition >= 1 && s.switches < 8)
 }
 
 pub fn is_of(s: Setting, family: u16, edition: u16) -> bool
     ensures { result ≡ is_of family edition s }
 {
-    if s.family != family {
-        return false;
-    }
-    s.edition == edition
+    s.family == family && s.edition == edition
 }
 
 // An edition of the family below its newest, which is `top`.
 pub fn is_old(s: Setting, family: u16, top: u16) -> bool
     ensures { result ≡ is_old family top s }
 {
-    if s.family != family {
-        return false;
-    }
-    if s.edition < 1 {
-        return false;
-    }
-    s.edition < top
+    s.family == family && s.edition >= 1 && s.edition < top
 }
 
 // The newer of `top` and this setting, if it is the family's.
 pub fn newer(s: Setting, family: u16, top: u16) -> u16
     ensures { result ≡ cond (eqb s.family family) (max s.edition top) top }
 {
-    if s.family != family {
-        return top;
+    if s.family == family {
+        s.edition.max(top)
+    } else {
+        top
     }
-    if s.edition < top { top } else { s.edition }
 }
 
 fn switch(on: bool, worth: u8) -> u8

@@ -10,20 +10,16 @@ use Rattle.store.specs.Store.{added, add}
 use Rattle.store.specs.Rooms.{store_in, with_place}
 use Rattle.store.proofs.Answered.{leaves_no, leaves_ok, no_place, no_number, next_number, added_room}
 use Rattle.store.proofs.adding.add_to.Goals as goal
+use Rattle.store.proofs.adding.add_to.Goals.{then-k-ge32-via-then-k-ge32, then-k-ge32-via-else-k-ge32+then-top-ge65535}
 
 pub returns-then-k-ge32 : goal.returns-then-k-ge32
 returns-then-k-ge32 c =
     let a = c.args in
     let ss = store_in a.room.now in
-    let e = c.first_free-k.ensures.some ∙ le-ltb c.first_free-k.result 32 c.if-k-ge32.true in
-    leaves_no a.room.now (add a.family ss) (added a.family a.switches ss) Full (no_place a.family ss e)
-
-pub returns-then-top-ge65535 : goal.returns-then-top-ge65535
-returns-then-top-ge65535 c =
-    let a = c.args in
-    let ss = store_in a.room.now in
-    let e = no_number a.family ss (omega (arith, c.newest_of-top.ensures, c.if-top-ge65535.true)) in
-    leaves_no a.room.now (add a.family ss) (added a.family a.switches ss) Full e
+    leaves_no a.room.now (add a.family ss) (added a.family a.switches ss) Full (elim c.then-k-ge32.branch [
+      | then-k-ge32-via-then-k-ge32 w ↦ no_place a.family ss (c.first_free-k.ensures.some ∙ le-ltb c.first_free-k.result 32 w.if-k-ge32.true)
+      | then-k-ge32-via-else-k-ge32+then-top-ge65535 w ↦ no_number a.family ss (omega (arith, c.newest_of-top.ensures, w.if-top-ge65535.true))
+    ])
 
 pub returns : goal.returns
 returns c =

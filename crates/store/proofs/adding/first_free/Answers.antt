@@ -1,50 +1,47 @@
--- `store::adding::first_free` meets its contract: no place before k is free.
-use mathlib.Core.Path.{◌≡◌, sym, ◌∙◌, ap}
-use native.Mathlib.Omega.{arith}
+-- `store::adding::first_free` meets its contract: no place before the one that is found is free.
+use Rattle.std.proofs.Common.{◌≡◌, List, ◌++◌, ℕ, zero, suc, ◌<◌, ◌≤◌, true, false, Option, Some, None, MatchOption, unwrap_or, refl, ◌∙◌, rules, arith, take, drop, add-one}
 use borrow.Author.Tests.{lt-ltb}
-use Rattle.store.specs.Store.{is_free, has_free}
-use Rattle.store.specs.Rooms.{setting_at}
+use Rattle.std.proofs.lemmas.Iterator.{first_from_Range}
+use Rattle.store.specs.declared.Setting.{Setting}
+use Rattle.store.specs.Changes.{FirstFree}
+use Rattle.store.specs.Store.{is_free, has_free, put}
+use Rattle.store.specs.Rooms.{setting_at, store_in}
 use Rattle.store.proofs.PlaceByPlace.{none_left, free_from, put_hit, put_miss}
 use Rattle.store.proofs.adding.first_free.Goals as goal
 
--- what was tested is the setting at k
-tested : (c : goal.Then-is_free)
-    → is_free (setting_at c.args.room.now c.loop-k.k)
-    ≡ c.is_free.result
-tested c = ap is_free (sym c.read_setting.ensures) ∙ sym c.is_free.ensures
+module _ (room : List ℕ) where
+  -- no place below i is free
+  taken : (i : ℕ) → i ≤ 32 → ((k : ℕ) → k < i → is_free (setting_at room k) ≡ false)
+      → (has_free (store_in room) ≡ has_free (drop i (store_in room)))
+      × ((x : Setting) → put x (store_in room) ≡ take i (store_in room) ++ put x (drop i (store_in room)))
+  taken zero l h = (refl, λ x. refl)
+  taken (suc i) l h =
+      let t = taken i (omega arith) (λ k a. h k (omega arith)) in
+      let m : i < 32 = omega arith in
+      let e : is_free (setting_at room i) ≡ false = h i (omega arith) in
+      (t.0 ∙ free_from room i m ∙ rw (e, add-one i), λ x. t.1 x ∙ put_miss room i m x e ∙ rw (add-one i))
 
--- what was tested is the setting at k
-tested_2 : (c : goal.Else-is_free)
-    → is_free (setting_at c.args.room.now c.loop-k.k)
-    ≡ c.is_free.result
-tested_2 c = ap is_free (sym c.read_setting.ensures) ∙ sym c.is_free.ensures
-
-pub returns-then-is_free : goal.returns-then-is_free
-returns-then-is_free c =
-    let l = c.loop-k in
-    let t = c.loop-k-test.true in
-    let room = c.args.room.now in
-    let e = tested c ∙ c.if-is_free.true in
-    record {
-      bound = l.invariant.0;
-      some = l.invariant.1 ∙ free_from room l.k t ∙ rw (e, lt-ltb l.k 32 t);
-      there = λ x m. l.invariant.2 x ∙ put_hit room l.k t x e;
-    }
-
-pub loop-k-preserved : goal.loop-k-preserved
-loop-k-preserved c =
-    let l = c.loop-k in
-    let t = c.loop-k-test.true in
-    let room = c.args.room.now in
-    let e = tested_2 c ∙ c.if-is_free.false in
-    (omega arith, l.invariant.1 ∙ free_from room l.k t ∙ rw e, λ x. l.invariant.2 x ∙ put_miss room l.k t x e)
+  found : (o : Option ℕ)
+      → MatchOption o ((k : ℕ) → 0 ≤ k → k < 32 → is_free (setting_at room k) ≡ false)
+      (λ i. (0 ≤ i) × (i < 32) × (is_free (setting_at room i) ≡ true) × ((k : ℕ) → 0 ≤ k → k < i → is_free (setting_at room k) ≡ false))
+      → FirstFree (store_in room) (unwrap_or o 32)
+  unfolding has_free
+  found None h =
+      record {
+        bound = omega arith;
+        some = (taken 32 (omega arith) (λ k l. h k (omega arith) l)).0 ∙ rw (none_left room 32 (omega arith));
+        there = λ x l. absurd (omega arith);
+      }
+  found (Some i) h =
+      let t = taken i (omega arith) (λ k l. h.3 k (omega arith) l) in
+      record {
+        bound = omega arith;
+        some = t.0 ∙ free_from room i h.1 ∙ rw (h.2, lt-ltb i 32 h.1);
+        there = λ x l. t.1 x ∙ put_hit room i l x h.2;
+      }
 
 pub returns : goal.returns
-unfolding has_free
 returns c =
-    let l = c.loop-k in
-    record {
-      bound = omega arith;
-      some = l.invariant.1 ∙ rw (none_left c.args.room.now l.k c.loop-k-test.false);
-      there = λ x m. absurd (omega arith);
-    }
+    let t = λ (k : ℕ). is_free (setting_at c.args.room.now k) in
+    rw c.unwrap_or.ensures (found c.args.room.now _
+    (first_from_Range _ _ _ _ (λ k. t k ≡ true) (λ k. t k ≡ false) c.find.ensures.ran (λ x q k. search rules) (λ x q k. search rules)))

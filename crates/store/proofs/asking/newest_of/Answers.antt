@@ -13,16 +13,16 @@ pub loop-k-preserved : goal.loop-k-preserved
 loop-k-preserved c =
     let l = c.loop-k in
     let a = c.args in
-    let h = newest_from a.room.now l.k c.loop-k-test.true a.family l.top in
+    let h = newest_from a.room.now l.k (omega arith) a.family l.top in
     let n =
     c.newer-top.ensures
     ∙ ap (λ (s : Setting). cond (eqb s.family a.family) (max s.edition l.top) l.top) c.read_setting.ensures in
-    (omega arith, l.invariant.1 ∙ h ∙ rw n)
+    l.invariant ∙ h ∙ rw n
 
 pub returns : goal.returns
 unfolding newest
 returns c =
     let l = c.loop-k in
-    let n = none_left c.args.room.now l.k c.loop-k-test.false in
+    let n = none_left c.args.room.now l.k (omega arith) in
     let z : max l.top 0 ≡ l.top = omega arith in
-    sym (l.invariant.1 ∙ rw n z)
+    sym (l.invariant ∙ rw n z)

@@ -1,6 +1,5 @@
 -- `store::dropping::clear_old` meets its contract: the places before k are cleared where they were old.
 use mathlib.Core.Path.{◌≡◌}
-use Prim.Native.Nat.{◌-◌, ◌≤◌}
 use lib.ListN.{length}
 use Rattle.store.specs.Store.{cleared}
 use Rattle.store.specs.Rooms.{store_in, room_with}
@@ -9,7 +8,4 @@ use Rattle.store.proofs.dropping.clear_old.Given as goal
 
 abbrev pub invariant-loop-k : goal.invariant-loop-k
 invariant-loop-k l =
-    (l.k ≤ 32) × (l.room ≡ room_with l.initial.room (up_to (λ s. cleared l.family l.top s) l.k (store_in l.initial.room))) × (length l.room ≡ length l.initial.room)
-
-abbrev pub decreases-loop-k : goal.decreases-loop-k
-decreases-loop-k l = 32 - l.k
+    (l.room ≡ room_with l.initial.room (up_to (λ s. cleared l.family l.top s) l.k (store_in l.initial.room))) × (length l.room ≡ length l.initial.room)

@@ -1,38 +1,18 @@
--- `store::judging::all_in_range` meets its contract: every place before k is in range, so those from k on decide.
-use mathlib.Core.Path.{◌≡◌, ◌∙◌, ap}
-use native.Mathlib.Omega.{arith}
+-- `store::judging::all_in_range` meets its contract: it tests each place.
+use Rattle.std.proofs.Common.{◌≡◌, ℕ, true, false, refl, rules, arith, drop}
+use Rattle.std.proofs.lemmas.Iterator.{cases_from_all, YieldsList-from_range}
 use Rattle.laws.specs.Lists.{every}
-use Rattle.store.specs.Store.{in_range}
-use Rattle.store.specs.Rooms.{setting_at}
+use Rattle.store.specs.Store.{in_range, none_holds, none_twice}
+use Rattle.store.specs.Rooms.{setting_at, store_in}
 use Rattle.store.proofs.PlaceByPlace.{none_left, every_from}
+use Rattle.store.proofs.Ranges.{decided}
 use Rattle.store.proofs.judging.all_in_range.Goals as goal
 
--- what was tested is the setting at k
-tested : (c : goal.Then-not-in_range)
-    → c.in_range.result
-    ≡ in_range (setting_at c.args.room.now c.loop-k.k)
-tested c = c.in_range.ensures ∙ ap in_range c.read_setting.ensures
-
--- what was tested is the setting at k
-tested_2 : (c : goal.Else-not-in_range)
-    → c.in_range.result
-    ≡ in_range (setting_at c.args.room.now c.loop-k.k)
-tested_2 c = c.in_range.ensures ∙ ap in_range c.read_setting.ensures
-
-pub returns-then-not-in_range : goal.returns-then-not-in_range
-returns-then-not-in_range c =
-    let l = c.loop-k in
-    let room = c.args.room.now in
-    let h = every_from room l.k c.loop-k-test.true in_range in
-    rw (l.invariant.1, h, ← tested c, c.if-not-in_range.true)
-
-pub loop-k-preserved : goal.loop-k-preserved
-loop-k-preserved c =
-    let l = c.loop-k in
-    let room = c.args.room.now in
-    let h = every_from room l.k c.loop-k-test.true in_range in
-    (omega arith, l.invariant.1 ∙ h ∙ rw (← tested_2 c, c.if-not-in_range.false))
-
 pub returns : goal.returns
-unfolding every
-returns c = rw (c.loop-k.invariant.1, none_left c.args.room.now c.loop-k.k c.loop-k-test.false)
+unfolding every none_holds none_twice
+returns c =
+    let room = c.args.room.now in
+    let t = λ (k : ℕ). in_range (setting_at room k) in
+    decided (λ k. every in_range (drop k (store_in room))) t 32 (λ k l. every_from room k l in_range) (rw (none_left room 32 (omega arith))) 0 (omega arith) _
+    (cases_from_all _ _ _ (λ k. t k ≡ true) (λ k. t k ≡ false) c.all.ensures.ran (YieldsList-from_range 0 32 32 refl refl)
+    (λ x q k. search rules) (λ x q k. search rules))

@@ -1,42 +1,18 @@
--- `store::judging::none_holds` meets its contract: no place before k holds it, so those from k on decide.
-use mathlib.Core.Path.{◌≡◌, ◌∙◌, ap}
-use native.Mathlib.Omega.{arith}
+-- `store::judging::none_holds` meets its contract: it tests each place from `from` on.
+use Rattle.std.proofs.Common.{◌-◌, ◌≡◌, ℕ, true, false, refl, not, rules, arith, drop}
+use Rattle.std.proofs.lemmas.Iterator.{cases_from_all, YieldsList-from_range}
 use Rattle.laws.specs.Lists.{every}
-use Rattle.store.specs.Store.{is_of, none_holds}
-use Rattle.store.specs.Rooms.{setting_at}
+use Rattle.store.specs.Store.{is_of, none_holds, none_twice}
+use Rattle.store.specs.Rooms.{setting_at, store_in}
 use Rattle.store.proofs.PlaceByPlace.{none_left, holds_from}
+use Rattle.store.proofs.Ranges.{decided}
 use Rattle.store.proofs.judging.none_holds.Goals as goal
 
--- what was tested is the setting at k
-tested : (c : goal.Then-is_of)
-    → let a = c.args in
-    c.is_of.result ≡ is_of a.family a.edition (setting_at a.room.now c.loop-k.k)
-tested c =
-    let a = c.args in
-    c.is_of.ensures ∙ ap (is_of a.family a.edition) c.read_setting.ensures
-
--- what was tested is the setting at k
-tested_2 : (c : goal.Else-is_of)
-    → let a = c.args in
-    c.is_of.result ≡ is_of a.family a.edition (setting_at a.room.now c.loop-k.k)
-tested_2 c =
-    let a = c.args in
-    c.is_of.ensures ∙ ap (is_of a.family a.edition) c.read_setting.ensures
-
-pub returns-then-is_of : goal.returns-then-is_of
-returns-then-is_of c =
-    let l = c.loop-k in
-    let a = c.args in
-    let h = holds_from a.room.now l.k c.loop-k-test.true a.family a.edition in
-    rw (l.invariant.1, h, ← tested c, c.if-is_of.true)
-
-pub loop-k-preserved : goal.loop-k-preserved
-loop-k-preserved c =
-    let l = c.loop-k in
-    let a = c.args in
-    let h = holds_from a.room.now l.k c.loop-k-test.true a.family a.edition in
-    (omega arith, l.invariant.1 ∙ h ∙ rw (← tested_2 c, c.if-is_of.false))
-
 pub returns : goal.returns
-unfolding none_holds every
-returns c = rw (c.loop-k.invariant.1, none_left c.args.room.now c.loop-k.k c.loop-k-test.false)
+unfolding every none_holds none_twice
+returns c =
+    let room = c.args.room.now in
+    let t = λ (k : ℕ). not (is_of c.args.family c.args.edition (setting_at room k)) in
+    decided (λ k. none_holds c.args.family c.args.edition (drop k (store_in room))) t 32 (λ k l. holds_from room k l c.args.family c.args.edition) (rw (none_left room 32 (omega arith))) c.args.from (omega arith) _
+    (cases_from_all _ _ _ (λ k. t k ≡ true) (λ k. t k ≡ false) c.all.ensures.ran (YieldsList-from_range c.args.from 32 (32 - c.args.from) refl refl)
+    (λ x q k. search rules) (λ x q k. search rules))

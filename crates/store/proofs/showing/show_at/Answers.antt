@@ -18,8 +18,8 @@ returns-then-is_free c =
     let e = c.read_setting-s.ensures ∙ sym (place_is a.room.now a.k c.if-k-ge32.false) in
     sym (ap shown_of (sym e) ∙ rw (← c.is_free.ensures, c.if-is_free.true))
 
-pub returns : goal.returns
-returns c =
+pub returns-else-is_free : goal.returns-else-is_free
+returns-else-is_free c =
     let a = c.args in
     let e = c.read_setting-s.ensures ∙ sym (place_is a.room.now a.k c.if-k-ge32.false) in
     sym (ap shown_of (sym e) ∙ rw (← c.is_free.ensures, c.if-is_free.false))
