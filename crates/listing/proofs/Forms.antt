@@ -106,13 +106,6 @@ marked_long t e =
     on (a ∷ b ∷ c ∷ d ∷ []) z = absurd (omega arith)
     on (a ∷ b ∷ c ∷ d ∷ e ∷ t) z = omega arith
 
-pub short_unmarked : (t : List ℕ) → length t < 5 → is_marked t ≡ false
-short_unmarked t h = on (is_marked t) refl
-  where
-    on : (b : Bool) → is_marked t ≡ b → b ≡ false
-    on true e = absurd (omega (arith, marked_long t e))
-    on false e = refl
-
 -- the lines that are statements
 after_mark_lem : (t : List ℕ) → is_marked t ≡ true → after_line t ≡ drop 5 t
 unfolding is_marked after_line

@@ -10,25 +10,24 @@ use Rattle.listing.proofs.frames.exprs_end.Goals as goal
 
 pub returns-in-TooLong : goal.returns-in-TooLong
 returns-in-TooLong c =
-    let next = exprs_end (c.args.n - (c.loop-k.k + 1)) c.args.s.now in
-    sym (c.loop-k.invariant.2 ∙ exprs_more c.args.n c.loop-k.k c.args.s.now c.loop-k.a (omega arith) ∙ ap (λ (r : Read). and_then r next)
+    let next = exprs_end (c.args.n - (c.loop.counter + 1)) c.args.s.now in
+    sym (c.loop.invariant.1 ∙ exprs_more c.args.n c.loop.counter c.args.s.now c.loop.a (omega arith) ∙ ap (λ (r : Read). and_then r next)
     (sym c.expr_end.ensures ∙ c.in-TooLong.is))
 
 pub returns-in-Broken : goal.returns-in-Broken
 returns-in-Broken c =
-    let next = exprs_end (c.args.n - (c.loop-k.k + 1)) c.args.s.now in
-    sym (c.loop-k.invariant.2 ∙ exprs_more c.args.n c.loop-k.k c.args.s.now c.loop-k.a (omega arith) ∙ ap (λ (r : Read). and_then r next)
+    let next = exprs_end (c.args.n - (c.loop.counter + 1)) c.args.s.now in
+    sym (c.loop.invariant.1 ∙ exprs_more c.args.n c.loop.counter c.args.s.now c.loop.a (omega arith) ∙ ap (λ (r : Read). and_then r next)
     (sym c.expr_end.ensures ∙ c.in-Broken.is))
 
-pub loop-k-preserved : goal.loop-k-preserved
-loop-k-preserved c =
-    let next = exprs_end (c.args.n - (c.loop-k.k + 1)) c.args.s.now in
+pub loop-preserved : goal.loop-preserved
+loop-preserved c =
+    let next = exprs_end (c.args.n - (c.loop.counter + 1)) c.args.s.now in
     let read = sym c.expr_end.ensures ∙ c.in-Ends.is in (
-      expr_end_fits c.args.s.now c.loop-k.a c.in-Ends.e c.loop-k.invariant.0 read,
-      omega arith,
-      c.loop-k.invariant.2 ∙ exprs_more c.args.n c.loop-k.k c.args.s.now c.loop-k.a (omega arith) ∙ ap (λ (r : Read). and_then r next) read,
+      expr_end_fits c.args.s.now c.loop.a c.in-Ends.e c.loop.invariant.0 read,
+      c.loop.invariant.1 ∙ exprs_more c.args.n c.loop.counter c.args.s.now c.loop.a (omega arith) ∙ ap (λ (r : Read). and_then r next) read,
     )
 
 pub returns : goal.returns
 returns c =
-    sym (c.loop-k.invariant.2 ∙ exprs_done c.args.n c.loop-k.k c.args.s.now c.loop-k.a c.loop-k-test.false)
+    sym (c.loop.invariant.1 ∙ exprs_done c.args.n c.loop.counter c.args.s.now c.loop.a c.loop-test.false)

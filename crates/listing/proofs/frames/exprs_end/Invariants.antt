@@ -6,8 +6,5 @@ use lib.ListN.{length}
 use Rattle.listing.specs.Frames.{exprs_end}
 use Rattle.listing.proofs.frames.exprs_end.Given as goal
 
-abbrev pub invariant-loop-k : goal.invariant-loop-k
-invariant-loop-k l = (l.a ≤ length l.s) × (l.k ≤ l.n) × (exprs_end l.n l.s l.start ≡ exprs_end (l.n - l.k) l.s l.a)
-
-abbrev pub decreases-loop-k : goal.decreases-loop-k
-decreases-loop-k l = l.n - l.k
+abbrev pub invariant-loop : goal.invariant-loop
+invariant-loop l = (l.a ≤ length l.s) × (exprs_end l.n l.s l.start ≡ exprs_end (l.n - l.counter) l.s l.a)

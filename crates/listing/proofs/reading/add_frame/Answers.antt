@@ -20,7 +20,7 @@ returns c =
     let u : List ℕ = without (line_bytes w) (unhex line) in
     let at = get_or c.args.starts.now c.args.i 0 in
     let k : ℕ = bytes_kept w line in
-    let is : c.wide-start.result ≡ at = c.wide-start.ensures in
+    let is : c.from-start.result ≡ at = c.from-start.ensures in
     let b : c.line_bytes-b.result ≡ line_bytes w = c.line_bytes-b.ensures.0 in
     let stored : c.unhex_into.new.frames ≡ paste c.args.frames.now at u k =
     c.unhex_into.ensures ∙ ap₂ (λ (a m : ℕ). paste c.args.frames.now a (without m (unhex line)) (length line / 2 - m)) is b in

@@ -31,7 +31,7 @@ slice_bounds-line-end c =
 pub returns-then-not-within_limits : goal.returns-then-not-within_limits
 returns-then-not-within_limits c =
     record {
-      line = line_over (form_of c.args.marked) c.args.text.now c.requires.0 c.line_length-n.ensures c.line_bytes-b.ensures.0 c.wide.ensures
+      line = line_over (form_of c.args.marked) c.args.text.now c.requires.0 c.line_length-n.ensures c.line_bytes-b.ensures.0 c.from.ensures
           c.within_limits.ensures (ap not c.if-not-within_limits.true);
       source = tt;
       lengths = (c.requires.1, c.requires.2, c.requires.3);
@@ -40,7 +40,7 @@ returns-then-not-within_limits c =
 pub returns-then-not-well_formed : goal.returns-then-not-well_formed
 returns-then-not-well_formed c =
     record {
-      line = line_ill (form_of c.args.marked) c.args.text.now c.requires.0 c.line_length-n.ensures c.line_bytes-b.ensures.0 c.wide.ensures
+      line = line_ill (form_of c.args.marked) c.args.text.now c.requires.0 c.line_length-n.ensures c.line_bytes-b.ensures.0 c.from.ensures
           c.within_limits.ensures (ap not c.if-not-within_limits.false) c.well_formed-2.ensures (ap not c.if-not-well_formed.true);
       source = tt;
       lengths = (c.requires.1, c.requires.2, c.requires.3);
@@ -50,7 +50,7 @@ pub returns-then-line-b : goal.returns-then-line-b
 returns-then-line-b c =
     record {
       line = line_short (form_of c.args.marked) c.args.text.now c.requires.0 c.line_length-n.ensures c.line_bytes-b.ensures.0
-          c.wide.ensures c.within_limits.ensures (ap not c.if-not-within_limits.false) c.well_formed-2.ensures
+          c.from.ensures c.within_limits.ensures (ap not c.if-not-within_limits.false) c.well_formed-2.ensures
           (ap not c.if-not-well_formed.false) c.if-line-b.true;
       source = tt;
       lengths = (c.requires.1, c.requires.2, c.requires.3);
@@ -58,9 +58,9 @@ returns-then-line-b c =
 
 pub source_line-requires : goal.source_line-requires
 source_line-requires c = (
-  line_digits (form_of c.args.marked) c.args.text.now c.requires.0 c.line_length-n.ensures c.line_bytes-b.ensures.0 c.wide.ensures
+  line_digits (form_of c.args.marked) c.args.text.now c.requires.0 c.line_length-n.ensures c.line_bytes-b.ensures.0 c.from.ensures
       c.within_limits.ensures (ap not c.if-not-within_limits.false) c.well_formed-2.ensures (ap not c.if-not-well_formed.false),
-  line_long (form_of c.args.marked) c.args.text.now c.requires.0 c.line_length-n.ensures c.line_bytes-b.ensures.0 c.wide.ensures
+  line_long (form_of c.args.marked) c.args.text.now c.requires.0 c.line_length-n.ensures c.line_bytes-b.ensures.0 c.from.ensures
       c.within_limits.ensures (ap not c.if-not-within_limits.false) c.well_formed-2.ensures (ap not c.if-not-well_formed.false)
       c.if-line-b.false c.requires.1 c.requires.2,
 )
@@ -70,26 +70,26 @@ bounds-lines-i c =
     omega (
       arith,
       line_few (form_of c.args.marked) c.args.text.now c.requires.0 c.line_length-n.ensures c.line_bytes-b.ensures.0
-          c.wide.ensures c.within_limits.ensures (ap not c.if-not-within_limits.false) c.well_formed-2.ensures
+          c.from.ensures c.within_limits.ensures (ap not c.if-not-within_limits.false) c.well_formed-2.ensures
           (ap not c.if-not-well_formed.false),
       c.requires.3,
     )
 
 pub add_frame-requires : goal.add_frame-requires
 add_frame-requires c =
-    line_room (form_of c.args.marked) c.args.text.now c.requires.0 c.line_length-n.ensures c.line_bytes-b.ensures.0 c.wide.ensures
+    line_room (form_of c.args.marked) c.args.text.now c.requires.0 c.line_length-n.ensures c.line_bytes-b.ensures.0 c.from.ensures
     c.within_limits.ensures (ap not c.if-not-within_limits.false) c.well_formed-2.ensures (ap not c.if-not-well_formed.false)
     c.if-line-b.false c.requires.1 c.requires.2
 
 pub keep-requires : goal.keep-requires
 keep-requires c =
     let sizes = line_sizes (form_of c.args.marked) c.args.text.now c.requires.0 c.line_length-n.ensures c.line_bytes-b.ensures.0
-    c.wide.ensures c.within_limits.ensures (ap not c.if-not-within_limits.false) c.well_formed-2.ensures
+    c.from.ensures c.within_limits.ensures (ap not c.if-not-within_limits.false) c.well_formed-2.ensures
     (ap not c.if-not-well_formed.false) c.if-line-b.false c.requires.1 c.requires.2 c.add_frame.ensures.stored in
     let small = line_places (form_of c.args.marked) c.args.text.now c.requires.0 c.line_length-n.ensures c.line_bytes-b.ensures.0
-    c.wide.ensures c.within_limits.ensures (ap not c.if-not-within_limits.false) c.well_formed-2.ensures
+    c.from.ensures c.within_limits.ensures (ap not c.if-not-within_limits.false) c.well_formed-2.ensures
     (ap not c.if-not-well_formed.false) c.if-line-b.false c.requires.1 c.requires.2 _ c.in-Is.is c.add_frame.ensures.read in (
-      line_few (form_of c.args.marked) c.args.text.now c.requires.0 c.line_length-n.ensures c.line_bytes-b.ensures.0 c.wide.ensures
+      line_few (form_of c.args.marked) c.args.text.now c.requires.0 c.line_length-n.ensures c.line_bytes-b.ensures.0 c.from.ensures
           c.within_limits.ensures (ap not c.if-not-within_limits.false) c.well_formed-2.ensures (ap not c.if-not-well_formed.false),
       sizes.1,
       small 1,
@@ -102,11 +102,11 @@ returns-in-Is c =
     let it = c.in-Is.statement in
     let mid = c.add_frame.new.starts in
     let sizes = line_sizes (form_of c.args.marked) c.args.text.now c.requires.0 c.line_length-n.ensures c.line_bytes-b.ensures.0
-    c.wide.ensures c.within_limits.ensures (ap not c.if-not-within_limits.false) c.well_formed-2.ensures
+    c.from.ensures c.within_limits.ensures (ap not c.if-not-within_limits.false) c.well_formed-2.ensures
     (ap not c.if-not-well_formed.false) c.if-line-b.false c.requires.1 c.requires.2 c.add_frame.ensures.stored in
     let kept = c.keep.ensures in record {
       line = line_judged (form_of c.args.marked) c.args.text.now c.requires.0 c.line_length-n.ensures c.line_bytes-b.ensures.0
-          c.wide.ensures c.within_limits.ensures (ap not c.if-not-within_limits.false) c.well_formed-2.ensures
+          c.from.ensures c.within_limits.ensures (ap not c.if-not-within_limits.false) c.well_formed-2.ensures
           (ap not c.if-not-well_formed.false) c.if-line-b.false c.requires.1 c.requires.2 Stands (ap (lined_of c.args.i) told)
           c.add_frame.ensures.stored
           (λ y e. kept ∙ ap (kept_of mid c.args.i) (is_one it y (sym told ∙ e))) c.add_frame.ensures.read;
@@ -124,11 +124,11 @@ returns-in-Is c =
 pub returns-in-TooLong : goal.returns-in-TooLong
 returns-in-TooLong c =
     let sizes = line_sizes (form_of c.args.marked) c.args.text.now c.requires.0 c.line_length-n.ensures c.line_bytes-b.ensures.0
-    c.wide.ensures c.within_limits.ensures (ap not c.if-not-within_limits.false) c.well_formed-2.ensures
+    c.from.ensures c.within_limits.ensures (ap not c.if-not-within_limits.false) c.well_formed-2.ensures
     (ap not c.if-not-well_formed.false) c.if-line-b.false c.requires.1 c.requires.2 c.add_frame.ensures.stored in
     record {
       line = line_judged (form_of c.args.marked) c.args.text.now c.requires.0 c.line_length-n.ensures c.line_bytes-b.ensures.0
-          c.wide.ensures c.within_limits.ensures (ap not c.if-not-within_limits.false) c.well_formed-2.ensures
+          c.from.ensures c.within_limits.ensures (ap not c.if-not-within_limits.false) c.well_formed-2.ensures
           (ap not c.if-not-well_formed.false) c.if-line-b.false c.requires.1 c.requires.2 {starts' = c.add_frame.new.starts}
           (Refused (Limit (at_place c.args.i))) (ap (lined_of c.args.i) c.in-TooLong.is) c.add_frame.ensures.stored
           (λ y e. clash (let z : Framed-as-TooLong ≡ Is y = sym c.in-TooLong.is ∙ e in cc)) c.add_frame.ensures.read;
@@ -139,11 +139,11 @@ returns-in-TooLong c =
 pub returns-in-Broken : goal.returns-in-Broken
 returns-in-Broken c =
     let sizes = line_sizes (form_of c.args.marked) c.args.text.now c.requires.0 c.line_length-n.ensures c.line_bytes-b.ensures.0
-    c.wide.ensures c.within_limits.ensures (ap not c.if-not-within_limits.false) c.well_formed-2.ensures
+    c.from.ensures c.within_limits.ensures (ap not c.if-not-within_limits.false) c.well_formed-2.ensures
     (ap not c.if-not-well_formed.false) c.if-line-b.false c.requires.1 c.requires.2 c.add_frame.ensures.stored in
     record {
       line = line_judged (form_of c.args.marked) c.args.text.now c.requires.0 c.line_length-n.ensures c.line_bytes-b.ensures.0
-          c.wide.ensures c.within_limits.ensures (ap not c.if-not-within_limits.false) c.well_formed-2.ensures
+          c.from.ensures c.within_limits.ensures (ap not c.if-not-within_limits.false) c.well_formed-2.ensures
           (ap not c.if-not-well_formed.false) c.if-line-b.false c.requires.1 c.requires.2 {starts' = c.add_frame.new.starts}
           (Refused (Broken (at_place c.args.i))) (ap (lined_of c.args.i) c.in-Broken.is) c.add_frame.ensures.stored
           (λ y e. clash (let z : Framed-as-Broken ≡ Is y = sym c.in-Broken.is ∙ e in cc)) c.add_frame.ensures.read;

@@ -4,6 +4,8 @@
 use mathlib.Core.Path.{◌∙◌}
 use native.Mathlib.Numerals.{add-one}
 use native.Mathlib.Omega.{arith}
+use borrow.Author.Tests.{tests}
+use Rattle.std.proofs.Common.{rules}
 use lib.ListN.{set, length-set}
 use lib.Seq.{get_or-set_same}
 use Rattle.listing.specs.Form.{form_of}
@@ -29,24 +31,24 @@ pub returns-in-Refused : goal.returns-in-Refused
 returns-in-Refused c =
     record {
       listed = at_refusal (form_of c.new_form-marked.result) c.args.text.now c.loop-rest.rest.now c.loop-rest.frames c.loop-rest.starts
-          c.read_line.new.frames c.read_line.new.starts c.loop-rest.i c.loop-rest.invariant.0 (omega arith)
+          c.read_line.new.frames c.read_line.new.starts c.loop-rest.i c.loop-rest.invariant.0 (search (rules, tests))
           c.read_line.result c.in-Refused.r c.read_line.ensures.line c.in-Refused.is;
       beside = tt;
       lengths = c.read_line.ensures.lengths;
     }
 
 pub loop-rest-smaller : goal.loop-rest-smaller
-loop-rest-smaller c = rw c.take_line-next.ensures (rest_shorter c.loop-rest.rest.now (omega arith))
+loop-rest-smaller c = rw c.take_line-next.ensures (rest_shorter c.loop-rest.rest.now (search (rules, tests)))
 
 pub loop-rest-preserved : goal.loop-rest-preserved
 loop-rest-preserved c =
     let told = c.in-Stands.is in
     let w = form_of c.new_form-marked.result in
     let next = at_next w c.args.text.now c.loop-rest.rest.now c.loop-rest.frames c.loop-rest.starts c.read_line.new.frames
-    c.read_line.new.starts c.loop-rest.i c.loop-rest.invariant.0 (omega arith) c.read_line.result c.read_line.ensures.line told in
+    c.read_line.new.starts c.loop-rest.i c.loop-rest.invariant.0 (search (rules, tests)) c.read_line.result c.read_line.ensures.line told in
     let few = next.held.few in
     let lines = lines_next w c.args.text.now c.loop-rest.rest.now c.loop-rest.lines c.read_line.new.lines c.loop-rest.i
-    c.loop-rest.invariant.1 (omega arith) (omega (arith, few, c.loop-rest.invariant.4)) c.read_line.result c.read_line.ensures.source
+    c.loop-rest.invariant.1 (search (rules, tests)) (omega (arith, few, c.loop-rest.invariant.4)) c.read_line.result c.read_line.ensures.source
     told in (
       rw (c.take_line-next.ensures, add-one) next,
       rw (c.take_line-next.ensures, add-one) lines,
@@ -59,8 +61,8 @@ pub returns : goal.returns
 returns c =
     record {
       listed = at_end (form_of c.new_form-marked.result) c.args.text.now c.loop-rest.rest.now c.loop-rest.frames c.loop-rest.starts
-          c.loop-rest.i c.loop-rest.invariant.0 (omega arith);
+          c.loop-rest.i c.loop-rest.invariant.0 (search (rules, tests));
       beside = lines_end (form_of c.new_form-marked.result) c.args.text.now c.loop-rest.rest.now c.loop-rest.lines c.loop-rest.i
-          c.loop-rest.invariant.1 (omega arith);
+          c.loop-rest.invariant.1 (search (rules, tests));
       lengths = (c.loop-rest.invariant.2, c.loop-rest.invariant.3, c.loop-rest.invariant.4);
     }
