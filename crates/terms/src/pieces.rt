@@ -31,7 +31,7 @@ fn digit(d: usize) -> u8
     requires { d < 10 }
     ensures { result ≡ 48 + d }
 {
-    48 + d as u8
+    b'0' + d as u8
 }
 
 // A number in decimal.
@@ -62,22 +62,22 @@ pub fn put_name(out: &mut [u8; 1024], at: usize, n: usize) -> usize
     ensures { Wrote out.old out.new at (name_text n) result }
 {
     if n < 0x8000 {
-        let a = put(out, at, 103);
+        let a = put(out, at, b'g');
         return five(out, a, n);
     }
-    let a = put(out, at, 46);
-    let b = put(out, a, 108);
+    let a = put(out, at, b'.');
+    let b = put(out, a, b'l');
     five(out, b, n - 0x8000)
 }
 
 // A signed number, given as its four bytes are.
-pub fn put_number(out: &mut [u8; 1024], at: usize, bits: usize) -> usize
-    requires { (length out.old ≡ 1024) × (at ≤ 1025) × (bits < 4294967296) }
+pub fn put_number(out: &mut [u8; 1024], at: usize, bits: u32) -> usize
+    requires { (length out.old ≡ 1024) × (at ≤ 1025) }
     ensures { Wrote out.old out.new at (number (to_z w32 bits)) result }
 {
-    if bits < 2147483648 {
-        return digits(out, at, bits);
+    if bits < 0x8000_0000 {
+        return digits(out, at, bits as usize);
     }
-    let a = put(out, at, 45);
-    digits(out, a, 4294967296 - bits)
+    let a = put(out, at, b'-');
+    digits(out, a, 0x1_0000_0000 - bits as usize)
 }

@@ -13,9 +13,9 @@ fn prefix(o: Op1) -> u8
     ensures { result ≡ sign1 o }
 {
     match o {
-        Op1::Negate => 45,
-        Op1::Upper => 62,
-        Op1::Lower => 60,
+        Op1::Negate => b'-',
+        Op1::Upper => b'>',
+        Op1::Lower => b'<',
     }
 }
 
@@ -23,13 +23,13 @@ fn infix(o: Op2) -> u8
     ensures { result ≡ sign2 o }
 {
     match o {
-        Op2::Plus => 43,
-        Op2::Minus => 45,
-        Op2::Times => 42,
-        Op2::Divide => 47,
-        Op2::Xor => 94,
-        Op2::And => 38,
-        Op2::Or => 124,
+        Op2::Plus => b'+',
+        Op2::Minus => b'-',
+        Op2::Times => b'*',
+        Op2::Divide => b'/',
+        Op2::Xor => b'^',
+        Op2::And => b'&',
+        Op2::Or => b'|',
     }
 }
 
@@ -38,9 +38,9 @@ fn open_one(out: &mut [u8; 1024], at: usize, o: Op1, inside: bool) -> usize
     requires { (length out.old ≡ 1024) × (at ≤ 1025) }
     ensures { Wrote out.old out.new at (before1 inside o) result }
 {
-    let a = put_if(out, at, 40, inside);
+    let a = put_if(out, at, b'(', inside);
     let b = put(out, a, prefix(o));
-    put(out, b, 40)
+    put(out, b, b'(')
 }
 
 // What stands behind it.
@@ -48,14 +48,14 @@ fn shut_one(out: &mut [u8; 1024], at: usize, inside: bool) -> usize
     requires { (length out.old ≡ 1024) × (at ≤ 1025) }
     ensures { Wrote out.old out.new at (behind1 inside) result }
 {
-    let a = put(out, at, 41);
-    put_if(out, a, 41, inside)
+    let a = put(out, at, b')');
+    put_if(out, a, b')', inside)
 }
 
 pub fn wide(b: u8) -> usize
     ensures { (result ≡ b) × (result < 256) }
 {
-    b as usize
+    usize::from(b)
 }
 
 fn number_at(s: &[u8], out: &mut [u8; 1024], at: usize) -> Went
@@ -66,7 +66,7 @@ fn number_at(s: &[u8], out: &mut [u8; 1024], at: usize) -> Went
     if s.len() < 5 {
         return Went { taken: 0, to: at };
     }
-    let bits = wide(s[1]) * 16777216 + wide(s[2]) * 65536 + wide(s[3]) * 256 + wide(s[4]);
+    let bits = u32::from_be_bytes([s[1], s[2], s[3], s[4]]);
     let to = put_number(out, at, bits);
     Went { taken: 5, to }
 }
@@ -79,7 +79,7 @@ fn name_at(s: &[u8], out: &mut [u8; 1024], at: usize) -> Went
     if s.len() < 3 {
         return Went { taken: 0, to: at };
     }
-    let to = put_name(out, at, wide(s[1]) * 256 + wide(s[2]));
+    let to = put_name(out, at, usize::from(u16::from_be_bytes([s[1], s[2]])));
     Went { taken: 3, to }
 }
 
@@ -88,7 +88,7 @@ pub fn term(s: &[u8], out: &mut [u8; 1024], at: usize, inside: bool) -> Went
     requires { (length out.old ≡ 1024) × (at ≤ 1025) }
     ensures { Told inside s.now out.old out.new at result.taken result.to }
 {
-    if s.len() < 1 {
+    if s.is_empty() {
         return Went { taken: 0, to: at };
     }
     match tag_of(s[0]) {
@@ -103,14 +103,14 @@ pub fn term(s: &[u8], out: &mut [u8; 1024], at: usize, inside: bool) -> Went
             Went { taken, to }
         }
         Tag::Two(o) => {
-            let a = put_if(out, at, 40, inside);
+            let a = put_if(out, at, b'(', inside);
             let x = term(&s[1..], out, a, true);
             let k = 1 + x.taken;
             let b = x.to;
             let c = put(out, b, infix(o));
             let y = term(&s[k..], out, c, true);
             let d = y.to;
-            let to = put_if(out, d, 41, inside);
+            let to = put_if(out, d, b')', inside);
             let taken = k + y.taken;
             Went { taken, to }
         }
