@@ -5,7 +5,7 @@ mod pieces; // bytes, numbers, names
 mod terms; // expressions
 
 pub use pieces::{digits, put, put_name};
-pub use terms::{term, wide};
+pub use terms::term;
 
 // How many bytes of the frame an expression took, and where its text ends.
 #[derive(Clone, Copy)]

@@ -52,12 +52,6 @@ fn shut_one(out: &mut [u8; 1024], at: usize, inside: bool) -> usize
     put_if(out, a, b')', inside)
 }
 
-pub fn wide(b: u8) -> usize
-    ensures { (result ≡ b) × (result < 256) }
-{
-    usize::from(b)
-}
-
 fn number_at(s: &[u8], out: &mut [u8; 1024], at: usize) -> Went
     requires { (length out.old ≡ 1024) × (at ≤ 1025) }
     ensures { let t = s.now in

@@ -10,7 +10,7 @@ use Rattle.laws.specs.Lists.{each}
 use Rattle.laws.proofs.Tests.{clash}
 use Rattle.laws.proofs.Stores.{rest_is}
 use Rattle.rules.specs.declared.Kind.{Kind}
-use Rattle.rules.specs.declared.Kind.TheVariants.{Reg}
+use Rattle.rules.specs.declared.Kind.TheVariants.{Reg, I8, D9, Bit, Rel8, A12, A16, Rel16}
 use Rattle.rules.specs.Expressions.{Expr, got, parse, read_expr, bytes_of}
 use Rattle.rules.specs.Forms.{operands_at}
 use Rattle.rules.specs.Output.{operand_bytes}
@@ -147,6 +147,17 @@ one_more {b} {a₀} {a₁} {a₂} {at} {m₀} {m₁} {t} {to} form j k by s e p 
 
 pub argued_as : {b a : List ℕ} {at t to : ℕ} {k l : Kind} (s : List ℕ) → k ≡ l → Argued l s b a at t to → Argued k s b a at t to
 argued_as {b} {a} {at} {t} {to} s e w = subst (λ y. Argued y s b a at t to) (sym e) w
+
+-- neither a register nor marked with `#`
+pub unmarked : (k : Kind) → (k ≡ Reg → ⊥) → (k ≡ I8 → ⊥) → (is_reg k ≡ false) × ((e : Expr) → arg_text k (value e) ≡ expr_text e)
+unmarked Reg n m = absurd (n refl)
+unmarked I8 n m = absurd (m refl)
+unmarked D9 n m = (refl, λ e. refl)
+unmarked Bit n m = (refl, λ e. refl)
+unmarked Rel8 n m = (refl, λ e. refl)
+unmarked A12 n m = (refl, λ e. refl)
+unmarked A16 n m = (refl, λ e. refl)
+unmarked Rel16 n m = (refl, λ e. refl)
 
 -- an expression with no mark
 pub plain_argued : {b a : List ℕ} {at t to : ℕ} (k : Kind) (s : List ℕ) → is_reg k ≡ false

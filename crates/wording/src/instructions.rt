@@ -18,15 +18,12 @@ fn register(s: &[u8], out: &mut [u8; 1024], at: usize) -> Went
     requires { (length out.old ≡ 1024) × (at ≤ 1025) }
     ensures { Registered s.now out.old out.new at result.taken result.to }
 {
-    if s.len() < 1 {
+    if s.is_empty() || s[0] > 3 {
         return Went { taken: 0, to: at };
     }
-    if s[0] > 3 {
-        return Went { taken: 0, to: at };
-    }
-    let a = put(out, at, 64);
-    let b = put(out, a, 82);
-    let to = put(out, b, 48 + s[0]);
+    let a = put(out, at, b'@');
+    let b = put(out, a, b'R');
+    let to = put(out, b, b'0' + s[0]);
     Went { taken: 1, to }
 }
 
@@ -38,15 +35,12 @@ fn argument(s: &[u8], k: Kind, out: &mut [u8; 1024], at: usize) -> Went
     match k {
         Kind::Reg => register(s, out, at),
         Kind::I8 => {
-            let a = put(out, at, 35);
+            let a = put(out, at, b'#');
             term(s, out, a, false)
         }
-        Kind::D9 => term(s, out, at, false),
-        Kind::Bit => term(s, out, at, false),
-        Kind::Rel8 => term(s, out, at, false),
-        Kind::A12 => term(s, out, at, false),
-        Kind::A16 => term(s, out, at, false),
-        Kind::Rel16 => term(s, out, at, false),
+        Kind::D9 | Kind::Bit | Kind::Rel8 | Kind::A12 | Kind::A16 | Kind::Rel16 => term(
+            s, out, at, false,
+        ),
     }
 }
 
@@ -64,7 +58,7 @@ fn arguments(s: &[u8], form: u8, j: usize, out: &mut [u8; 1024], at: usize, by: 
             let x = argument(s, k, out, a);
             let n = x.taken;
             let b = x.to;
-            arguments(&s[n..], form, j + 1, out, b, 44)
+            arguments(&s[n..], form, j + 1, out, b, b',')
         }
         Operand::Nothing => at,
     }
@@ -77,5 +71,5 @@ pub fn instruction_line(frame: &[u8], out: &mut [u8; 1024]) -> usize
 {
     let form = frame[1];
     let a = put_mnemonic(out, form);
-    arguments(&frame[2..], form, 0, out, a, 32)
+    arguments(&frame[2..], form, 0, out, a, b' ')
 }

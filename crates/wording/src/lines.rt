@@ -8,21 +8,21 @@ ghost use Rattle.terms.specs.Writing.{Wrote};
 ghost use Rattle.wording.specs.Writing.{Itemed, Written, DataWritten};
 
 use crate::words::put_dot_word;
-use terms::{digits, put, put_name, term, wide};
+use terms::{digits, put, put_name, term};
 
 // So many items of data, `by` before the first and a comma before each other.
 pub fn items(s: &[u8], count: usize, out: &mut [u8; 1024], at: usize, by: u8) -> usize
     requires { (length out.old ≡ 1024) × (at ≤ 1025) }
     ensures { Itemed by s.now out.old out.new count at result }
 {
-    if count < 1 {
+    if count == 0 {
         return at;
     }
     let a = put(out, at, by);
     let x = term(s, out, a, false);
     let k = x.taken;
     let b = x.to;
-    items(&s[k..], count - 1, out, b, 44)
+    items(&s[k..], count - 1, out, b, b',')
 }
 
 // The two bytes behind the first.
@@ -30,7 +30,7 @@ fn pair(frame: &[u8]) -> usize
     requires { 3 ≤ length frame.now }
     ensures { (result ≡ pair_at frame.now 1) × (result < 65536) }
 {
-    wide(frame[1]) * 256 + wide(frame[2])
+    usize::from(u16::from_be_bytes([frame[1], frame[2]]))
 }
 
 pub fn label_line(frame: &[u8], out: &mut [u8; 1024]) -> usize
@@ -39,7 +39,7 @@ pub fn label_line(frame: &[u8], out: &mut [u8; 1024]) -> usize
 {
     let n = pair(frame);
     let a = put_name(out, 0, n);
-    put(out, a, 58)
+    put(out, a, b':')
 }
 
 pub fn variable_line(frame: &[u8], out: &mut [u8; 1024]) -> usize
@@ -48,7 +48,7 @@ pub fn variable_line(frame: &[u8], out: &mut [u8; 1024]) -> usize
 {
     let n = pair(frame);
     let a = put_name(out, 0, n);
-    let b = put(out, a, 61);
+    let b = put(out, a, b'=');
     let x = term(&frame[3..], out, b, false);
     x.to
 }
@@ -59,7 +59,7 @@ pub fn org_line(frame: &[u8], out: &mut [u8; 1024]) -> usize
 {
     let n = pair(frame);
     let a = put_dot_word(out, 5);
-    let b = put(out, a, 32);
+    let b = put(out, a, b' ');
     digits(out, b, n)
 }
 
@@ -68,9 +68,9 @@ pub fn data_line(frame: &[u8], out: &mut [u8; 1024]) -> usize
     requires { (length out.old ≡ 1024) × (2 ≤ length frame.now) × (6 ≤ get_or frame.now 0 0) × (get_or frame.now 0 0 ≤ 7) }
     ensures { DataWritten frame.now out.old out.new result }
 {
-    let n = wide(frame[1]);
+    let n = usize::from(frame[1]);
     let a = put_dot_word(out, frame[0]);
-    items(&frame[2..], n, out, a, 32)
+    items(&frame[2..], n, out, a, b' ')
 }
 
 // A pad: what it adds, and its multiple.
@@ -78,12 +78,12 @@ pub fn pad_line(frame: &[u8], out: &mut [u8; 1024]) -> usize
     requires { (length out.old ≡ 1024) × (4 ≤ length frame.now) }
     ensures { Written 8 frame.now out.old out.new result }
 {
-    let add = wide(frame[1]);
+    let add = usize::from(frame[1]);
     let m = pair(&frame[1..]);
     let a = put_dot_word(out, 8);
-    let b = put(out, a, 32);
+    let b = put(out, a, b' ');
     let c = digits(out, b, add);
-    let d = put(out, c, 44);
+    let d = put(out, c, b',');
     digits(out, d, m)
 }
 
@@ -91,7 +91,7 @@ fn hex_digit(d: u8) -> u8
     requires { d < 16 }
     ensures { result ≡ hex_digit d }
 {
-    if d < 10 { 48 + d } else { 55 + d }
+    if d < 10 { b'0' + d } else { b'A' + (d - 10) }
 }
 
 // Bytes as upper-case digit pairs.
@@ -99,7 +99,7 @@ fn pairs(s: &[u8], out: &mut [u8; 1024], at: usize) -> usize
     requires { (length out.old ≡ 1024) × (at ≤ 1025) }
     ensures { Wrote out.old out.new at (each (λ b. hex_byte b) s.now) result }
 {
-    if s.len() < 1 {
+    if s.is_empty() {
         return at;
     }
     let a = put(out, at, hex_digit(s[0] / 16));
@@ -115,6 +115,6 @@ pub fn comment_line(frame: &[u8], out: &mut [u8; 1024]) -> usize
     if frame.len() < 2 {
         return a;
     }
-    let b = put(out, a, 32);
+    let b = put(out, a, b' ');
     pairs(&frame[1..], out, b)
 }

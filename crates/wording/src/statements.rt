@@ -10,24 +10,13 @@ pub fn line(frame: &[u8], out: &mut [u8; 1024]) -> usize
     requires { (length out.old ≡ 1024) × Framed frame.now }
     ensures { Lined frame.now out.old out.new result }
 {
-    let kind = frame[0];
-    if kind == 1 {
-        return instruction_line(frame, out);
+    match frame[0] {
+        1 => instruction_line(frame, out),
+        2 => label_line(frame, out),
+        3 => variable_line(frame, out),
+        4 => comment_line(frame, out),
+        5 => org_line(frame, out),
+        8 => pad_line(frame, out),
+        _ => data_line(frame, out),
     }
-    if kind == 2 {
-        return label_line(frame, out);
-    }
-    if kind == 3 {
-        return variable_line(frame, out);
-    }
-    if kind == 4 {
-        return comment_line(frame, out);
-    }
-    if kind == 5 {
-        return org_line(frame, out);
-    }
-    if kind == 8 {
-        return pad_line(frame, out);
-    }
-    data_line(frame, out)
 }

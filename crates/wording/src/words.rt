@@ -12,10 +12,7 @@ fn put_word(s: &[u8], out: &mut [u8; 1024], at: usize) -> usize
     requires { (length out.old ≡ 1024) × (at ≤ 1025) }
     ensures { Wrote out.old out.new at (said s.now) result }
 {
-    if s.len() < 1 {
-        return at;
-    }
-    if s[0] == 32 {
+    if s.is_empty() || s[0] == b' ' {
         return at;
     }
     let to = put(out, at, s[0]);

@@ -14,5 +14,5 @@ returns c =
     λ es q f.
     let z = behind_two s (length es) (each (λ e. bytes_of e) es) q in
     wrote_then c.put_dot_word-a.ensures
-    ((rest_items 32 2 s c.items.ensures).all es [] (sym z.0 ∙ sym c.wide-n.ensures.0)
+    ((rest_items 32 2 s c.items.ensures).all es [] (sym z.0 ∙ sym c.from-n.ensures)
     (z.1 ∙ sym (append-nil (each (λ e. bytes_of e) es))) f)
