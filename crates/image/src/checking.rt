@@ -78,10 +78,10 @@ pub fn encodes_at(
         positions.now in
         result ≡ is_ok (encode_at d at.0) }
 {
-    match check_at(frames, state, count, links, values, positions, at) {
-        Checked::Passes => true,
-        Checked::Refused(_) => false,
-    }
+    matches!(
+        check_at(frames, state, count, links, values, positions, at),
+        Checked::Passes
+    )
 }
 
 // All statements in order: 4 and 7 to 11, the first refusal.
@@ -100,15 +100,13 @@ pub fn encode_all(
         positions.now in
         result ≡ checked_as (encode_slots d) }
 {
-    let mut i = 0;
-    while i < count {
+    for i in 0..count {
         match check_at(frames, state, count, links, values, positions, Place(i)) {
             Checked::Passes => {}
             Checked::Refused(r) => {
                 return Checked::Refused(r);
             }
         }
-        i += 1;
     }
     Checked::Passes
 }

@@ -80,8 +80,7 @@ pub fn encode_at(
     let form = form_in(state, at);
     let n = after(positions[i], size(form));
     let mut fields: [u16; 3] = [0; 3];
-    let mut j = 0;
-    while j < operand_count(form) {
+    for j in 0..operand_count(form) {
         match field_at(frames, state, count, links, values, positions, at, j, n) {
             Field::Is(v) => {
                 fields[j] = v;
@@ -90,7 +89,6 @@ pub fn encode_at(
                 return Encoded::Refused(r);
             }
         }
-        j += 1;
     }
     Encoded::Is(encode(instr_at(state, at), fields[0], fields[1], fields[2]))
 }

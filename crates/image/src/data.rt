@@ -71,15 +71,13 @@ pub fn check_items(
         → (write : ℕ → List ℕ) → result ≡ checked_as (items names (bound_of what) write at.0 k 0
         (items_in at.0 frame.now)) }
 {
-    let mut j = 0;
-    while j < n {
+    for j in 0..n {
         match item_field(frame, at, what, j, links, values, count) {
             Field::Is(_) => {}
             Field::Refused(r) => {
                 return Checked::Refused(r);
             }
         }
-        j += 1;
     }
     Checked::Passes
 }

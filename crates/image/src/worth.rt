@@ -17,18 +17,12 @@ use slots::{
     owner_at,
 };
 
-fn register_worth(register: u8) -> Outcome
-    ensures { result ≡ Outcome.Is (pos register) }
-{
-    Outcome::Is(register as i32)
-}
-
 // An inner label: the byte at an offset from its owner's position.
 fn inner_worth(position: u32, offset: u16) -> Outcome
     requires { position ≤ 65536 }
     ensures { result ≡ Outcome.Is (pos (position + offset)) }
 {
-    Outcome::Is((position + offset as u32) as i32)
+    Outcome::Is((position + u32::from(offset)) as i32)
 }
 
 // Argument j of an instruction's own frame, with the links beside it. `at` is the frame's place.
@@ -49,7 +43,7 @@ pub fn own_worth(
 {
     let a = argument_at(state, at, j);
     if is_register(frame[1], j) {
-        return register_worth(frame[a]);
+        return Outcome::Is(i32::from(frame[a]));
     }
     linked_worth(&frame[a..], &links[a..], values, count)
 }

@@ -34,9 +34,7 @@ pub fn image_length(frames: &[u8], state: &State, count: usize, positions: &[u32
         state.now) carry owners offsets links values
         positions.now in Ready d → is_ok (encode_slots d) ≡ true → result ≡ length (image_of d)) }
 {
-    let mut i = count;
-    while 0 < i {
-        i -= 1;
+    for i in (0..count).rev() {
         let q = address(positions[i]);
         if 0 < size_at(frames, state, count, Place(i), q) {
             return address(positions[i + 1]).0;
@@ -45,16 +43,13 @@ pub fn image_length(frames: &[u8], state: &State, count: usize, positions: &[u32
     0
 }
 
-// Zeros in the n bytes from q on.
+// Zeros in the n bytes from q on. Where there is none, q may lie behind the room.
 fn clear(image: &mut [u8], q: Address, n: usize)
     requires { 0 < n → q.0 + n ≤ length image.old }
     ensures { image.new ≡ put image.old q.0 (replicate n 0) }
 {
-    let from = q.0;
-    let mut i = 0;
-    while i < n {
-        image[from + i] = 0;
-        i += 1;
+    if 0 < n {
+        image[q.0..q.0 + n].fill(0);
     }
 }
 
@@ -63,26 +58,11 @@ fn write_code(image: &mut [u8], q: Address, code: Code)
     requires { (code.len ≤ 3) × (0 < code.len → q.0 + code.len ≤ length image.old) }
     ensures { image.new ≡ put image.old q.0 (bytes_of_code code) }
 {
-    let from = q.0;
     let bytes = [code.b0, code.b1, code.b2];
     let n = code.len;
-    let mut k = 0;
-    while k < n {
-        image[from + k] = bytes[k];
-        k += 1;
+    if 0 < n {
+        image[q.0..q.0 + n].copy_from_slice(&bytes[..n]);
     }
-}
-
-fn low(v: u16) -> u8
-    ensures { result ≡ v % 256 }
-{
-    (v % 256) as u8
-}
-
-fn high(v: u16) -> u8
-    ensures { result ≡ v / 256 }
-{
-    (v / 256) as u8
 }
 
 // How many bytes an item of data has.
@@ -102,15 +82,8 @@ fn write_item(image: &mut [u8], q: Address, what: Data, v: u16)
 {
     let from = q.0;
     match what {
-        Data::Bytes => {
-            image[from] = low(v);
-        }
-        Data::Words => {
-            let first = low(v);
-            let second = high(v);
-            image[from] = first;
-            image[from + 1] = second;
-        }
+        Data::Bytes => image[from] = v as u8,
+        Data::Words => image[from..from + 2].copy_from_slice(&v.to_le_bytes()),
     }
 }
 
@@ -134,13 +107,11 @@ fn write_items(
         → image.new ≡ put image.old q.0 b }
 {
     let width = item_width(what);
-    let mut j = 0;
-    while j < n {
+    for j in 0..n {
         let Field::Is(v) = item_field(frame, at, what, j, links, values, count) else {
             return;
         };
         write_item(image, Address(q.0 + width * j), what, v);
-        j += 1;
     }
 }
 
@@ -216,9 +187,7 @@ pub fn write_image(
 {
     let n = image_length(frames, state, count, positions);
     clear(image, Address(0), n);
-    let mut i = count;
-    while 0 < i {
-        i -= 1;
+    for i in (0..count).rev() {
         write_at(
             frames,
             state,

@@ -1,6 +1,5 @@
 -- `checking::encode_all` meets its contract. The invariant: the answer is that of the slots from i on.
 use mathlib.Core.Path.{◌≡◌}
-use Prim.Native.Nat.{◌-◌, ◌≤◌}
 use Rattle.image.specs.Tables.{tables_of}
 use Rattle.image.specs.Encoding.{encode_slots, checked_as}
 use Rattle.image.proofs.Passes.{from_slot}
@@ -9,7 +8,4 @@ use Rattle.image.proofs.checking.encode_all.Given as goal
 abbrev pub invariant-loop-i : goal.invariant-loop-i
 invariant-loop-i l =
     let d = tables_of l.frames l.state l.count l.links l.values l.positions in
-    (l.i ≤ l.count) × (checked_as (encode_slots d) ≡ checked_as (from_slot d l.i))
-
-abbrev pub decreases-loop-i : goal.decreases-loop-i
-decreases-loop-i l = l.count - l.i
+    checked_as (encode_slots d) ≡ checked_as (from_slot d l.i)

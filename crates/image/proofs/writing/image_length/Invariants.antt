@@ -1,6 +1,6 @@
 -- `writing::image_length` meets its contract. The invariant: nothing of the image is left from slot i on.
 use mathlib.Core.List.{List}
-use Prim.Native.Nat.{ℕ, ◌≤◌}
+use Prim.Native.Nat.{ℕ}
 use lib.IntN.{ℤ}
 use Rattle.image.specs.Tables.{tables, Ready}
 use Rattle.image.proofs.Images.{Done}
@@ -9,9 +9,6 @@ use Rattle.image.proofs.writing.image_length.Given as goal
 
 abbrev pub invariant-loop-i : goal.invariant-loop-i
 invariant-loop-i l =
-    (l.i ≤ l.count) × ((carry owners offsets links : List ℕ) (values : List ℤ) →
+    (carry owners offsets links : List ℕ) (values : List ℤ) →
     let d = tables l.frames (starts_in l.state) l.count (forms_in l.state) carry owners offsets links values l.positions in
-    Ready d → Done d l.i)
-
-abbrev pub decreases-loop-i : goal.decreases-loop-i
-decreases-loop-i l = l.i
+    Ready d → Done d l.i

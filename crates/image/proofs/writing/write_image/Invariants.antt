@@ -1,7 +1,7 @@
 -- `writing::write_image` meets its contract. The invariant: zeros, then the image from slot i on, then the room as it was.
 use mathlib.Core.Path.{◌≡◌}
 use mathlib.Core.List.{List}
-use Prim.Native.Nat.{ℕ, ◌≤◌}
+use Prim.Native.Nat.{ℕ}
 use lib.ListN.{length, drop}
 use Rattle.rules.specs.Answers.{ok}
 use Rattle.image.specs.Tables.{tables_of}
@@ -14,8 +14,4 @@ abbrev pub invariant-loop-i : goal.invariant-loop-i
 invariant-loop-i l =
     let d = tables_of l.frames l.state l.count l.links l.values l.positions in
     let n = length (image_of d) in
-    (l.i ≤ l.count) × (length l.image ≡ length l.initial.image) × ((rest : List ℕ) × (from_slot d l.i ≡ ok rest)
-    × (l.image ≡ room_of n rest (drop n l.initial.image)))
-
-abbrev pub decreases-loop-i : goal.decreases-loop-i
-decreases-loop-i l = l.i
+    (rest : List ℕ) × (from_slot d l.i ≡ ok rest) × (l.image ≡ room_of n rest (drop n l.initial.image))

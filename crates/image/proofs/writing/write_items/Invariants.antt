@@ -2,7 +2,7 @@
 -- rest.
 use mathlib.Core.Path.{◌≡◌}
 use mathlib.Core.List.{List, ◌++◌}
-use Prim.Native.Nat.{ℕ, ◌-◌, ◌*◌, ◌≤◌}
+use Prim.Native.Nat.{ℕ, ◌*◌}
 use lib.ListN.{length, drop}
 use Rattle.rules.specs.Answers.{Judged, ok, ◌>>=◌}
 use Rattle.rules.specs.Names.{Entry, key_of, lookup}
@@ -14,11 +14,7 @@ use Rattle.image.proofs.writing.write_items.Given as goal
 
 abbrev pub invariant-loop-j : goal.invariant-loop-j
 invariant-loop-j l =
-    (l.j ≤ l.n) × (length l.image ≡ length l.initial.image)
-    × ((front : List ℕ) × (length front ≡ width_of l.what * l.j) × (l.image ≡ put l.initial.image l.q.0 front)
+    (front : List ℕ) × (length front ≡ width_of l.what * l.j) × (l.image ≡ put l.initial.image l.q.0 front)
     × ((names : List Entry) (k : ℕ) → Linked (λ m. lookup names (key_of k m)) l.frame l.links l.values l.count →
     let left : ℕ → Judged (List ℕ) = λ m. items names (bound_of l.what) (write_of l.what) l.at.0 k m (drop m (items_in l.at.0 l.frame)) in
-    left 0 ≡ left l.j >>= (λ bs. ok (front ++ bs))))
-
-abbrev pub decreases-loop-j : goal.decreases-loop-j
-decreases-loop-j l = l.n - l.j
+    left 0 ≡ left l.j >>= (λ bs. ok (front ++ bs)))
