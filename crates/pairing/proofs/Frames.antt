@@ -2,11 +2,12 @@
 use mathlib.Core.Path.{◌≡◌, refl, sym, ap, ap₂, ◌∙◌}
 use mathlib.Core.List.{List, [], ◌∷◌, map, reverse, reverse_aux}
 use mathlib.Core.Logic.{⊎_elim}
-use mathlib.Core.Bool.{true, false}
-use Prim.Native.Nat.{ℕ, suc, ◌+◌, ◌-◌, ◌≤◌, ◌<◌}
+use mathlib.Core.Bool.{Bool, true, false}
+use Prim.Native.Nat.{ℕ, zero, suc, min, ◌+◌, ◌-◌, ◌≤◌, ◌<◌}
 use native.Mathlib.Omega.{arith}
 use lib.ListN.{length, get_or, drop, length-drop, length-reverse, get_or-map}
 use lib.Seq.{drop-cons, get_or-drop}
+use Rattle.std.proofs.Common.{Option, Some, None, MatchOption, unwrap_or}
 use Rattle.laws.specs.Lists.{same}
 use Rattle.laws.proofs.Tests.{lt_or_le}
 use Rattle.rules.specs.Listing.{lines_of, statement_lines, unhex}
@@ -64,6 +65,30 @@ common_end a b k h = none_common (drop k a) (drop k b) (omega (arith, length-dro
 
 pub common_end' : (a b : Frames) (k : ℕ) → length b ≤ k → common (drop k a) (drop k b) ≡ 0
 common_end' a b k h = none_common' (drop k a) (drop k b) (omega (arith, length-drop k b))
+
+-- ---- as `find` looks for the first two that differ: t k says whether those at k are the same
+module _ (a b : Frames) (most : ℕ) (h : most ≡ min (length a) (length b)) where
+  taken : (i : ℕ) → i ≤ most → ((k : ℕ) → k < i → same (get_or a k []) (get_or b k []) ≡ true)
+      → common a b ≡ i + common (drop i a) (drop i b)
+  taken zero l e = omega arith
+  taken (suc i) l e =
+      let m = common_more a b i (omega arith) (omega arith) (e i (omega arith)) in
+      omega (arith, m, taken i (omega arith) (λ k o. e k (omega arith)))
+
+  none_left : common (drop most a) (drop most b) ≡ 0
+  none_left = ⊎_elim (λ l. common_end a b most (omega arith)) (λ l. common_end' a b most (omega arith)) (lt_or_le (length a) (length b))
+
+  pub first_unlike : (t : ℕ → Bool) → ((k : ℕ) → k < most → t k ≡ same (get_or a k []) (get_or b k [])) → (o : Option ℕ)
+      → MatchOption o ((k : ℕ) → 0 ≤ k → k < most → t k ≡ true)
+      (λ i. (0 ≤ i) × (i < most) × (t i ≡ false) × ((k : ℕ) → 0 ≤ k → k < i → t k ≡ true))
+      → (unwrap_or o most ≡ common a b) × (unwrap_or o most ≤ most)
+  first_unlike t says None e =
+      (omega (arith, taken most (omega arith) (λ k l. sym (says k l) ∙ e k (omega arith) l), none_left), omega arith)
+  first_unlike t says (Some i) e =
+      let l : i < most = e.1 in
+      let s = common_stop a b i (omega arith) (omega arith) (sym (says i l) ∙ e.2) in
+      let m = taken i (omega arith) (λ k o. sym (says k (omega arith)) ∙ e.3 k (omega arith) o) in
+      (omega (arith, m, s), omega arith)
 
 -- ---- counted from the end
 module _ {A : Type 0} (d : A) where

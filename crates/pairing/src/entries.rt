@@ -3,17 +3,11 @@ ghost use Rattle.std.specs.Prelude.{◌≡◌, ◌&&◌, ◌≤◌, ◌<◌, leb
 ghost use Rattle.pairing.specs.Pairings.{entries_of, good_entries, pairs_from};
 ghost use Rattle.pairing.specs.Tables.{pairs_in};
 
-fn wide(b: u8) -> usize
-    ensures { (result ≡ b) × (result < 256) }
-{
-    b as usize
-}
-
 // An entry that is cut short counts.
 pub fn entry_count(pairing: &[u8]) -> usize
     ensures { result ≡ length (entries_of pairing.now) }
 {
-    pairing.len() / 2 + pairing.len() % 2
+    pairing.len().div_ceil(2)
 }
 
 // Entry k; one that is cut short lies beyond every listing.
@@ -22,7 +16,7 @@ fn entry(pairing: &[u8], k: usize) -> usize
     ensures { (result ≡ get_or (entries_of pairing.now) k 0) × (result ≤ 65536) }
 {
     if 2 * k + 1 < pairing.len() {
-        wide(pairing[2 * k]) * 256 + wide(pairing[2 * k + 1])
+        usize::from(u16::from_be_bytes([pairing[2 * k], pairing[2 * k + 1]]))
     } else {
         65536
     }
@@ -32,13 +26,7 @@ fn entry(pairing: &[u8], k: usize) -> usize
 fn is_good(low: usize, i: usize, n: usize, k: usize, m: usize) -> bool
     ensures { result ≡ (leb low i && (ltb i n && ltb k m)) }
 {
-    if i < low {
-        return false;
-    }
-    if n <= i {
-        return false;
-    }
-    k < m
+    low <= i && i < n && k < m
 }
 
 // The pairs of a list for listings of n and m statements, up to the first entry that is no good; how many they are.
@@ -49,8 +37,7 @@ pub fn take_entries(pairing: &[u8], n: usize, m: usize, pairs: &mut [usize; 2048
 {
     let count = entry_count(pairing);
     let mut low = 0;
-    let mut k = 0;
-    while k < count {
+    for k in 0..count {
         let i = entry(pairing, k);
         if !is_good(low, i, n, k, m) {
             return k;
@@ -58,7 +45,6 @@ pub fn take_entries(pairing: &[u8], n: usize, m: usize, pairs: &mut [usize; 2048
         pairs[k] = i;
         pairs[1024 + k] = k;
         low = i + 1;
-        k += 1;
     }
-    k
+    count
 }

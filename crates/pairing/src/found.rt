@@ -36,17 +36,10 @@ fn alike_first(
     requires { Lined first.now firsts.now n × Lined second.now seconds.now m }
     ensures { (result ≡ beginning (frames_of first.now) (frames_of second.now)) × (result ≤ n) × (result ≤ m) }
 {
-    let mut k = 0;
-    while k < n {
-        if m <= k {
-            return k;
-        }
-        if !same_frame(first, firsts, n, k, second, seconds, m, k) {
-            return k;
-        }
-        k += 1;
-    }
-    k
+    let most = n.min(m);
+    (0..most)
+        .find(|k| !same_frame(first, firsts, n, *k, second, seconds, m, *k))
+        .unwrap_or(most)
 }
 
 // How many frames both end with, behind the b that they begin with.
@@ -63,17 +56,10 @@ fn alike_last(
         × (b ≡ beginning (frames_of first.now) (frames_of second.now)) × (b ≤ n) × (b ≤ m) }
     ensures { (result ≡ ending (frames_of first.now) (frames_of second.now)) × (b + result ≤ n) × (b + result ≤ m) }
 {
-    let mut k = 0;
-    while b + k < n {
-        if m <= b + k {
-            return k;
-        }
-        if !same_frame(first, firsts, n, n - 1 - k, second, seconds, m, m - 1 - k) {
-            return k;
-        }
-        k += 1;
-    }
-    k
+    let most = n.min(m) - b;
+    (0..most)
+        .find(|k| !same_frame(first, firsts, n, n - 1 - *k, second, seconds, m, m - 1 - *k))
+        .unwrap_or(most)
 }
 
 // A run of n pairs from i and j on, behind those that the table has.
@@ -82,12 +68,10 @@ fn put_run(pairs: &mut [usize; 2048], at: usize, i: usize, j: usize, n: usize)
     ensures { (pairs_in pairs.new (at + n) ≡ pairs_in pairs.old at ++ run_of n i j)
         × (length pairs.new ≡ 2048) }
 {
-    let mut k = 0;
-    while k < n {
+    for k in 0..n {
         let e = at + k;
         pairs[e] = i + k;
         pairs[1024 + e] = j + k;
-        k += 1;
     }
 }
 

@@ -31,10 +31,7 @@ pub fn statements_of(text: &[u8]) -> Counted
 fn first_line(text: &[u8]) -> usize
     ensures { FirstAt text.now result }
 {
-    if new_form(text) {
-        return 5;
-    }
-    0
+    if new_form(text) { 5 } else { 0 }
 }
 
 // Where each line begins, and behind the last one the end of the text.
@@ -45,12 +42,9 @@ pub fn find_lines(text: &[u8], n: usize, starts: &mut [usize; 1025])
     let first = first_line(text);
     starts[0] = first;
     let mut rest = &text[first..];
-    let mut i = 0;
-    while i < n {
-        let next = take_line(rest);
-        rest = next;
-        i += 1;
-        starts[i] = text.len() - rest.len();
+    for i in 0..n {
+        rest = take_line(rest);
+        starts[i + 1] = text.len() - rest.len();
     }
 }
 
@@ -67,15 +61,5 @@ pub fn line_at<'a>(text: &'a [u8], starts: &[usize; 1025], n: usize, i: usize) -
 pub fn same_bytes(x: &[u8], y: &[u8]) -> bool
     ensures { result ≡ same x.now y.now }
 {
-    if x.len() != y.len() {
-        return false;
-    }
-    let mut i = 0;
-    while i < x.len() {
-        if x[i] != y[i] {
-            return false;
-        }
-        i += 1;
-    }
-    true
+    x == y
 }

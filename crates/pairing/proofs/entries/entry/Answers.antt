@@ -1,5 +1,6 @@
 -- `entry` meets its contract: its two bytes, or that one is missing. Assumes nothing.
 use mathlib.Core.Path.{sym}
+use Prim.Native.Nat.{◌+◌, ◌*◌}
 use native.Mathlib.Omega.{arith}
 use Rattle.pairing.proofs.EntryList.{entries_count, entry_whole, entry_cut}
 use Rattle.pairing.proofs.entries.entry.Goals as goal
@@ -13,9 +14,9 @@ overflow_add-k c = omega (arith, c.requires, entries_count c.args.pairing.now)
 pub returns-then-k-pairing : goal.returns-then-k-pairing
 returns-then-k-pairing c =
     let e = entry_whole c.args.pairing.now c.args.k c.if-k-pairing.true in
-    let x = c.wide.ensures in
-    let y = c.wide-then-k-pairing.ensures in
-    (omega (arith, e, x.0, y.0), omega (arith, x.1, y.1))
+    let x = c.type_inv.pairing (2 * c.args.k) in
+    let y = c.type_inv.pairing (2 * c.args.k + 1) in
+    (omega (arith, e, c.from_be_bytes.ensures, c.from.ensures), omega (arith, x, y, c.from_be_bytes.ensures, c.from.ensures))
 
 pub returns-else-k-pairing : goal.returns-else-k-pairing
 returns-else-k-pairing c =

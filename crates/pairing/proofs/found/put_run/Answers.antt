@@ -12,7 +12,7 @@ pub loop-k-init : goal.loop-k-init
 unfolding run_of
 loop-k-init c =
     let z : c.args.at + 0 ≡ c.args.at = omega arith in
-    (omega arith, c.requires.3, rw z (sym (append-nil (pairs_in c.args.pairs.now c.args.at))))
+    (c.requires.3, rw z (sym (append-nil (pairs_in c.args.pairs.now c.args.at))))
 
 pub loop-k-preserved : goal.loop-k-preserved
 loop-k-preserved c =
@@ -21,8 +21,7 @@ loop-k-preserved c =
     let p = c.requires in
     let h : a.at + t.k < 1024 = omega (arith, p.0) in
     let z : a.at + (t.k + 1) ≡ a.at + t.k + 1 = omega arith in (
-      omega arith,
-      size_stored t.pairs (a.at + t.k) _ _ h t.invariant.1,
-      rw z (pairs_more t.pairs (a.at + t.k) _ _ h t.invariant.1 ∙ rw (t.invariant.2, run_more t.k a.i a.j)
+      size_stored t.pairs (a.at + t.k) _ _ h t.invariant.0,
+      rw z (pairs_more t.pairs (a.at + t.k) _ _ h t.invariant.0 ∙ rw (t.invariant.1, run_more t.k a.i a.j)
           (append_assoc (pairs_in a.pairs.now a.at) (run_of t.k a.i a.j) _)),
     )

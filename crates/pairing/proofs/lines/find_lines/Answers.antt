@@ -22,17 +22,15 @@ accepted_3 s = let a = is_ok_lem (read_listing s.args.text.now) s.requires.0 in 
 
 pub loop-i-init : goal.loop-i-init
 loop-i-init c =
-    let f = c.first_line-first in (
-      omega arith,
-      rw (rest_is f.result c.args.text.now)
-          (found_first c.args.text.now c.args.starts.now f.result _ (accepted c) c.requires.2 f.ensures),
-    )
+    let f = c.first_line-first in
+    rw (rest_is f.result c.args.text.now)
+    (found_first c.args.text.now c.args.starts.now f.result _ (accepted c) c.requires.2 f.ensures)
 
 pub overflow_sub-starts : goal.overflow_sub-starts
 overflow_sub-starts c =
     let t = c.loop-i in
     let h : t.i < length (chars_of c.args.text.now) = omega (arith, c.requires.1) in
-    omega (arith, ap length c.take_line-next.ensures, rest_within c.args.text.now t.starts t.rest.now t.i t.invariant.1 h)
+    omega (arith, ap length c.take_line-rest.ensures, rest_within c.args.text.now t.starts t.rest.now t.i t.invariant h)
 
 pub bounds-starts-i : goal.bounds-starts-i
 bounds-starts-i c = omega (arith, (accepted_2 c).few)
@@ -43,13 +41,10 @@ loop-i-preserved c =
     let text = c.args.text.now in
     let a = accepted_2 c in
     let h : t.i < length (chars_of text) = omega (arith, c.requires.1) in
-    let e = c.take_line-next.ensures in (
-      omega arith,
-      rw (e, add-one t.i) (found_next text t.starts t.rest.now t.i t.invariant.1 h _ (omega (arith, a.few)) refl),
-    )
+    rw (c.take_line-rest.ensures, add-one t.i) (found_next text t.starts t.rest.now t.i t.invariant h _ (omega (arith, a.few)) refl)
 
 pub returns : goal.returns
 returns c =
     let e : c.loop-i.i ≡ c.args.n = omega arith in
     found_all c.args.text.now c.loop-i.starts c.loop-i.rest.now c.args.n _ (accepted_3 c) c.requires.1
-    (rw e at c.loop-i.invariant.1)
+    (rw e at c.loop-i.invariant)

@@ -1,10 +1,6 @@
 -- `find_lines` meets its contract: after i turns the starts of i lines are found, and the rest of the text is left. Assumes nothing.
-use Prim.Native.Nat.{◌-◌, ◌≤◌}
 use Rattle.pairing.proofs.Finding.{Found}
 use Rattle.pairing.proofs.lines.find_lines.Given as goal
 
 abbrev pub invariant-loop-i : goal.invariant-loop-i
-invariant-loop-i l = (l.i ≤ l.n) × Found l.text l.starts l.rest l.i
-
-abbrev pub decreases-loop-i : goal.decreases-loop-i
-decreases-loop-i l = l.n - l.i
+invariant-loop-i l = Found l.text l.starts l.rest l.i

@@ -13,9 +13,9 @@ returns-then-new_form c =
     let e = sym c.new_form.ensures.0 ∙ c.if-new_form.true in
     (sym (cond_true (is_marked t) _ _ e), marked_long t e, omega arith)
 
-pub returns : goal.returns
+pub returns-else-new_form : goal.returns-else-new_form
 unfolding after_mark
-returns c =
+returns-else-new_form c =
     let t = c.args.text.now in
     let e = sym c.new_form.ensures.0 ∙ c.if-new_form.false in
     (sym (cond_false (is_marked t) _ _ e), omega arith, omega arith)
