@@ -9,3 +9,4 @@ pub mod Order
 pub mod Naming
 pub mod Contexts
 pub mod Trampolines
+pub mod Ranges

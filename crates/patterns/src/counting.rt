@@ -97,10 +97,8 @@ fn in_arguments(
         → result ≡ total (in_operand (mentions f)) (take m (args_of (read_as at.0 frame.now))) }
 {
     let mut found = 0;
-    let mut j = 0;
-    while j < m {
+    for j in 0..m {
         found += in_argument(frame, links, state, at, j, place);
-        j += 1;
     }
     found
 }
@@ -156,10 +154,8 @@ fn in_items(frame: &[u8], links: &[u16], m: usize, place: Place) -> usize
         → result ≡ over_exprs (mentions f) (read_as i frame.now) }
 {
     let mut found = 0;
-    let mut j = 0;
-    while j < m {
+    for j in 0..m {
         found += in_item(frame, links, j, place);
-        j += 1;
     }
     found
 }
@@ -222,10 +218,8 @@ pub fn references(
         RefersAll F t links.now place.0 → result ≡ sum_to (λ j. over_exprs (mentions (F j)) (slot_at t j)) count) }
 {
     let mut found = 0;
-    let mut j = 0;
-    while j < count {
+    for j in 0..count {
         found += in_statement(frames, state, count, links, Place(j), place);
-        j += 1;
     }
     found
 }

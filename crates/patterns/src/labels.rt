@@ -1,11 +1,10 @@
 // Inner labels: the one that a target is, and tests of all of them.
-ghost use Rattle.std.specs.Prelude.{◌≡◌, ◌&&◌, not, List, ℕ, ◌<◌, eqb, leb, ltb};
+ghost use Rattle.std.specs.Prelude.{◌≡◌, ◌&&◌, not, ◌<◌, eqb, leb, ltb};
 ghost use Rattle.rules.specs.Layout.{size_in};
 ghost use Rattle.rules.specs.Rewriting.{every_inner_label, no_inner_label_between, no_interior_label_at};
-ghost use Rattle.listing.specs.Tables.{Held};
-ghost use Rattle.slots.specs.Slots.{slots, program_of, Positioned, Sound};
+ghost use Rattle.slots.specs.Slots.{program_of, Positioned, Sound};
 ghost use Rattle.patterns.specs.Labels.{label_at, of_label, OwnerIn};
-ghost use Rattle.slots.specs.State.{starts_in, forms_in, table_of};
+ghost use Rattle.slots.specs.State.{table_of};
 
 use crate::InnerLabel;
 use crate::targets::form_at;
@@ -35,7 +34,7 @@ fn is_outside(label: InnerLabel, i: Place, m: Place) -> bool
     ensures { result ≡ of_label (λ owner o. not (ltb i.0 owner && leb owner m.0)) label }
 {
     match label {
-        InnerLabel::Of(owner, _) => { if i.0 < owner.0 { m.0 < owner.0 } else { true } }
+        InnerLabel::Of(owner, _) => !(i.0 < owner.0 && owner.0 <= m.0),
         InnerLabel::Nothing => true,
     }
 }
@@ -52,15 +51,7 @@ pub fn no_inner_label_between(
     ensures { let p = program_of (table_of frames.now state.now count) in
         result ≡ no_inner_label_between p i.0 m.0 }
 {
-    let mut j = 0;
-    while j < count {
-        let label = inner_label_at(frames, state, count, Place(j));
-        if !is_outside(label, i, m) {
-            return false;
-        }
-        j += 1;
-    }
-    true
+    (0..count).all(|j| is_outside(inner_label_at(frames, state, count, Place(j)), i, m))
 }
 
 // Not of offset 1 or more in the run right before place i.
@@ -68,7 +59,7 @@ fn is_not_interior(label: InnerLabel, i: Place) -> bool
     ensures { result ≡ of_label (λ owner o. not (eqb owner i.0 && leb 1 o)) label }
 {
     match label {
-        InnerLabel::Of(owner, offset) => { if owner.0 == i.0 { offset < 1 } else { true } }
+        InnerLabel::Of(owner, offset) => !(owner.0 == i.0 && 1 <= offset),
         InnerLabel::Nothing => true,
     }
 }
@@ -79,41 +70,25 @@ pub fn no_interior_label_at(frames: &[u8], state: &State, count: usize, at: Plac
     ensures { let p = program_of (table_of frames.now state.now count) in
         result ≡ no_interior_label_at p at.0 }
 {
-    let mut j = 0;
-    while j < count {
-        let label = inner_label_at(frames, state, count, Place(j));
-        if !is_not_interior(label, at) {
-            return false;
-        }
-        j += 1;
-    }
-    true
+    (0..count).all(|j| is_not_interior(inner_label_at(frames, state, count, Place(j)), at))
 }
 
-// A position of the table.
-fn position_in(x: u32) -> Address
-    ensures { result.0 ≡ x }
-{
-    Address(x as usize)
-}
-
-// The offset is below the size of the owner, where it comes. `positions` are those of the slots.
+// The offset of a slot's inner label is below the size of its owner, where it comes. `positions` are those of the slots.
 fn fits_owner(
     frames: &[u8],
     state: &State,
     count: usize,
     positions: &[u32; 1025],
-    label: InnerLabel,
+    at: Place,
 ) -> bool
-    requires { Held frames.now (starts_in state.now) count × OwnerIn count label }
-    ensures { (carry owners offsets : List ℕ) →
-        (let t = slots frames.now (starts_in state.now) count (forms_in state.now) carry owners offsets in
-        Positioned t positions.now → result ≡ of_label (λ owner o. ltb o (size_in (program_of t) owner)) label) }
+    requires { let t = table_of frames.now state.now count in
+        Sound t × Positioned t positions.now × (at.0 < count) }
+    ensures { let t = table_of frames.now state.now count in
+        result ≡ of_label (λ owner o. ltb o (size_in (program_of t) owner)) (label_at t at.0) }
 {
-    match label {
+    match inner_label_at(frames, state, count, at) {
         InnerLabel::Of(owner, offset) => {
-            let i = owner.0;
-            let q = position_in(positions[i]);
+            let q = Address(positions[owner.0] as usize);
             offset < size_at(frames, state, count, owner, q)
         }
         InnerLabel::Nothing => true,
@@ -127,13 +102,5 @@ pub fn offsets_fit(frames: &[u8], state: &State, count: usize, positions: &[u32;
     ensures { let p = program_of (table_of frames.now state.now count) in
         result ≡ every_inner_label (λ owner o. ltb o (size_in p owner)) p }
 {
-    let mut j = 0;
-    while j < count {
-        let label = inner_label_at(frames, state, count, Place(j));
-        if !fits_owner(frames, state, count, positions, label) {
-            return false;
-        }
-        j += 1;
-    }
-    true
+    (0..count).all(|j| fits_owner(frames, state, count, positions, Place(j)))
 }

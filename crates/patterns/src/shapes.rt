@@ -90,10 +90,8 @@ fn is_free(frames: &[u8], state: &State, count: usize, at: Place, m: Place) -> b
     ensures { let p = program_of (table_of frames.now state.now count) in
         result ≡ no_inner_label_between p at.0 m.0 && no_interior_label_at p at.0 }
 {
-    if no_inner_label_between(frames, state, count, at, m) {
-        return no_interior_label_at(frames, state, count, at);
-    }
-    false
+    no_inner_label_between(frames, state, count, at, m)
+        && no_interior_label_at(frames, state, count, at)
 }
 
 // "Inverted: branch, unconditional, local label that the branch names bare." `from` is the form of the branch; m is the place of the label.
@@ -167,13 +165,10 @@ pub fn trampoline_shape(
     let Landing::At(s, _) = landing_after(frames, state, count, last) else {
         return Trampoline::Nothing;
     };
-    if !names_bare(frames, state, count, links, at, t) {
-        return Trampoline::Nothing;
-    }
-    if !names_bare(frames, state, count, links, skip, s) {
-        return Trampoline::Nothing;
-    }
-    if references(frames, state, count, links, t) == 1 {
+    if names_bare(frames, state, count, links, at, t)
+        && names_bare(frames, state, count, links, skip, s)
+        && references(frames, state, count, links, t) == 1
+    {
         return Trampoline::At(skip, t, last, s);
     }
     Trampoline::Nothing

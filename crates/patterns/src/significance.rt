@@ -16,20 +16,10 @@ fn significant_at(frames: &[u8], state: &State, count: usize, at: Place) -> bool
         (let t = slots frames.now (starts_in state.now) count (forms_in state.now) carry owners offsets in
         result ≡ not (insignificant (slot_at t at.0))) }
 {
-    match slot_at(frames, state, count, at) {
-        Slot::Gone => false,
-        Slot::Form(_) => true,
-        Slot::Holds(statement) => match statement {
-            Statement::Comment(_) => false,
-            Statement::Instr(_)
-            | Statement::Label(_)
-            | Statement::Variable(_, _)
-            | Statement::Org(_)
-            | Statement::Bytes(_, _)
-            | Statement::Words(_, _)
-            | Statement::Pad(_, _) => true,
-        },
-    }
+    !matches!(
+        slot_at(frames, state, count, at),
+        Slot::Gone | Slot::Holds(Statement::Comment(_))
+    )
 }
 
 // The first significant place from a place on; where there is none, a place behind the last.
@@ -39,12 +29,6 @@ pub fn next(frames: &[u8], state: &State, count: usize, from: Place) -> Place
         (let t = slots frames.now (starts_in state.now) count (forms_in state.now) carry owners offsets in
         result.0 ≡ next_place (program_of t) from.0) }
 {
-    let mut j = from.0;
-    while j < count {
-        if significant_at(frames, state, count, Place(j)) {
-            return Place(j);
-        }
-        j += 1;
-    }
-    Place(j)
+    let found = (from.0..count).find(|&j| significant_at(frames, state, count, Place(j)));
+    Place(found.unwrap_or(from.0.max(count)))
 }

@@ -1,7 +1,7 @@
 -- `patterns::counting::in_arguments` meets its contract: one argument more at each turn.
 use mathlib.Core.Path.{◌≡◌}
 use mathlib.Core.Bool.{Bool}
-use Prim.Native.Nat.{ℕ, ◌-◌, ◌*◌, ◌≤◌}
+use Prim.Native.Nat.{ℕ, ◌*◌, ◌≤◌}
 use lib.ListN.{take}
 use Rattle.laws.specs.Lists.{total}
 use Rattle.rules.specs.Expressions.{mentions}
@@ -12,9 +12,6 @@ use Rattle.patterns.proofs.counting.in_arguments.Given as goal
 
 abbrev pub invariant-loop-j : goal.invariant-loop-j
 invariant-loop-j l =
-    (l.j ≤ l.m) × (l.found ≤ 120 * l.j)
+    (l.found ≤ 120 * l.j)
     × ((f : ℕ → Bool) → Referred f l.frame l.links l.place.0 → l.found ≡ total (in_operand (mentions f))
     (take l.j (args_of (read_as l.at.0 l.frame))))
-
-abbrev pub decreases-loop-j : goal.decreases-loop-j
-decreases-loop-j l = l.m - l.j

@@ -20,19 +20,18 @@ few c = omega (arith, (holds c).few, c.requires.1)
 
 pub loop-j-init : goal.loop-j-init
 unfolding total
-loop-j-init c = (omega arith, omega arith, λ i d f l. refl)
+loop-j-init c = (omega arith, λ i d f l. refl)
 
 pub loop-j-preserved : goal.loop-j-preserved
 loop-j-preserved c =
     let l = c.loop-j in (
-      omega arith,
-      omega (arith, l.invariant.1, c.in_item-found.ensures.few),
+      omega (arith, l.invariant.0, c.in_item-found.ensures.few),
       λ i d f r.
           let es = items_of (read_as i c.args.frame.now) in
           let inside : l.j < length es = omega (arith, (data_in i c.args.frame.now d).items.count, c.requires.1) in
           omega (
             arith,
-            l.invariant.2 i d f r,
+            l.invariant.1 i d f r,
             c.in_item-found.ensures.by_index i d f r,
             total_more (mentions f) es l.j (num (pos 0))
                 inside,
@@ -42,11 +41,11 @@ loop-j-preserved c =
 pub returns : goal.returns
 returns c =
     let l = c.loop-j in record {
-      few = omega (arith, l.invariant.1, (holds c).few, c.requires.1);
+      few = omega (arith, l.invariant.0, (holds c).few, c.requires.1);
       by_index = λ i d f r.
           let h = data_in i c.args.frame.now d in
           let es = items_of (read_as i c.args.frame.now) in
           let e : l.j ≡ length es = omega (arith, h.items.count, c.requires.1) in
-          l.invariant.2 i d f r ∙ ap (λ (k : ℕ). total (mentions f) (take k es)) e ∙ ap (total (mentions f)) (take-length es)
+          l.invariant.1 i d f r ∙ ap (λ (k : ℕ). total (mentions f) (take k es)) e ∙ ap (total (mentions f)) (take-length es)
           ∙ sym (h.over (mentions f));
     }

@@ -1,7 +1,7 @@
 -- `patterns::counting::in_items` meets its contract: one item more at each turn, 16 at most.
 use mathlib.Core.Path.{◌≡◌}
 use mathlib.Core.Bool.{Bool}
-use Prim.Native.Nat.{ℕ, ◌-◌, ◌*◌, ◌≤◌}
+use Prim.Native.Nat.{ℕ, ◌*◌, ◌≤◌}
 use lib.ListN.{take}
 use Rattle.laws.specs.Lists.{total}
 use Rattle.rules.specs.Expressions.{mentions}
@@ -12,8 +12,5 @@ use Rattle.patterns.proofs.counting.in_items.Given as goal
 
 abbrev pub invariant-loop-j : goal.invariant-loop-j
 invariant-loop-j l =
-    (l.j ≤ l.m) × (l.found ≤ 120 * l.j) × ((i : ℕ) → DataIn i l.frame → (f : ℕ → Bool) → Referred f l.frame l.links l.place.0 → l.found
+    (l.found ≤ 120 * l.j) × ((i : ℕ) → DataIn i l.frame → (f : ℕ → Bool) → Referred f l.frame l.links l.place.0 → l.found
     ≡ total (mentions f) (take l.j (items_of (read_as i l.frame))))
-
-abbrev pub decreases-loop-j : goal.decreases-loop-j
-decreases-loop-j l = l.m - l.j

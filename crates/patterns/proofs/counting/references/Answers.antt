@@ -26,21 +26,20 @@ over_2 c offsets = slots c.args.frames.now (starts_in c.args.state.now) c.args.c
 
 pub loop-j-init : goal.loop-j-init
 unfolding sum_to
-loop-j-init c = (omega arith, omega arith, λ F offsets r. refl)
+loop-j-init c = (omega arith, λ F offsets r. refl)
 
 pub overflow_add-found : goal.overflow_add-found
 overflow_add-found c =
-    record { fits = omega (arith, c.loop-j.invariant.1, c.in_statement-found.ensures.few, c.loop-j-test.true, (c.requires.1 []).held.few) }
+    record { fits = omega (arith, c.loop-j.invariant.0, c.in_statement-found.ensures.few, c.loop-j-test.true, (c.requires.1 []).held.few) }
 
 pub loop-j-preserved : goal.loop-j-preserved
 loop-j-preserved c =
     let l = c.loop-j in (
-      omega arith,
-      omega (arith, l.invariant.1, c.in_statement-found.ensures.few),
+      omega (arith, l.invariant.0, c.in_statement-found.ensures.few),
       λ F offsets r.
           omega (
             arith,
-            l.invariant.2 F offsets r,
+            l.invariant.1 F offsets r,
             c.in_statement-found.ensures.by_index (F l.j) offsets (r l.j c.loop-j-test.true),
             sum_more (adds F (over c offsets)) l.j,
           ),
@@ -49,4 +48,4 @@ loop-j-preserved c =
 pub returns : goal.returns
 returns c F offsets r =
     let l = c.loop-j in
-    l.invariant.2 F offsets r ∙ at_end (sum_to (adds F (over_2 c offsets))) l.j c.args.count l.invariant.0 c.loop-j-test.false
+    l.invariant.1 F offsets r ∙ at_end (sum_to (adds F (over_2 c offsets))) l.j c.args.count l.auto.j-end c.loop-j-test.false

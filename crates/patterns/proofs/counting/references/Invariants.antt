@@ -2,7 +2,7 @@
 use mathlib.Core.Path.{◌≡◌}
 use mathlib.Core.Bool.{Bool}
 use mathlib.Core.List.{List}
-use Prim.Native.Nat.{ℕ, ◌-◌, ◌*◌, ◌≤◌}
+use Prim.Native.Nat.{ℕ, ◌*◌, ◌≤◌}
 use Rattle.laws.specs.Counts.{sum_to}
 use Rattle.rules.specs.Expressions.{mentions}
 use Rattle.rules.specs.Programs.{over_exprs}
@@ -17,11 +17,8 @@ adds F t j = over_exprs (mentions (F j)) (slot_at t j)
 
 abbrev pub invariant-loop-j : goal.invariant-loop-j
 invariant-loop-j l =
-    (l.j ≤ l.count) × (l.found ≤ 2048 * l.j)
+    (l.found ≤ 2048 * l.j)
     × ((F : ℕ → ℕ → Bool) (offsets : List ℕ) → RefersAll F (slots l.frames (starts_in l.state) l.count (forms_in l.state)
     (carry_in l.state) (owners_in l.state) offsets) l.links l.place.0
     → l.found ≡ sum_to (adds F (slots l.frames (starts_in l.state) l.count (forms_in l.state) (carry_in l.state) (owners_in l.state)
     offsets)) l.j)
-
-abbrev pub decreases-loop-j : goal.decreases-loop-j
-decreases-loop-j l = l.count - l.j

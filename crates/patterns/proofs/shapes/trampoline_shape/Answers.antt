@@ -12,6 +12,7 @@ use Rattle.patterns.proofs.Folds.{opening_found, jump_found, jump_none, landing_
 use Rattle.patterns.proofs.Trampolines.{no_branch_to_t, no_jump_to_s, not_once, branch_refers, skip_refers, all_found}
 use Rattle.slots.specs.State.{forms_in, carry_in, owners_in, offsets_in, table_of}
 use Rattle.patterns.proofs.shapes.trampoline_shape.Goals as goal
+use Rattle.patterns.proofs.shapes.trampoline_shape.Goals.{else-names_bare-via-then-names_bare+then-names_bare-2+else-references-eq1, else-names_bare-via-then-names_bare+else-names_bare-2, else-names_bare-via-else-names_bare}
 
 pub returns-in_default-jump_after : goal.returns-in_default-jump_after
 returns-in_default-jump_after c =
@@ -46,50 +47,14 @@ names_bare-requires c =
     let m = opens.branches in
     (c.requires.0.held, c.requires.2, carried_target t c.requires.0 c.args.at.0 m.inside m.kind m.transfer, c.requires.1.beside.full)
 
-pub returns-then-not-names_bare : goal.returns-then-not-names_bare
-returns-then-not-names_bare c =
-    let t : Slots = table_of c.args.frames.now c.args.state.now c.args.count in
-    let opens : OpeningFound t c.args.form c.args.at.0 c.in-At.skip.0 c.in-At.t.0 c.in-At.field-2 =
-    opening_found t c.args.at.0 c.args.form c.in-At.is
-    (c.opening_at.ensures (carry_in c.args.state.now) (owners_in c.args.state.now) (offsets_in c.args.state.now)) in
-    let jumps : JumpFound t c.in-At.t.0 c.in-At-jump_after.last.0 =
-    jump_found t c.in-At.t.0 c.in-At-jump_after.is
-    (c.jump_after.ensures (carry_in c.args.state.now) (owners_in c.args.state.now) (offsets_in c.args.state.now)) in
-    let lands : LandingFound t c.in-At-jump_after.last.0 c.in-At-landing_after.s.0 c.in-At-landing_after.field-1 =
-    landing_found t c.in-At-jump_after.last.0 c.in-At-landing_after.is
-    (c.landing_after.ensures (carry_in c.args.state.now) (owners_in c.args.state.now) (offsets_in c.args.state.now)) in
-    let to_t =
-    c.names_bare.ensures c.in-At.field-2 (branch_refers opens jumps lands c.requires.0 (λ k. (c.shared_slice_known-1.given k).fits)
-    c.args.links.now c.requires.1)
-    (forms_in c.args.state.now) (offsets_in c.args.state.now) c.requires.0 opens.branches.kind opens.branches.transfer in
-    no_branch_to_t opens jumps lands (sym to_t ∙ c.if-not-names_bare.true)
-
-pub names_bare-requires-2 : goal.names_bare-requires-2
-names_bare-requires-2 c =
+pub names_bare-requires-then-names_bare : goal.names_bare-requires-then-names_bare
+names_bare-requires-then-names_bare c =
     let t : Slots = table_of c.args.frames.now c.args.state.now c.args.count in
     let opens : OpeningFound t c.args.form c.args.at.0 c.in-At.skip.0 c.in-At.t.0 c.in-At.field-2 =
     opening_found t c.args.at.0 c.args.form c.in-At.is
     (c.opening_at.ensures (carry_in c.args.state.now) (owners_in c.args.state.now) (offsets_in c.args.state.now)) in
     let m = opens.jumps.moves in
     (c.requires.0.held, m.inside, carried_target t c.requires.0 c.in-At.skip.0 m.inside m.kind m.transfer, c.requires.1.beside.full)
-
-pub returns-then-not-names_bare-2 : goal.returns-then-not-names_bare-2
-returns-then-not-names_bare-2 c =
-    let t : Slots = table_of c.args.frames.now c.args.state.now c.args.count in
-    let opens : OpeningFound t c.args.form c.args.at.0 c.in-At.skip.0 c.in-At.t.0 c.in-At.field-2 =
-    opening_found t c.args.at.0 c.args.form c.in-At.is
-    (c.opening_at.ensures (carry_in c.args.state.now) (owners_in c.args.state.now) (offsets_in c.args.state.now)) in
-    let jumps : JumpFound t c.in-At.t.0 c.in-At-jump_after.last.0 =
-    jump_found t c.in-At.t.0 c.in-At-jump_after.is
-    (c.jump_after.ensures (carry_in c.args.state.now) (owners_in c.args.state.now) (offsets_in c.args.state.now)) in
-    let lands : LandingFound t c.in-At-jump_after.last.0 c.in-At-landing_after.s.0 c.in-At-landing_after.field-1 =
-    landing_found t c.in-At-jump_after.last.0 c.in-At-landing_after.is
-    (c.landing_after.ensures (carry_in c.args.state.now) (owners_in c.args.state.now) (offsets_in c.args.state.now)) in
-    let to_s =
-    c.names_bare-2.ensures c.in-At-landing_after.field-1
-    (skip_refers opens jumps lands c.requires.0 (λ k. (c.shared_slice_known-1.given k).fits) c.args.links.now c.requires.1)
-    (forms_in c.args.state.now) (offsets_in c.args.state.now) c.requires.0 opens.jumps.moves.kind opens.jumps.moves.transfer in
-    no_jump_to_s opens jumps lands (sym to_s ∙ c.if-not-names_bare-2.true)
 
 pub references-requires : goal.references-requires
 references-requires c =
@@ -112,7 +77,7 @@ returns-then-references-eq1 c =
     c.args.links.now c.requires.1)
     (forms_in c.args.state.now) (offsets_in c.args.state.now) c.requires.0 opens.branches.kind opens.branches.transfer in
     let to_s =
-    c.names_bare-2.ensures c.in-At-landing_after.field-1
+    c.names_bare-then-names_bare.ensures c.in-At-landing_after.field-1
     (skip_refers opens jumps lands c.requires.0 (λ k. (c.shared_slice_known-1.given k).fits) c.args.links.now c.requires.1)
     (forms_in c.args.state.now) (offsets_in c.args.state.now) c.requires.0 opens.jumps.moves.kind opens.jumps.moves.transfer in
     let here = context_at (program_of t) c.in-At.t.0 in
@@ -121,9 +86,10 @@ returns-then-references-eq1 c =
     (refers_to t c.requires.0 (λ k. (c.shared_slice_known-1.given k).fits) c.args.links.now c.requires.1 c.in-At.t.0 c.in-At.field-2
     opens.lands.inside opens.lands.is)
     ∙ sym (references_by t here c.in-At.field-2) in
-    all_found opens jumps lands c.requires.0.held (sym to_t ∙ c.if-not-names_bare.false) (sym to_s ∙ c.if-not-names_bare-2.false)
+    all_found opens jumps lands c.requires.0.held (sym to_t ∙ c.if-names_bare.true) (sym to_s ∙ c.if-names_bare-2.true)
     (sym counted ∙ c.if-references-eq1.true)
 
+-- a name that is not bare, or a second reference
 pub returns : goal.returns
 returns c =
     let t : Slots = table_of c.args.frames.now c.args.state.now c.args.count in
@@ -136,10 +102,24 @@ returns c =
     let lands : LandingFound t c.in-At-jump_after.last.0 c.in-At-landing_after.s.0 c.in-At-landing_after.field-1 =
     landing_found t c.in-At-jump_after.last.0 c.in-At-landing_after.is
     (c.landing_after.ensures (carry_in c.args.state.now) (owners_in c.args.state.now) (offsets_in c.args.state.now)) in
-    let here = context_at (program_of t) c.in-At.t.0 in
-    let counted : c.references.result ≡ references here c.in-At.field-2 (program_of t) =
-    c.references.ensures (means t here c.in-At.field-2) (offsets_in c.args.state.now)
-    (refers_to t c.requires.0 (λ k. (c.shared_slice_known-1.given k).fits) c.args.links.now c.requires.1 c.in-At.t.0 c.in-At.field-2
-    opens.lands.inside opens.lands.is)
-    ∙ sym (references_by t here c.in-At.field-2) in
-    not_once opens jumps lands (λ e. c.if-references-eq1.false (counted ∙ e))
+    let to_t =
+    c.names_bare.ensures c.in-At.field-2 (branch_refers opens jumps lands c.requires.0 (λ k. (c.shared_slice_known-1.given k).fits)
+    c.args.links.now c.requires.1)
+    (forms_in c.args.state.now) (offsets_in c.args.state.now) c.requires.0 opens.branches.kind opens.branches.transfer in
+    elim c.else-names_bare.branch [
+      | else-names_bare-via-then-names_bare+then-names_bare-2+else-references-eq1 w ↦
+          let here = context_at (program_of t) c.in-At.t.0 in
+          let counted : w.references.result ≡ references here c.in-At.field-2 (program_of t) =
+          w.references.ensures (means t here c.in-At.field-2) (offsets_in c.args.state.now)
+          (refers_to t c.requires.0 (λ k. (c.shared_slice_known-1.given k).fits) c.args.links.now c.requires.1 c.in-At.t.0 c.in-At.field-2
+          opens.lands.inside opens.lands.is)
+          ∙ sym (references_by t here c.in-At.field-2) in
+          not_once opens jumps lands (λ e. w.if-references-eq1.false (counted ∙ e))
+      | else-names_bare-via-then-names_bare+else-names_bare-2 w ↦
+          let to_s =
+          w.names_bare-then-names_bare.ensures c.in-At-landing_after.field-1
+          (skip_refers opens jumps lands c.requires.0 (λ k. (c.shared_slice_known-1.given k).fits) c.args.links.now c.requires.1)
+          (forms_in c.args.state.now) (offsets_in c.args.state.now) c.requires.0 opens.jumps.moves.kind opens.jumps.moves.transfer in
+          no_jump_to_s opens jumps lands (sym to_s ∙ w.if-names_bare-2.false)
+      | else-names_bare-via-else-names_bare w ↦ no_branch_to_t opens jumps lands (sym to_t ∙ w.if-names_bare.false)
+    ]
