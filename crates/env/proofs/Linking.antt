@@ -1,22 +1,36 @@
 -- Links filled byte by byte and frame by frame, and that at most one place defines a name where no name is defined twice.
 use mathlib.Core.Path.{◌≡◌, refl, sym, ap, ap₂, subst, ◌∙◌}
 use mathlib.Core.Logic.{⊎_elim}
+use mathlib.Core.Bool.{Bool, true, false}
 use mathlib.Core.List.{List}
 use Prim.Native.Nat.{ℕ, zero, suc, ◌+◌, ◌-◌, ◌*◌, ◌≤◌, ◌<◌}
+use Rattle.std.specs.Prelude.{eqb}
 use native.Mathlib.Omega.{arith}
 use lib.ListN.{length, get_or, set, drop}
 use lib.Seq.{get_or-set_same, get_or-set_other, get_or-take, get_or-drop}
+use borrow.Author.Tests.{eq-eqb, ne_eqb}
+use Rattle.laws.proofs.Tests.{false_true}
 use Rattle.laws.proofs.Counts.{below_suc}
 use Rattle.rules.specs.declared.Tag.TheVariants.{Name}
 use Rattle.rules.specs.Expressions.{tag_of, name_of}
+use Rattle.expression.specs.Environment.{is_here}
 use Rattle.expression.specs.Linked.{Links}
 use Rattle.listing.specs.Tables.{frame_at, Held}
 use Rattle.slots.proofs.Tables.{length_frame}
-use Rattle.env.specs.Linking.{Means, LinkedTo}
+use Rattle.env.specs.Linking.{OneAtMost, Means, LinkedTo}
 
 -- the name that begins at byte b
 pub name_at_byte : (frames : List ℕ) (b : ℕ) → name_of (drop b frames) ≡ get_or frames (b + 1) 0 * 256 + get_or frames (b + 2) 0
 name_at_byte frames b = ap₂ (λ x y. x * 256 + y) (get_or-drop b frames 1 0) (get_or-drop b frames 2 0)
+
+-- a place that defines a name is the one that it means, where no name is defined twice
+pub means_found : (names contexts : List ℕ) (n k m l : ℕ) → OneAtMost names contexts n → l < n → is_here (get_or names l 0) (get_or contexts l 0) m k ≡ true
+    → Means names contexts n k m l
+means_found names contexts n k m l one low here = record { place = λ i p. on i p (is_here (get_or names i 0) (get_or contexts i 0) m k) refl }
+  where
+    on : (i : ℕ) → i < n → (b : Bool) → is_here (get_or names i 0) (get_or contexts i 0) m k ≡ b → is_here (get_or names i 0) (get_or contexts i 0) m k ≡ eqb i l
+    on i p true e = e ∙ sym (eq-eqb i l (one.same k m i l p low e here))
+    on i p false e = e ∙ sym (ne_eqb i l (λ z. false_true (sym e ∙ ap (λ j. is_here (get_or names j 0) (get_or contexts j 0) m k) z ∙ here)))
 
 -- ---- the bytes of a frame, come to byte a
 

@@ -1,6 +1,6 @@
 // Names found once a run: beside each byte of a frame that may begin a name, the place of the statement that defines it. No rewrite changes
 // what a name as read means, so that a candidate looks nothing up.
-ghost use Rattle.std.specs.Prelude.{◌≡◌, true, false, ℕ, suc, ◌+◌, ◌*◌, ◌<◌, ◌≤◌, length, get_or, drop};
+ghost use Rattle.std.specs.Prelude.{◌≡◌, ℕ, ◌+◌, ◌<◌, ◌≤◌, length, get_or, drop};
 ghost use Rattle.rules.specs.declared.Tag.TheVariants.{Name};
 ghost use Rattle.rules.specs.Expressions.{tag_of, name_of};
 ghost use Rattle.expression.specs.Linked.{Links};
@@ -26,30 +26,10 @@ fn place_of(
     requires { (count ≤ 1024) × OneAtMost names.now contexts.now count }
     ensures { Means names.now contexts.now count context name result }
 {
-    let mut i = 0;
-    while i < count {
-        if defines(names[i], contexts[i], name, context) {
-            return i as u16;
-        }
-        i += 1;
+    match (0..count).find(|&i| defines(names[i], contexts[i], name, context)) {
+        Some(i) => i as u16,
+        None => NONE,
     }
-    NONE
-}
-
-// A name may begin with this byte.
-fn begins_name(b: u8) -> bool
-    ensures { (result ≡ true → tag_of b ≡ Name) × (result ≡ false → tag_of b ≡ Name → ⊥) }
-{
-    match tag_of(b) {
-        Tag::Name => true,
-        Tag::Number | Tag::Two(_) | Tag::One(_) | Tag::Bad => false,
-    }
-}
-
-fn pair(a: u8, b: u8) -> u16
-    ensures { result ≡ a * 256 + b }
-{
-    a as u16 * 256 + b as u16
 }
 
 // The link of the byte at a: where a name may begin there, the place that it means in `context`.
@@ -65,11 +45,11 @@ fn link_at(
     ensures { tag_of (get_or frames.now a 0) ≡ Name
         → Means names.now contexts.now count context (name_of (drop a frames.now)) result }
 {
-    if begins_name(frames[a]) {
-        let name = pair(frames[a + 1], frames[a + 2]);
-        return place_of(names, contexts, count, context, name);
+    if !matches!(tag_of(frames[a]), Tag::Name) {
+        return NONE;
     }
-    NONE
+    let name = u16::from_be_bytes([frames[a + 1], frames[a + 2]]);
+    place_of(names, contexts, count, context, name)
 }
 
 // Links the bytes of the frame from `from` to `end`, of a statement in `context`.
@@ -89,10 +69,9 @@ fn link_frame(
     ensures linked { LinkedTo frames.now names.now contexts.now count context from end end
         links.old links.new }
 {
-    let mut a = from;
-    while a + 2 < end {
+    // a name has three bytes
+    for a in from..end.saturating_sub(2) {
         links[a] = link_at(frames, names, contexts, count, context, a);
-        a += 1;
     }
 }
 
@@ -112,8 +91,7 @@ pub fn fill_links(
         (frame_at frames.now (starts_in state.now) c) (frame_at links.new
         (starts_in state.now) c) }
 {
-    let mut i = 0;
-    while i < count {
+    for i in 0..count {
         let from = start_at(state, i);
         let end = start_at(state, i + 1);
         link_frame(
@@ -126,6 +104,5 @@ pub fn fill_links(
             end,
             links,
         );
-        i += 1;
     }
 }

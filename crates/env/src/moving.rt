@@ -32,13 +32,13 @@ fn moving_at(
         return NO_NAME;
     };
     match statement {
-        Statement::Label(n) => n as u32,
+        Statement::Label(n) => u32::from(n),
         Statement::Variable(n, value) => {
             let frame = frame_at(frames, state, count, at);
             let a = value.0;
             // "above it": the places below i
             if holds_label(&frame[a..], moving, contexts, i, contexts[i]) {
-                n as u32
+                u32::from(n)
             } else {
                 NO_NAME
             }
@@ -65,9 +65,7 @@ pub fn fill_moving(
     ensures { Any frames.now (starts_in state.now) count (forms_in state.now)
         (λ t. keys_of moving.new contexts.now count ≡ moving_of (program_of t)) }
 {
-    let mut i = 0;
-    while i < count {
+    for i in 0..count {
         moving[i] = moving_at(frames, state, count, contexts, moving, Place(i));
-        i += 1;
     }
 }

@@ -1,5 +1,5 @@
 // Positions and values in one pass. Of a candidate it is asked only whether it assembles: which of 4 to 7 comes first does not matter.
-ghost use Rattle.std.specs.Prelude.{◌≡◌, ◌≤◌, length, get_or};
+ghost use Rattle.std.specs.Prelude.{◌≡◌, length};
 ghost use Rattle.listing.specs.Tables.{Held};
 ghost use Rattle.slots.specs.Links.{contexts_read, Beside};
 ghost use Rattle.env.specs.Tables.{Any, InContext};
@@ -11,13 +11,6 @@ use crate::variables::value_at;
 use crate::{Moved, Valued};
 use rules::{Address, Place};
 use slots::State;
-
-// A number of the table of positions, as an address.
-fn address(q: u32) -> Address
-    ensures { result.0 ≡ q }
-{
-    Address(q as usize)
-}
 
 // Fills the position of each place, of the end behind them, and what each place's name stands for, up to the first statement that does not
 // settle or has no value.
@@ -37,9 +30,9 @@ pub fn settle_all(
         (λ t. Settled t result positions.new values.new) }
 {
     positions[0] = 0;
-    let mut i = 0;
-    while i < count {
-        match advance(frames, state, count, Place(i), address(positions[i])) {
+    for i in 0..count {
+        let here = Address(positions[i] as usize);
+        match advance(frames, state, count, Place(i), here) {
             Moved::To(next) => positions[i + 1] = next.0 as u32,
             Moved::Refused(_) => return false,
         }
@@ -47,7 +40,6 @@ pub fn settle_all(
             Valued::Is(z) => values[i] = z,
             Valued::Refused(_) => return false,
         }
-        i += 1;
     }
     true
 }

@@ -12,24 +12,23 @@ link_frame-requires c =
     c.start_at-end.result
     c.loop-i-test.true c.start_at-from.ensures c.start_at-end.ensures in
     record {
-      frames_len = (c.requires.0.full, c.loop-i.invariant.1, omega (arith, ends.0), omega (arith, ends.1, c.requires.0.full));
+      frames_len = (c.requires.0.full, c.loop-i.invariant.0, omega (arith, ends.0), omega (arith, ends.1, c.requires.0.full));
       count_bound = (c.requires.0.few, c.requires.2);
     }
 
 pub loop-i-preserved : goal.loop-i-preserved
 loop-i-preserved c = (
-  omega (arith, c.loop-i-test.true),
   c.link_frame.ensures.room,
   λ h. all_next c.args.frames.now (starts_in c.args.state.now) c.args.count h c.args.names.now c.args.contexts.now c.loop-i.i
       c.loop-i.links _
-      c.loop-i-test.true (c.loop-i.invariant.2 h) (rw (c.start_at-from.ensures, c.start_at-end.ensures) at c.link_frame.ensures.linked),
+      c.loop-i-test.true (c.loop-i.invariant.1 h) (rw (c.start_at-from.ensures, c.start_at-end.ensures) at c.link_frame.ensures.linked),
 )
 
 pub returns : goal.returns
 returns c =
     let e : c.loop-i.i ≡ c.args.count = omega arith in record {
-      room = c.loop-i.invariant.1;
+      room = c.loop-i.invariant.0;
       by_index = all_links c.args.frames.now (starts_in c.args.state.now) c.args.count c.requires.0 c.args.names.now c.args.contexts.now
           c.loop-i.links
-          (rw e at (c.loop-i.invariant.2 c.requires.0));
+          (rw e at (c.loop-i.invariant.1 c.requires.0));
     }

@@ -1,6 +1,5 @@
 -- `links::fill_links` meets its contract. The invariant: the frames of the places below i are linked.
 use mathlib.Core.Path.{◌≡◌}
-use Prim.Native.Nat.{◌-◌, ◌≤◌}
 use lib.ListN.{length}
 use Rattle.listing.specs.Tables.{Held}
 use Rattle.env.proofs.Linking.{AllTo}
@@ -9,8 +8,5 @@ use Rattle.env.proofs.links.fill_links.Given as goal
 
 abbrev pub invariant-loop-i : goal.invariant-loop-i
 invariant-loop-i l =
-    (l.i ≤ l.count) × (length l.links ≡ 28672) × ((h : Held l.frames (starts_in l.state) l.count) → AllTo l.frames (starts_in l.state)
-    l.count h l.names l.contexts l.i l.links)
-
-abbrev pub decreases-loop-i : goal.decreases-loop-i
-decreases-loop-i l = l.count - l.i
+    (length l.links ≡ 28672)
+    × ((h : Held l.frames (starts_in l.state) l.count) → AllTo l.frames (starts_in l.state) l.count h l.names l.contexts l.i l.links)

@@ -1,6 +1,5 @@
 -- `names::fill_names` meets its contract. The invariant: the table is filled below i.
 use mathlib.Core.Path.{◌≡◌}
-use Prim.Native.Nat.{◌-◌, ◌≤◌}
 use lib.ListN.{length}
 use Rattle.env.specs.Tables.{Any}
 use Rattle.env.proofs.Naming.{NamesTo}
@@ -9,8 +8,5 @@ use Rattle.env.proofs.names.fill_names.Given as goal
 
 abbrev pub invariant-loop-i : goal.invariant-loop-i
 invariant-loop-i l =
-    (l.i ≤ l.count) × (length l.names ≡ 1024) × Any l.frames (starts_in l.state) l.count (forms_in l.state)
+    (length l.names ≡ 1024) × Any l.frames (starts_in l.state) l.count (forms_in l.state)
     (λ t. NamesTo t l.initial.names l.names l.i)
-
-abbrev pub decreases-loop-i : goal.decreases-loop-i
-decreases-loop-i l = l.count - l.i

@@ -1,5 +1,4 @@
 -- `names::no_name_twice` meets its contract. The invariant: no name is defined twice before place i.
-use Prim.Native.Nat.{◌-◌, ◌≤◌}
 use Rattle.rules.specs.Programs.{Program}
 use Rattle.env.specs.Tables.{Named}
 use Rattle.env.proofs.Naming.{OnceTo}
@@ -7,7 +6,4 @@ use Rattle.env.proofs.names.no_name_twice.Given as goal
 
 abbrev pub invariant-loop-i : goal.invariant-loop-i
 invariant-loop-i l =
-    (l.i ≤ l.count) × ((p : Program) (h : Named p l.count l.names l.contexts) → OnceTo p l.count l.names l.contexts h l.i)
-
-abbrev pub decreases-loop-i : goal.decreases-loop-i
-decreases-loop-i l = l.count - l.i
+    (p : Program) (h : Named p l.count l.names l.contexts) → OnceTo p l.count l.names l.contexts h l.i

@@ -1,6 +1,5 @@
 -- `variables::define_all` meets its contract. The invariant: what is left to define stands behind what the values below i define.
 use mathlib.Core.Path.{◌≡◌}
-use Prim.Native.Nat.{◌-◌, ◌≤◌}
 use lib.ListN.{length}
 use Rattle.slots.specs.Links.{contexts_read, names_now}
 use Rattle.env.specs.Tables.{Any, ShownTo}
@@ -10,10 +9,6 @@ use Rattle.env.proofs.variables.define_all.Given as goal
 
 abbrev pub invariant-loop-i : goal.invariant-loop-i
 invariant-loop-i l =
-    (l.i ≤ l.count) × (length l.values ≡ 1024)
-    × Any l.frames (starts_in l.state) l.count (forms_in l.state)
+    (length l.values ≡ 1024) × Any l.frames (starts_in l.state) l.count (forms_in l.state)
     (λ t. DefinedTo t (names_now t) (contexts_read l.frames (starts_in l.state) l.count) l.initial.values l.values l.i × ShownTo t
     l.values l.i)
-
-abbrev pub decreases-loop-i : goal.decreases-loop-i
-decreases-loop-i l = l.count - l.i
