@@ -27,25 +27,10 @@ pub fn text_length(frames: &[u8], starts: &Starts, count: usize) -> usize
 {
     let mut room = [0u8; 1024];
     let mut sum = 0;
-    let mut i = 0;
-    while i < count {
-        let n = line_at(frames, starts, count, i, &mut room);
-        sum += n + 1;
-        i += 1;
+    for i in 0..count {
+        sum += line_at(frames, starts, count, i, &mut room) + 1;
     }
     sum
-}
-
-// The bytes of s, from `at` on.
-fn put_bytes(s: &[u8], out: &mut [u8], at: usize)
-    requires { at + length s.now ≤ length out.old }
-    ensures { out.new ≡ laid out.old at s.now }
-{
-    let mut k = 0;
-    while k < s.len() {
-        out[at + k] = s[k];
-        k += 1;
-    }
 }
 
 // The line of statement i and its line feed, from `at` on; how long it is.
@@ -64,8 +49,8 @@ fn put_line(
 {
     let mut room = [0u8; 1024];
     let n = line_at(frames, starts, count, i, &mut room);
-    put_bytes(&room[..n], out, at);
-    out[at + n] = 10;
+    out[at..at + n].copy_from_slice(&room[..n]);
+    out[at + n] = b'\n';
     n + 1
 }
 
@@ -77,10 +62,7 @@ pub fn write_lines(frames: &[u8], starts: &Starts, count: usize, out: &mut [u8])
         ≡ laid out.old 0 (text_of (input_of frames.now starts.now count)) }
 {
     let mut at = 0;
-    let mut i = 0;
-    while i < count {
-        let n = put_line(frames, starts, count, i, out, at);
-        at += n;
-        i += 1;
+    for i in 0..count {
+        at += put_line(frames, starts, count, i, out, at);
     }
 }

@@ -2,7 +2,6 @@
 use mathlib.Core.Path.{sym, subst}
 use mathlib.Core.List.{List}
 use Prim.Native.Nat.{ℕ}
-use Rattle.expression.specs.Sound.{AreBytes}
 use Rattle.wording.specs.Writing.{Framed, Lined}
 use Rattle.readable.proofs.Turns.{framed, stands}
 use Rattle.readable.proofs.lines.line_at.Goals as goal

@@ -1,6 +1,6 @@
 -- `readable::lines::text_length` meets its contract: after i turns the lines before i are counted.
 use mathlib.Core.Path.{◌≡◌}
-use Prim.Native.Nat.{◌-◌, ◌*◌, ◌≤◌}
+use Prim.Native.Nat.{◌*◌, ◌≤◌}
 use lib.ListN.{length}
 use Rattle.listing.specs.Tables.{input_of}
 use Rattle.readable.specs.Readable.{text_of}
@@ -8,8 +8,5 @@ use Rattle.readable.proofs.lines.text_length.Given as goal
 
 abbrev pub invariant-loop-i : goal.invariant-loop-i
 invariant-loop-i l =
-    (l.i ≤ l.count) × (l.sum ≡ length (text_of (input_of l.frames l.starts l.i))) × (l.sum ≤ 356 * l.i)
+    (l.sum ≡ length (text_of (input_of l.frames l.starts l.i))) × (l.sum ≤ 356 * l.i)
     × (length l.room ≡ 1024)
-
-abbrev pub decreases-loop-i : goal.decreases-loop-i
-decreases-loop-i l = l.count - l.i

@@ -1,6 +1,5 @@
 -- `readable::lines::write_lines` meets its contract: after i turns the lines before i stand there.
 use mathlib.Core.Path.{◌≡◌}
-use Prim.Native.Nat.{◌-◌, ◌≤◌}
 use lib.ListN.{length}
 use Rattle.listing.specs.Tables.{input_of}
 use Rattle.digits.specs.Digits.{laid}
@@ -9,9 +8,6 @@ use Rattle.readable.proofs.lines.write_lines.Given as goal
 
 abbrev pub invariant-loop-i : goal.invariant-loop-i
 invariant-loop-i l =
-    (l.i ≤ l.count) × (l.out ≡ laid l.initial.out 0 (text_of (input_of l.frames l.starts l.i)))
+    (l.out ≡ laid l.initial.out 0 (text_of (input_of l.frames l.starts l.i)))
     × (l.at ≡ length (text_of (input_of l.frames l.starts l.i)))
     × (length l.out ≡ length l.initial.out)
-
-abbrev pub decreases-loop-i : goal.decreases-loop-i
-decreases-loop-i l = l.count - l.i
