@@ -19,13 +19,7 @@ use rules::Tag;
 pub fn defines(n: u32, k: u16, name: u16, context: u16) -> bool
     ensures { result ≡ is_here n k name context }
 {
-    if n != name as u32 {
-        return false;
-    }
-    if name < 0x8000 {
-        return true;
-    }
-    k == context
+    n == u32::from(name) && (name < 0x8000 || k == context)
 }
 
 // Whether a place below the limit has what `name` means in `context`.
@@ -39,9 +33,7 @@ pub fn is_seen(
     requires { limit ≤ 1024 }
     ensures { result ≡ is_seen (keys_of names.now contexts.now limit) (key_of context name) }
 {
-    let mut i = limit;
-    while 0 < i {
-        i -= 1;
+    for i in (0..limit).rev() {
         if defines(names[i], contexts[i], name, context) {
             return true;
         }
@@ -56,14 +48,12 @@ fn named(s: &[u8], names: &[u32; 1024], contexts: &[u16; 1024], limit: usize, co
     if s.len() < 3 {
         return Tally { found: 0, taken: 0 };
     }
-    if is_seen(names, contexts, limit, context, pair(s[1], s[2])) {
-        leaf(s, 3, 1)
-    } else {
-        leaf(s, 3, 0)
-    }
+    let seen = is_seen(names, contexts, limit, context, pair(s[1], s[2]));
+    leaf(s, 3, usize::from(seen))
 }
 
-// Counts the names that are seen in the expression that s begins with.
+// Counts the names that are seen in the expression that s begins with. It walks as `naming::tally` does, but asks tables of a name,
+// where that one takes a second slice along: one walk for both would be passed a closure and an offset, and be longer.
 fn count_seen(
     s: &[u8],
     names: &[u32; 1024],
@@ -112,6 +102,5 @@ pub fn holds_label(
     ensures { (e : Expr) (n : ℕ) → read_expr s.now ≡ got e n
         → result ≡ holds_label (keys_of moving.now contexts.now limit) context e }
 {
-    let t = count_seen(s, moving, contexts, limit, context);
-    0 < t.found
+    count_seen(s, moving, contexts, limit, context).found > 0
 }

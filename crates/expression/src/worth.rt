@@ -39,7 +39,7 @@ fn stands_for(values: &[i64; 1024], limit: usize, place: u16) -> Outcome
     requires { limit ≤ 1024 }
     ensures { result ≡ stands_at values.now limit place }
 {
-    let i = place as usize;
+    let i = usize::from(place);
     if limit <= i {
         return Outcome::Unknown;
     }
@@ -101,6 +101,5 @@ pub fn linked_worth(s: &[u8], links: &[u16], values: &[i64; 1024], limit: usize)
     ensures { (env : ℕ → Outcomes) → Linked env s.now links.now values.now limit
         → (e : Expr) (n : ℕ) → read_expr s.now ≡ got e n → result ≡ eval_tree env e }
 {
-    let a = eval_linked(s, links, values, limit);
-    a.value
+    eval_linked(s, links, values, limit).value
 }

@@ -7,4 +7,4 @@ use Rattle.expression.proofs.labels.holds_label.Goals as goal
 
 pub returns : goal.returns
 unfolding read_expr holds_label
-returns c e n h = ap (ltb 0) (c.count_seen-t.ensures.along.tree 32 32 e n h).0
+returns c e n h = ap (ltb 0) (c.count_seen.ensures.along.tree 32 32 e n h).0

@@ -6,6 +6,3 @@ use Rattle.expression.proofs.labels.is_seen.Given as goal
 
 abbrev pub invariant-loop-i : goal.invariant-loop-i
 invariant-loop-i l = (l.i ≤ 1024) × (seen l.names l.contexts l.context l.name l.limit ≡ seen l.names l.contexts l.context l.name l.i)
-
-abbrev pub decreases-loop-i : goal.decreases-loop-i
-decreases-loop-i l = l.i

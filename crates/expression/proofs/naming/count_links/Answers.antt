@@ -6,6 +6,6 @@ use Rattle.expression.proofs.naming.count_links.Goals as goal
 pub returns : goal.returns
 unfolding read_expr
 returns c = record {
-  few = omega (arith, c.tally-t.ensures.few, c.tally-t.ensures.counted.within);
-  by_index = λ f l e k h. ((c.tally-t.ensures.counted.mentioned f l).tree 32 32 e k h).0;
+  few = omega (arith, c.tally.ensures.few, c.tally.ensures.counted.within);
+  by_index = λ f l e k h. ((c.tally.ensures.counted.mentioned f l).tree 32 32 e k h).0;
 }

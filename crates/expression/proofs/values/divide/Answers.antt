@@ -10,5 +10,5 @@ use Rattle.expression.proofs.values.divide.Goals as goal
 pub returns : goal.returns
 returns c =
     c.fit.ensures
-    ∙ ap in_range (is64 quot_z quotient_safe c.wide.ensures c.wide-2.ensures c.ranges.a c.ranges.b)
+    ∙ ap in_range (is64 quot_z quotient_safe c.from.ensures c.from-2.ensures c.ranges.a c.ranges.b)
     ∙ simp (ne_eqb (nat_abs c.args.b) 0 (λ e. c.if-b-eq0.false (bits_zero c.args.b e)))
