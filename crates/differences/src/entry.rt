@@ -26,8 +26,7 @@ pub enum Differs {
 fn same_form(first: &[u8], second: &[u8]) -> bool
     ensures { result ≡ same_form (form_in (lines_of first.now)) (form_in (lines_of second.now)) }
 {
-    let lined = new_form(second);
-    if new_form(first) { lined } else { !lined }
+    new_form(first) == new_form(second)
 }
 
 // How many pairs there are, or 13.

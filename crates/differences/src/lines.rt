@@ -29,11 +29,7 @@ fn put_text(out: &mut [u8], at: usize, s: &[u8])
     requires { at + length s.now ≤ length out.old }
     ensures { out.new ≡ laid out.old at s.now }
 {
-    let mut k = 0;
-    while k < s.len() {
-        out[at + k] = s[k];
-        k += 1;
-    }
+    out[at..at + s.len()].copy_from_slice(s);
 }
 
 // Kind, place, frame; where the line ends.
@@ -46,7 +42,7 @@ pub fn put_one(out: &mut [u8], at: usize, kind: u8, i: usize, line: &[u8]) -> us
     let end = at + 6 + line.len();
     put_bytes(out, at, &head);
     put_text(out, at + 6, line);
-    out[end] = 10;
+    out[end] = b'\n';
     end + 1
 }
 
@@ -60,7 +56,7 @@ fn put_kept(out: &mut [u8], at: usize, i: usize, j: usize, line: &[u8]) -> usize
     let end = at + 10 + line.len();
     put_bytes(out, at, &head);
     put_text(out, at + 10, line);
-    out[end] = 10;
+    out[end] = b'\n';
     end + 1
 }
 
@@ -78,7 +74,7 @@ fn put_changed(out: &mut [u8], at: usize, i: usize, j: usize, old: &[u8], new: &
     put_bytes(out, at, &head);
     put_text(out, at + 12, old);
     put_text(out, middle, new);
-    out[end] = 10;
+    out[end] = b'\n';
     end + 1
 }
 

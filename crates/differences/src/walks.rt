@@ -46,8 +46,7 @@ pub fn measure(
     let mut size = 0;
     let mut i = 0;
     let mut j = 0;
-    let mut k = 0;
-    while k < counts.pairs {
+    for k in 0..counts.pairs {
         let p = pairs[k];
         let q = pairs[1024 + k];
         size += run_size(firsts, i, p);
@@ -55,7 +54,6 @@ pub fn measure(
         size += pair_size(line_at(first, firsts, n, p), line_at(second, seconds, m, q));
         i = p + 1;
         j = q + 1;
-        k += 1;
     }
     size + run_size(firsts, i, n) + run_size(seconds, j, m)
 }
@@ -77,10 +75,8 @@ fn put_run(
         (out.new ≡ laid out.old at x) × (result ≡ at + length x) }
 {
     let mut a = at;
-    let mut i = from;
-    while i < to {
+    for i in from..to {
         a = put_one(out, a, kind, i, line_at(text, starts, n, i));
-        i += 1;
     }
     a
 }
@@ -105,8 +101,7 @@ pub fn put_all(
     let mut at = 0;
     let mut i = 0;
     let mut j = 0;
-    let mut k = 0;
-    while k < counts.pairs {
+    for k in 0..counts.pairs {
         let p = pairs[k];
         let q = pairs[1024 + k];
         at = put_run(first, firsts, n, REMOVED, i, p, out, at);
@@ -121,7 +116,6 @@ pub fn put_all(
         );
         i = p + 1;
         j = q + 1;
-        k += 1;
     }
     at = put_run(first, firsts, n, REMOVED, i, n, out, at);
     put_run(second, seconds, m, ADDED, j, m, out, at);

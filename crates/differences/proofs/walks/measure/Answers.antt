@@ -25,7 +25,7 @@ reach l =
     let a = l.args in
     order_within a.counts.first a.counts.second l.loop-k.i l.loop-k.j
     (drop l.loop-k.k (pairs_in a.pairs.now a.counts.pairs))
-    l.loop-k.invariant.1
+    l.loop-k.invariant.0
 
 -- no listing is left behind
 reach_2 : (l : goal.After-run_size-size-in-loop-k) → let a = l.args in
@@ -34,7 +34,7 @@ reach_2 l =
     let a = l.args in
     order_within a.counts.first a.counts.second l.loop-k.i l.loop-k.j
     (drop l.loop-k.k (pairs_in a.pairs.now a.counts.pairs))
-    l.loop-k.invariant.1
+    l.loop-k.invariant.0
 
 -- no listing is left behind
 reach_4 : (l : goal.After-loop-k) → let a = l.args in
@@ -43,7 +43,7 @@ reach_4 l =
     let a = l.args in
     order_within a.counts.first a.counts.second l.loop-k.i l.loop-k.j
     (drop l.loop-k.k (pairs_in a.pairs.now a.counts.pairs))
-    l.loop-k.invariant.1
+    l.loop-k.invariant.0
 
 -- no listing is left behind
 reach_5 : (l : goal.After-run_size) → let a = l.args in
@@ -52,7 +52,7 @@ reach_5 l =
     let a = l.args in
     order_within a.counts.first a.counts.second l.loop-k.i l.loop-k.j
     (drop l.loop-k.k (pairs_in a.pairs.now a.counts.pairs))
-    l.loop-k.invariant.1
+    l.loop-k.invariant.0
 
 -- no listing is left behind
 reach_6 : (l : goal.After-run_size-2) → let a = l.args in
@@ -61,7 +61,7 @@ reach_6 l =
     let a = l.args in
     order_within a.counts.first a.counts.second l.loop-k.i l.loop-k.j
     (drop l.loop-k.k (pairs_in a.pairs.now a.counts.pairs))
-    l.loop-k.invariant.1
+    l.loop-k.invariant.0
 
 -- what is known of a pair that is looked at
 module _ (g : goal.After-q-1) where
@@ -71,7 +71,7 @@ module _ (g : goal.After-q-1) where
   next =
       let a = g.args in
       let t = g.loop-k in
-      order_turn a.pairs.now a.counts.pairs t.k a.counts.first a.counts.second t.i t.j g.loop-k-test.true t.invariant.1
+      order_turn a.pairs.now a.counts.pairs t.k a.counts.first a.counts.second t.i t.j (omega arith) t.invariant.0
 
 -- what is known of a pair that is looked at
 module _ (g : goal.After-run_size-size) where
@@ -81,7 +81,7 @@ module _ (g : goal.After-run_size-size) where
   next_2 =
       let a = g.args in
       let t = g.loop-k in
-      order_turn a.pairs.now a.counts.pairs t.k a.counts.first a.counts.second t.i t.j g.loop-k-test.true t.invariant.1
+      order_turn a.pairs.now a.counts.pairs t.k a.counts.first a.counts.second t.i t.j (omega arith) t.invariant.0
 
 -- what is known of a pair that is looked at
 module _ (g : goal.After-run_size-size-in-loop-k) where
@@ -91,7 +91,7 @@ module _ (g : goal.After-run_size-size-in-loop-k) where
   next_3 =
       let a = g.args in
       let t = g.loop-k in
-      order_turn a.pairs.now a.counts.pairs t.k a.counts.first a.counts.second t.i t.j g.loop-k-test.true t.invariant.1
+      order_turn a.pairs.now a.counts.pairs t.k a.counts.first a.counts.second t.i t.j (omega arith) t.invariant.0
 
 -- what is known of a pair that is looked at
 module _ (g : goal.After-line_at) where
@@ -101,7 +101,7 @@ module _ (g : goal.After-line_at) where
   next_4 =
       let a = g.args in
       let t = g.loop-k in
-      order_turn a.pairs.now a.counts.pairs t.k a.counts.first a.counts.second t.i t.j g.loop-k-test.true t.invariant.1
+      order_turn a.pairs.now a.counts.pairs t.k a.counts.first a.counts.second t.i t.j (omega arith) t.invariant.0
 
 -- what is known of a pair that is looked at
 module _ (g : goal.After-line_at-in-loop-k) where
@@ -111,7 +111,7 @@ module _ (g : goal.After-line_at-in-loop-k) where
   next_5 =
       let a = g.args in
       let t = g.loop-k in
-      order_turn a.pairs.now a.counts.pairs t.k a.counts.first a.counts.second t.i t.j g.loop-k-test.true t.invariant.1
+      order_turn a.pairs.now a.counts.pairs t.k a.counts.first a.counts.second t.i t.j (omega arith) t.invariant.0
 
 -- what is known of a pair that is looked at
 module _ (g : goal.After-pair_size-size) where
@@ -121,7 +121,7 @@ module _ (g : goal.After-pair_size-size) where
   next_6 =
       let a = g.args in
       let t = g.loop-k in
-      order_turn a.pairs.now a.counts.pairs t.k a.counts.first a.counts.second t.i t.j g.loop-k-test.true t.invariant.1
+      order_turn a.pairs.now a.counts.pairs t.k a.counts.first a.counts.second t.i t.j (omega arith) t.invariant.0
 
 -- the three pieces of a pair
 module _ (c : goal.After-run_size-size-in-loop-k) where
@@ -136,7 +136,7 @@ module _ (c : goal.After-run_size-size-in-loop-k) where
   added_is = comes_to 0x72 _ _ _ c.requires.lined' _ _ _ (next_3 c).low' (omega (arith, (next_3 c).high')) c.run_size-size-in-loop-k.ensures
 
   so_far : c.loop-k.size ≤ 524288
-  so_far = omega (arith, c.loop-k.invariant.2, reach_2 c, c.requires.lined.few, c.requires.lined'.few)
+  so_far = omega (arith, c.loop-k.invariant.1, reach_2 c, c.requires.lined.few, c.requires.lined'.few)
 
 -- the three pieces of a pair
 module _ (c : goal.After-pair_size-size) where
@@ -191,7 +191,7 @@ module _ (c : goal.After-pair_size-size) where
     (removed_is_2 c).1,
     (added_is_2
         c).1,
-    c.loop-k.invariant.2,
+    c.loop-k.invariant.1,
     (next_6 c).low,
     (next_6 c).low',
   )
@@ -207,7 +207,7 @@ module _ (c : goal.After-run_size) where
   within_2 = reach_5 c
 
   done_2 : c.loop-k.size ≤ 524288
-  done_2 = omega (arith, c.loop-k.invariant.2, within_2, c.requires.lined.few, c.requires.lined'.few)
+  done_2 = omega (arith, c.loop-k.invariant.1, within_2, c.requires.lined.few, c.requires.lined'.few)
 
   rest_removed_2 : (r : ℕ)
       → r ≡ get_or c.args.firsts.now c.args.counts.first 0 - get_or c.args.firsts.now c.loop-k.i 0 + 6 *
@@ -222,7 +222,7 @@ module _ (c : goal.After-run_size-2) where
   within_3 = reach_6 c
 
   done_3 : c.loop-k.size ≤ 524288
-  done_3 = omega (arith, c.loop-k.invariant.2, within_3, c.requires.lined.few, c.requires.lined'.few)
+  done_3 = omega (arith, c.loop-k.invariant.1, within_3, c.requires.lined.few, c.requires.lined'.few)
 
   rest_removed_3 : (r : ℕ)
       → r ≡ get_or c.args.firsts.now c.args.counts.first 0 - get_or c.args.firsts.now c.loop-k.i 0 + 6 *
@@ -241,7 +241,7 @@ pub loop-k-init : goal.loop-k-init
 loop-k-init c =
     let a = c.args in
     let e = ap length (left_first a.first.now a.second.now a.pairs.now a.counts) in
-    (omega arith, c.requires.order, omega arith, omega (arith, e))
+    (c.requires.order, omega arith, omega (arith, e))
 
 pub run_size-size-requires : goal.run_size-size-requires
 run_size-size-requires c = asked _ _ _ c.requires.lined _ _ (next c).low (omega (arith, (next c).high))
@@ -249,7 +249,7 @@ run_size-size-requires c = asked _ _ _ c.requires.lined _ _ (next c).low (omega 
 pub overflow_add-size : goal.overflow_add-size
 overflow_add-size c =
     let r = comes_to 0x71 _ _ _ c.requires.lined _ _ _ (next_2 c).low (omega (arith, (next_2 c).high)) c.run_size-size.ensures in
-    omega (arith, r.1, c.loop-k.invariant.2, reach c, (next_2 c).high, c.requires.lined.few, c.requires.lined'.few)
+    omega (arith, r.1, c.loop-k.invariant.1, reach c, (next_2 c).high, c.requires.lined.few, c.requires.lined'.few)
 
 pub run_size-size-requires-in-loop-k : goal.run_size-size-requires-in-loop-k
 run_size-size-requires-in-loop-k c = asked _ _ _ c.requires.lined' _ _ (next_2 c).low' (omega (arith, (next_2 c).high'))
@@ -288,11 +288,10 @@ pub loop-k-preserved : goal.loop-k-preserved
 loop-k-preserved c =
     let a = c.args in
     let t = c.loop-k in
-    let e = left_length a.first.now a.second.now a.pairs.now a.counts.pairs t.i t.j t.k c.loop-k-test.true in (
-      omega (arith, c.loop-k-test.true),
+    let e = left_length a.first.now a.second.now a.pairs.now a.counts.pairs t.i t.j t.k (omega arith) in (
       (next_6 c).rest,
       bound c,
-      omega (arith, e, pair_is c, (removed_is_2 c).0, (added_is_2 c).0, t.invariant.3),
+      omega (arith, e, pair_is c, (removed_is_2 c).0, (added_is_2 c).0, t.invariant.2),
     )
 
 pub run_size-requires : goal.run_size-requires
@@ -323,12 +322,12 @@ returns c =
     let n : length (frames_of a.first.now) ≡ a.counts.first = frames_count a.first.now ∙ sym c.requires.lined.count in
     let m : length (frames_of a.second.now) ≡ a.counts.second = frames_count a.second.now ∙ sym c.requires.lined'.count in
     let e = rw (n, m) at (left_none a.first.now a.second.now a.pairs.now a.counts.pairs t.i t.j t.k
-    c.loop-k-test.false) in
+    (omega arith)) in
     omega (
       arith,
       x.0,
       y.0,
-      t.invariant.3,
+      t.invariant.2,
       ap length e,
       length-append (run_text 0x71 (frames_of a.first.now) (a.counts.first - t.i) t.i)
           (run_text 0x72 (frames_of a.second.now) (a.counts.second - t.j) t.j),

@@ -31,7 +31,7 @@ module _ (g : goal.After-put_run-arg-1) where
   next =
       let a = g.args in
       let t = g.loop-k in
-      order_turn a.pairs.now a.counts.pairs t.k a.counts.first a.counts.second t.i t.j g.loop-k-test.true t.invariant.1
+      order_turn a.pairs.now a.counts.pairs t.k a.counts.first a.counts.second t.i t.j (omega arith) t.invariant.0
 
   abbrev removed : List ℕ
   removed = run_text 0x71 (frames_of g.args.first.now) (p - g.loop-k.i) g.loop-k.i
@@ -54,8 +54,8 @@ module _ (g : goal.After-put_run-arg-1) where
       omega (
         arith,
         left_length a.first.now a.second.now a.pairs.now a.counts.pairs t.i t.j t.k
-            g.loop-k-test.true,
-        t.invariant.3,
+            (omega arith),
+        t.invariant.2,
       )
 
 -- what is known of a pair that is looked at
@@ -71,7 +71,7 @@ module _ (g : goal.After-put_run-arg-in-loop-k-1) where
   next_2 =
       let a = g.args in
       let t = g.loop-k in
-      order_turn a.pairs.now a.counts.pairs t.k a.counts.first a.counts.second t.i t.j g.loop-k-test.true t.invariant.1
+      order_turn a.pairs.now a.counts.pairs t.k a.counts.first a.counts.second t.i t.j (omega arith) t.invariant.0
 
   abbrev removed_2 : List ℕ
   removed_2 = run_text 0x71 (frames_of g.args.first.now) (p_2 - g.loop-k.i) g.loop-k.i
@@ -94,8 +94,8 @@ module _ (g : goal.After-put_run-arg-in-loop-k-1) where
       omega (
         arith,
         left_length a.first.now a.second.now a.pairs.now a.counts.pairs t.i t.j t.k
-            g.loop-k-test.true,
-        t.invariant.3,
+            (omega arith),
+        t.invariant.2,
       )
 
 -- what is known of a pair that is looked at
@@ -111,7 +111,7 @@ module _ (g : goal.After-put_pair-arg-1) where
   next_3 =
       let a = g.args in
       let t = g.loop-k in
-      order_turn a.pairs.now a.counts.pairs t.k a.counts.first a.counts.second t.i t.j g.loop-k-test.true t.invariant.1
+      order_turn a.pairs.now a.counts.pairs t.k a.counts.first a.counts.second t.i t.j (omega arith) t.invariant.0
 
 -- what is known of a pair that is looked at
 module _ (g : goal.After-line_at) where
@@ -126,7 +126,7 @@ module _ (g : goal.After-line_at) where
   next_4 =
       let a = g.args in
       let t = g.loop-k in
-      order_turn a.pairs.now a.counts.pairs t.k a.counts.first a.counts.second t.i t.j g.loop-k-test.true t.invariant.1
+      order_turn a.pairs.now a.counts.pairs t.k a.counts.first a.counts.second t.i t.j (omega arith) t.invariant.0
 
 -- what is known of a pair that is looked at
 module _ (g : goal.After-line_at-in-loop-k) where
@@ -141,7 +141,7 @@ module _ (g : goal.After-line_at-in-loop-k) where
   next_5 =
       let a = g.args in
       let t = g.loop-k in
-      order_turn a.pairs.now a.counts.pairs t.k a.counts.first a.counts.second t.i t.j g.loop-k-test.true t.invariant.1
+      order_turn a.pairs.now a.counts.pairs t.k a.counts.first a.counts.second t.i t.j (omega arith) t.invariant.0
 
   abbrev removed_5 : List ℕ
   removed_5 = run_text 0x71 (frames_of g.args.first.now) (p_5 - g.loop-k.i) g.loop-k.i
@@ -164,8 +164,8 @@ module _ (g : goal.After-line_at-in-loop-k) where
       omega (
         arith,
         left_length a.first.now a.second.now a.pairs.now a.counts.pairs t.i t.j t.k
-            g.loop-k-test.true,
-        t.invariant.3,
+            (omega arith),
+        t.invariant.2,
       )
 
 -- what is known of a pair that is looked at
@@ -181,7 +181,7 @@ module _ (g : goal.After-slice_known-in-loop-k-3-1) where
   next_6 =
       let a = g.args in
       let t = g.loop-k in
-      order_turn a.pairs.now a.counts.pairs t.k a.counts.first a.counts.second t.i t.j g.loop-k-test.true t.invariant.1
+      order_turn a.pairs.now a.counts.pairs t.k a.counts.first a.counts.second t.i t.j (omega arith) t.invariant.0
 
   abbrev removed_6 : List ℕ
   removed_6 = run_text 0x71 (frames_of g.args.first.now) (p_6 - g.loop-k.i) g.loop-k.i
@@ -204,8 +204,8 @@ module _ (g : goal.After-slice_known-in-loop-k-3-1) where
       omega (
         arith,
         left_length a.first.now a.second.now a.pairs.now a.counts.pairs t.i t.j t.k
-            g.loop-k-test.true,
-        t.invariant.3,
+            (omega arith),
+        t.invariant.2,
       )
 
 -- both runs are written
@@ -216,7 +216,7 @@ module _ (c : goal.After-line_at-in-loop-k) where
 
   room : length c.put_run-at-in-loop-k.new.out ≡ length c.args.out.now
   room = c.put_run-at-in-loop-k.auto.out
-      ∙ c.put_run-at.auto.out ∙ c.loop-k.invariant.2
+      ∙ c.put_run-at.auto.out ∙ c.loop-k.invariant.1
 
 -- both runs are written
 module _ (c : goal.After-slice_known-in-loop-k-3-1) where
@@ -226,7 +226,7 @@ module _ (c : goal.After-slice_known-in-loop-k-3-1) where
 
   room_2 : length c.put_run-at-in-loop-k.new.out ≡ length c.args.out.now
   room_2 = c.put_run-at-in-loop-k.auto.out
-      ∙ c.put_run-at.auto.out ∙ c.loop-k.invariant.2
+      ∙ c.put_run-at.auto.out ∙ c.loop-k.invariant.1
 
 -- both lines of the pair
 module _ (c : goal.After-line_at-in-loop-k) where
@@ -252,7 +252,7 @@ module _ (c : goal.After-put_run-arg-2-1) where
   within =
       let a = c.args in
       order_within a.counts.first a.counts.second c.loop-k.i c.loop-k.j
-      (drop c.loop-k.k (pairs_in a.pairs.now a.counts.pairs)) c.loop-k.invariant.1
+      (drop c.loop-k.k (pairs_in a.pairs.now a.counts.pairs)) c.loop-k.invariant.0
 
   abbrev end_removed : List ℕ
   end_removed = run_text 0x71 (frames_of c.args.first.now) (c.args.counts.first - c.loop-k.i) c.loop-k.i
@@ -266,10 +266,10 @@ module _ (c : goal.After-put_run-arg-2-1) where
       let a = c.args in
       left_ends a.first.now a.second.now a.pairs.now a.counts.pairs _ _ _ _ _
       (frames_count a.first.now ∙ sym c.requires.0.lined.count) (frames_count a.second.now ∙ sym c.requires.0.lined'.count)
-      c.loop-k-test.false
+      (omega arith)
 
   end_fits : c.loop-k.at + (length end_removed + length end_added) ≤ length c.args.out.now
-  end_fits = omega (arith, ap length ends, length-append end_removed end_added, c.loop-k.invariant.3)
+  end_fits = omega (arith, ap length ends, length-append end_removed end_added, c.loop-k.invariant.2)
 
 -- what is left behind the last pair
 module _ (c : goal.After-put_run-arg-3-1) where
@@ -277,7 +277,7 @@ module _ (c : goal.After-put_run-arg-3-1) where
   within_2 =
       let a = c.args in
       order_within a.counts.first a.counts.second c.loop-k.i c.loop-k.j
-      (drop c.loop-k.k (pairs_in a.pairs.now a.counts.pairs)) c.loop-k.invariant.1
+      (drop c.loop-k.k (pairs_in a.pairs.now a.counts.pairs)) c.loop-k.invariant.0
 
   abbrev end_removed_2 : List ℕ
   end_removed_2 = run_text 0x71 (frames_of c.args.first.now) (c.args.counts.first - c.loop-k.i) c.loop-k.i
@@ -291,10 +291,10 @@ module _ (c : goal.After-put_run-arg-3-1) where
       let a = c.args in
       left_ends a.first.now a.second.now a.pairs.now a.counts.pairs _ _ _ _ _
       (frames_count a.first.now ∙ sym c.requires.0.lined.count) (frames_count a.second.now ∙ sym c.requires.0.lined'.count)
-      c.loop-k-test.false
+      (omega arith)
 
   end_fits_2 : c.loop-k.at + (length end_removed_2 + length end_added_2) ≤ length c.args.out.now
-  end_fits_2 = omega (arith, ap length ends_2, length-append end_removed_2 end_added_2, c.loop-k.invariant.3)
+  end_fits_2 = omega (arith, ap length ends_2, length-append end_removed_2 end_added_2, c.loop-k.invariant.2)
 
 -- what is left behind the last pair
 module _ (c : goal.After-slice_known-3-1) where
@@ -310,20 +310,20 @@ module _ (c : goal.After-slice_known-3-1) where
       let a = c.args in
       left_ends a.first.now a.second.now a.pairs.now a.counts.pairs _ _ _ _ _
       (frames_count a.first.now ∙ sym c.requires.0.lined.count) (frames_count a.second.now ∙ sym c.requires.0.lined'.count)
-      c.loop-k-test.false
+      (omega arith)
 
   end_fits_3 : c.loop-k.at + (length end_removed_3 + length end_added_3) ≤ length c.args.out.now
-  end_fits_3 = omega (arith, ap length ends_3, length-append end_removed_3 end_added_3, c.loop-k.invariant.3)
+  end_fits_3 = omega (arith, ap length ends_3, length-append end_removed_3 end_added_3, c.loop-k.invariant.2)
 
 pub loop-k-init : goal.loop-k-init
 loop-k-init c =
     let a = c.args in
     let e = left_first a.first.now a.second.now a.pairs.now a.counts in
-    (omega arith, c.requires.0.order, refl, omega (arith, ap length e, c.requires.1), ap (laid a.out.now 0) e)
+    (c.requires.0.order, refl, omega (arith, ap length e, c.requires.1), ap (laid a.out.now 0) e)
 
 pub put_run-at-requires : goal.put_run-at-requires
 put_run-at-requires c =
-    (c.requires.0.lined, (next c).low, omega (arith, (next c).high), omega (arith, fits c, c.loop-k.invariant.2))
+    (c.requires.0.lined, (next c).low, omega (arith, (next c).high), omega (arith, fits c, c.loop-k.invariant.1))
 
 pub put_run-at-requires-in-loop-k : goal.put_run-at-requires-in-loop-k
 put_run-at-requires-in-loop-k c =
@@ -331,7 +331,7 @@ put_run-at-requires-in-loop-k c =
       c.requires.0.lined',
       (next_2 c).low',
       omega (arith, (next_2 c).high'),
-      omega (arith, fits_2 c, c.loop-k.invariant.2, r.auto.out, r.ensures.1),
+      omega (arith, fits_2 c, c.loop-k.invariant.1, r.auto.out, r.ensures.1),
     )
 
 pub line_at-requires : goal.line_at-requires
@@ -365,20 +365,19 @@ loop-k-preserved c =
     let x : w.new.out ≡ laid s.new.out s.result (one_6 c) = w.ensures.0 ∙ ap
     (laid s.new.out s.result) (line_is_2 c) in
     let y : w.result ≡ s.result + length (one_6 c) = w.ensures.1 ∙ ap (λ (o : List ℕ). s.result + length o) (line_is_2 c) in (
-      omega (arith, c.loop-k-test.true),
       (next_6 c).rest,
       w.auto.out ∙ room_2 c,
       omega (arith, fits_6 c, y, at_one_2 c),
       three_laid t.out r.new.out s.new.out w.new.out (removed_6 c) (added_6 c) (one_6 c)
           (rest_6 c) t.at r.result s.result w.result
-          r.ensures.0 s.ensures.0 x r.ensures.1 s.ensures.1 y (omega (arith, fits_6 c, y, at_one_2 c, t.invariant.2))
+          r.ensures.0 s.ensures.0 x r.ensures.1 s.ensures.1 y (omega (arith, fits_6 c, y, at_one_2 c, t.invariant.1))
           ∙ ap (laid t.out t.at) (left_turn a.first.now a.second.now a.pairs.now a.counts.pairs t.i t.j
-          t.k c.loop-k-test.true)
-          ∙ t.invariant.4,
+          t.k (omega arith))
+          ∙ t.invariant.3,
     )
 
 pub put_run-at-requires-2 : goal.put_run-at-requires-2
-put_run-at-requires-2 c = (c.requires.0.lined, (within c).0, omega arith, omega (arith, end_fits c, c.loop-k.invariant.2))
+put_run-at-requires-2 c = (c.requires.0.lined, (within c).0, omega arith, omega (arith, end_fits c, c.loop-k.invariant.1))
 
 pub put_run-requires : goal.put_run-requires
 put_run-requires c = let r = c.put_run-at-2 in (
@@ -386,7 +385,7 @@ put_run-requires c = let r = c.put_run-at-2 in (
   (within_2 c).1,
   omega arith,
   omega
-      (arith, end_fits_2 c, c.loop-k.invariant.2, r.auto.out, r.ensures.1),
+      (arith, end_fits_2 c, c.loop-k.invariant.1, r.auto.out, r.ensures.1),
 )
 
 pub returns : goal.returns
@@ -396,5 +395,5 @@ returns c =
     let t = c.loop-k in
     two_pieces t.out r.new.out s.new.out (end_removed_3 c) (end_added_3 c) t.at r.result
     r.ensures.0 s.ensures.0 r.ensures.1
-    (omega (arith, end_fits_3 c, t.invariant.2, r.ensures.1))
-    ∙ ap (laid t.out t.at) (ends_3 c) ∙ t.invariant.4
+    (omega (arith, end_fits_3 c, t.invariant.1, r.ensures.1))
+    ∙ ap (laid t.out t.at) (ends_3 c) ∙ t.invariant.3

