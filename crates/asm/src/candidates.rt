@@ -31,13 +31,11 @@ fn encodes_all(
         positions.now in
         result ≡ is_ok (encode_slots d) }
 {
-    if !encodes_at(frames, state, count, links, values, positions, hint) {
-        return false;
-    }
-    match encode_all(frames, state, count, links, values, positions) {
-        Checked::Passes => true,
-        Checked::Refused(_) => false,
-    }
+    encodes_at(frames, state, count, links, values, positions, hint)
+        && matches!(
+            encode_all(frames, state, count, links, values, positions),
+            Checked::Passes
+        )
 }
 
 // Whether the program assembles, and where it does, its positions. It looks first where it is likely to fail: at the statement that a
@@ -57,8 +55,7 @@ pub fn assembles(
         (result ≡ assembles (program_of t)) × (result ≡ true → Positioned t positions.new) }
 {
     let mut values = [0i64; 1024];
-    if settle_all(frames, state, count, links, positions, &mut values) {
-        return encodes_all(frames, state, count, links, &values, positions, hint);
-    }
-    false // 4 to 7
+    // 4 to 7, then the encoding
+    settle_all(frames, state, count, links, positions, &mut values)
+        && encodes_all(frames, state, count, links, &values, positions, hint)
 }

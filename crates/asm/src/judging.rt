@@ -1,7 +1,7 @@
 // The verdict on a program in slots: 3 to 11 in document 01's order, or that it assembles.
 ghost use Rattle.std.specs.Prelude.{◌≡◌, length};
 ghost use Rattle.env.specs.Tables.{Any};
-ghost use Rattle.slots.specs.Slots.{Slots, slots, Sound};
+ghost use Rattle.slots.specs.Slots.{Slots, Sound};
 ghost use Rattle.slots.specs.Links.{Beside, Together};
 ghost use Rattle.image.specs.Tables.{Tables, tables_of, Ready};
 ghost use Rattle.image.specs.Encoding.{encode_slots};

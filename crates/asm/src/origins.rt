@@ -10,21 +10,11 @@ use crate::Origin;
 use rules::{Address, Place};
 use slots::{State, size_at};
 
-// A position of the table.
-fn position_in(x: u32) -> Address
-    ensures { (result.0 ≡ x) × (result.0 < 4294967296) }
-{
-    Address(x as usize)
-}
-
 // Whether a statement of `size` bytes that comes at `from` has the byte at an address.
 fn has_byte(from: Address, size: usize, address: Address) -> bool
     ensures { result ≡ leb from.0 address.0 && ltb address.0 (from.0 + size) }
 {
-    if address.0 < from.0 {
-        return false;
-    }
-    address.0 - from.0 < size
+    from.0 <= address.0 && address.0 - from.0 < size
 }
 
 // The statement that has the byte at an address, and the byte's place in it. `positions` are those of the slots.
@@ -40,14 +30,12 @@ pub fn origin_of(
     ensures { Any frames.now (starts_in state.now) count (forms_in state.now) (λ t. FoundAs t
         address.0 result) }
 {
-    let mut i = 0;
-    while i < count {
-        let from = position_in(positions[i]);
+    for i in 0..count {
+        let from = Address(positions[i] as usize);
         let size = size_at(frames, state, count, Place(i), from);
         if has_byte(from, size, address) {
             return Origin::At(Place(i), address.0 - from.0);
         }
-        i += 1;
     }
     Origin::Nothing
 }
@@ -58,6 +46,5 @@ pub fn address_of(positions: &[u32; 1025], at: Place, offset: usize) -> Address
     ensures { result.0 ≡ get_or positions.now at.0 0 + offset }
 {
     let i = at.0;
-    let from = position_in(positions[i]);
-    Address(from.0 + offset)
+    Address(positions[i] as usize + offset)
 }

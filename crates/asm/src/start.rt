@@ -13,11 +13,7 @@ fn column(starts: &Starts, from: usize) -> [u16; 1025]
     ensures { Column starts.now from result }
 {
     let mut r = [0u16; 1025];
-    let mut i = 0;
-    while i < 1025 {
-        r[i] = starts[from + i];
-        i += 1;
-    }
+    r.copy_from_slice(&starts[from..from + 1025]);
     r
 }
 
@@ -26,10 +22,8 @@ fn start_carry(count: usize, carry: &mut [u16; 1025])
     requires { (count ≤ 1024) × (length carry.old ≡ 1025) }
     ensures { carry.new ≡ tab (λ i. i) count ++ drop count carry.old }
 {
-    let mut i = 0;
-    while i < count {
+    for i in 0..count {
         carry[i] = i as u16;
-        i += 1;
     }
 }
 

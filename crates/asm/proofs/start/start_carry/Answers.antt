@@ -7,11 +7,8 @@ use Rattle.asm.proofs.start.start_carry.Goals as goal
 
 pub loop-i-init : goal.loop-i-init
 unfolding tab
-loop-i-init c = (omega arith, refl)
+loop-i-init c = refl
 
 pub loop-i-preserved : goal.loop-i-preserved
-loop-i-preserved c = (
-  omega arith,
-  tab_more (λ k. k) c.args.carry.now c.loop-i.carry c.loop-i.i _ c.loop-i.invariant.1
-      (omega (arith, c.requires.0, c.requires.1)) refl,
-)
+loop-i-preserved c =
+    tab_more (λ k. k) c.args.carry.now c.loop-i.carry c.loop-i.i _ c.loop-i.invariant (omega (arith, c.requires.0, c.requires.1)) refl
