@@ -1,16 +1,12 @@
 -- What stands in a slot, as the tables have it, and a rewrite as a line.
 use mathlib.Core.Path.{◌≡◌, refl, sym, ap, ap₂, ◌∙◌}
 use mathlib.Core.List.{[], ◌∷◌}
-use mathlib.Core.Bool.{Bool, true, false, not, cond, ◌||◌}
+use mathlib.Core.Bool.{Bool, true, false}
 use Prim.Native.Nat.{ℕ, ◌+◌, ◌-◌, ◌/◌, ◌%◌, ◌≤◌, ◌<◌}
 use native.Mathlib.Omega.{arith}
-use lib.Dec.{eqb}
 use lib.ListN.{length, get_or}
-use borrow.Author.Tests.{eq-eqb, ne_eqb}
 use Rattle.laws.specs.Counts.{scan}
-use Rattle.laws.proofs.Tests.{first_false}
 use Rattle.laws.proofs.Counts.{scan_starts, scan_hit, scan_miss, scan_end}
-use Rattle.rules.specs.Forms.{jmpf, callf}
 use Rattle.rules.specs.Programs.{Placeℕ, Stmt, Program, kind_of, at}
 use Rattle.rules.specs.Output.{line_of}
 use Rattle.rules.proofs.Laws.{by_instr, other}
@@ -21,7 +17,7 @@ use Rattle.patterns.proofs.Programs.{at_program, past_program}
 use Rattle.patterns.proofs.Instructions.{slot_is}
 use Rattle.digits.proofs.Rooms.{length_line}
 use Rattle.steps.specs.declared.Seat.{Seat}
-use Rattle.steps.specs.Steps.{seat_of, is_changed, changed_at, changed, rule_of, bouncing, shrinking, inverting, rule_byte, rewrite_at, rewrite_of, Rewrite, step_line}
+use Rattle.steps.specs.Steps.{seat_of, is_changed, changed_at, changed, rule_of, rule_byte, rewrite_at, rewrite_of, Rewrite, step_line}
 
 -- ---- a slot
 abbrev none : Seat
@@ -43,13 +39,6 @@ module _ (t : Slots) (i : Placeℕ) where
   pub seat_instr : Held t.frames t.starts t.count → i < t.count → kind_of (slot_at t i) ≡ 1
       → record { form = get_or t.forms i 0; carried = get_or t.carry i 0 } ≡ seat_of (at (program_of t) i)
   seat_instr h l k = sym (ap seat_of (at_program t i l) ∙ ap seat_of (slot_is t h i l k))
-
--- ---- a test of two
-pub changed_not : (a b : Seat) → a.form ≡ 70 → is_changed a b ≡ false
-changed_not a b e = first_false (not (eqb a.form 70)) _ (ap not (eq-eqb a.form 70 e))
-
-pub changed_target : (a b : Seat) → (a.form ≡ 70 → ⊥) → a.form ≡ b.form → is_changed a b ≡ not (eqb a.carried b.carried)
-changed_target a b n e = rw (ne_eqb a.form 70 n, eq-eqb a.form b.form e)
 
 -- ---- the search that stands at i
 abbrev pub Searches : (t u : Slots) (i : ℕ) → Type 0
@@ -75,11 +64,6 @@ module _ (t u : Slots) where
 
       pub search_misses : r ≡ false → Searches t u (i + 1)
       search_misses z = h ∙ scan_miss _ t.count i l (tested ∙ z)
-
--- ---- the rule's byte
-pub rule_is : (old new : ℕ) (a b c : Bool) → eqb old new ≡ a → eqb old jmpf ≡ b → eqb old callf ≡ c → rule_of old new ≡ cond a bouncing (cond (b || c) shrinking inverting)
-unfolding rule_of
-rule_is old new a b c d e f = rw (d, e, f)
 
 -- ---- the line
 low : (n a b : ℕ) → n < 65536 → a ≡ n / 256 % 256 → b ≡ n % 256 → (a ≡ n / 256) × (b ≡ n % 256)

@@ -9,7 +9,7 @@ mod walking; // rewrite by rewrite
 pub use entry::steps;
 
 // What stands in a slot, as far as a rewrite changes it: the form, 70 where it has no instruction, and the place whose target it carries.
-#[derive(Clone, Copy)]
+#[derive(Clone, Copy, PartialEq, Eq)]
 pub struct Seat {
     pub form: u8,
     pub carried: u16,

@@ -13,12 +13,6 @@ use instruction::tables::{CALLF, JMPF};
 use rules::Place;
 use slots::State;
 
-fn wide(x: u16) -> usize
-    ensures { (result ≡ x) × (result < 65536) }
-{
-    x as usize
-}
-
 fn low_byte(x: usize) -> u8
     ensures { result ≡ x % 256 }
 {
@@ -26,19 +20,17 @@ fn low_byte(x: usize) -> u8
 }
 
 // 1 an inverted fold, 2 a trampoline, 3 a shrink.
+#[tactic(auto, unfolding(crate::specs::Steps::rule_of))]
 fn rule_byte(old: u8, new: u8) -> u8
     ensures { result ≡ rule_byte (rule_of old new) }
 {
     if old == new {
-        return 2;
+        2
+    } else if matches!(old, JMPF | CALLF) {
+        3
+    } else {
+        1
     }
-    if old == JMPF {
-        return 3;
-    }
-    if old == CALLF {
-        return 3;
-    }
-    1
 }
 
 // The line of a rewrite: 21 characters, from `at` on.
@@ -47,8 +39,8 @@ fn put_step(out: &mut [u8], at: usize, place: Place, old: Seat, new: Seat)
     ensures { out.new ≡ laid out.old at (step_line (rewrite_at place.0 old new)) }
 {
     let i = place.0;
-    let a = wide(old.carried);
-    let b = wide(new.carried);
+    let a = usize::from(old.carried);
+    let b = usize::from(new.carried);
     let bytes = [
         0x76,
         rule_byte(old.form, new.form),

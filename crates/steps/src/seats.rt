@@ -38,13 +38,7 @@ pub fn seat_at(frames: &[u8], state: &State, count: usize, place: Place) -> Seat
 fn is_changed(old: Seat, new: Seat) -> bool
     ensures { result ≡ is_changed old new }
 {
-    if old.form == GONE {
-        return false;
-    }
-    if old.form != new.form {
-        return true;
-    }
-    old.carried != new.carried
+    old.form != GONE && old != new
 }
 
 // The first place at which an instruction stood and something else does now; the count where there is none.
@@ -54,14 +48,12 @@ pub fn first_change(frames: &[u8], before: &State, state: &State, count: usize) 
         let u = table_of frames.now state.now count in
         (result.0 ≤ count) × (result.0 ≡ changed (program_of t) (program_of u)) }
 {
-    let mut i = 0;
-    while i < count {
+    for i in 0..count {
         let old = seat_at(frames, before, count, Place(i));
         let new = seat_at(frames, state, count, Place(i));
         if is_changed(old, new) {
             return Place(i);
         }
-        i += 1;
     }
-    Place(i)
+    Place(count)
 }

@@ -1,11 +1,7 @@
 -- `steps::seats::first_change` meets its contract. The loop's invariant: the search goes on from i.
-use Prim.Native.Nat.{◌-◌, ◌≤◌}
 use Rattle.slots.specs.State.{table_of}
 use Rattle.steps.proofs.InSlots.{Searches}
 use Rattle.steps.proofs.seats.first_change.Given as goal
 
 abbrev pub invariant-loop-i : goal.invariant-loop-i
-invariant-loop-i l = (l.i ≤ l.count) × Searches (table_of l.frames l.before l.count) (table_of l.frames l.state l.count) l.i
-
-abbrev pub decreases-loop-i : goal.decreases-loop-i
-decreases-loop-i l = l.count - l.i
+invariant-loop-i l = Searches (table_of l.frames l.before l.count) (table_of l.frames l.state l.count) l.i
