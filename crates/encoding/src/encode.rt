@@ -134,147 +134,111 @@ fn fixed(base: u8) -> u8
     base
 }
 
+// ---- a code of one byte, of two and of three
+
+fn one_byte(b0: u8) -> Code
+    ensures { result ≡ record { len = 1; b0 = b0; b1 = 0; b2 = 0 } }
+{
+    Code {
+        len: 1,
+        b0,
+        b1: 0,
+        b2: 0,
+    }
+}
+
+fn two_bytes(b0: u8, b1: u8) -> Code
+    ensures { result ≡ record { len = 2; b0 = b0; b1 = b1; b2 = 0 } }
+{
+    Code {
+        len: 2,
+        b1,
+        ..one_byte(b0)
+    }
+}
+
+fn three_bytes(b0: u8, b1: u8, b2: u8) -> Code
+    ensures { result ≡ record { len = 3; b0 = b0; b1 = b1; b2 = b2 } }
+{
+    Code { len: 3, b0, b1, b2 }
+}
+
 // ---- the shapes of an instruction, first byte first: each is what a bit pattern says, but for its fixed bits
 
 fn one(base: u8) -> Code
     ensures { result ≡ code_of ((bits base 0 8) ∷ []) }
 {
-    Code {
-        len: 1,
-        b0: fixed(base),
-        b1: 0,
-        b2: 0,
-    }
+    one_byte(fixed(base))
 }
 
 fn low1(base: u8, x: u16) -> Code
     ensures { result ≡ code_of ((bits base 0 8) ∷ (bits x 0 8) ∷ []) }
 {
-    Code {
-        len: 2,
-        b0: fixed(base),
-        b1: low(x),
-        b2: 0,
-    }
+    two_bytes(fixed(base), low(x))
 }
 
 fn low2(base: u8, x: u16, y: u16) -> Code
     ensures { result ≡ code_of ((bits base 0 8) ∷ (bits x 0 8) ∷ (bits y 0 8) ∷ []) }
 {
-    Code {
-        len: 3,
-        b0: fixed(base),
-        b1: low(x),
-        b2: low(y),
-    }
+    three_bytes(fixed(base), low(x), low(y))
 }
 
 fn high_low(base: u8, x: u16) -> Code
     ensures { result ≡ code_of ((bits base 0 8) ∷ (bits x 8 8) ∷ (bits x 0 8) ∷ []) }
 {
-    Code {
-        len: 3,
-        b0: fixed(base),
-        b1: high(x),
-        b2: low(x),
-    }
+    three_bytes(fixed(base), high(x), low(x))
 }
 
 fn low_high(base: u8, x: u16) -> Code
     ensures { result ≡ code_of ((bits base 0 8) ∷ (bits x 0 8) ∷ (bits x 8 8) ∷ []) }
 {
-    Code {
-        len: 3,
-        b0: fixed(base),
-        b1: low(x),
-        b2: high(x),
-    }
+    three_bytes(fixed(base), low(x), high(x))
 }
 
 fn d9(base: u8, x: u16) -> Code
     ensures { result ≡ code_of ((bits base 0 7 ++ bits x 8 1) ∷ (bits x 0 8) ∷ []) }
 {
-    Code {
-        len: 2,
-        b0: lead7(base, x),
-        b1: low(x),
-        b2: 0,
-    }
+    two_bytes(lead7(base, x), low(x))
 }
 
 fn d9_low(base: u8, x: u16, y: u16) -> Code
     ensures { result ≡ code_of ((bits base 0 7 ++ bits x 8 1) ∷ (bits x 0 8) ∷ (bits y 0 8) ∷ []) }
 {
-    Code {
-        len: 3,
-        b0: lead7(base, x),
-        b1: low(x),
-        b2: low(y),
-    }
+    three_bytes(lead7(base, x), low(x), low(y))
 }
 
 fn ri(base: u8, x: u16) -> Code
     ensures { result ≡ code_of ((bits base 0 6 ++ bits x 0 2) ∷ []) }
 {
-    Code {
-        len: 1,
-        b0: lead6(base, x),
-        b1: 0,
-        b2: 0,
-    }
+    one_byte(lead6(base, x))
 }
 
 fn ri_low(base: u8, x: u16, y: u16) -> Code
     ensures { result ≡ code_of ((bits base 0 6 ++ bits x 0 2) ∷ (bits y 0 8) ∷ []) }
 {
-    Code {
-        len: 2,
-        b0: lead6(base, x),
-        b1: low(y),
-        b2: 0,
-    }
+    two_bytes(lead6(base, x), low(y))
 }
 
 fn ri_low2(base: u8, x: u16, y: u16, z: u16) -> Code
     ensures { result ≡ code_of ((bits base 0 6 ++ bits x 0 2) ∷ (bits y 0 8) ∷ (bits z 0 8) ∷ []) }
 {
-    Code {
-        len: 3,
-        b0: lead6(base, x),
-        b1: low(y),
-        b2: low(z),
-    }
+    three_bytes(lead6(base, x), low(y), low(z))
 }
 
 fn a12(base: u8, x: u16) -> Code
     ensures { result ≡ code_of ((bits base 0 3 ++ (bits x 11 1 ++ (1 ∷ bits x 8 3))) ∷ (bits x 0 8) ∷ []) }
 {
-    Code {
-        len: 2,
-        b0: lead_a12(base, x),
-        b1: low(x),
-        b2: 0,
-    }
+    two_bytes(lead_a12(base, x), low(x))
 }
 
 fn bit(base: u8, x: u16, y: u16) -> Code
     ensures { result ≡ code_of ((bits base 0 3 ++ (bits x 8 1 ++ (1 ∷ bits y 0 3))) ∷ (bits x 0 8) ∷ []) }
 {
-    Code {
-        len: 2,
-        b0: lead_bit(base, x, y),
-        b1: low(x),
-        b2: 0,
-    }
+    two_bytes(lead_bit(base, x, y), low(x))
 }
 
 fn bit_low(base: u8, x: u16, y: u16, z: u16) -> Code
     ensures { result ≡ code_of ((bits base 0 3 ++ (bits x 8 1 ++ (1 ∷ bits y 0 3))) ∷ (bits x 0 8) ∷ (bits z 0 8) ∷ []) }
 {
-    Code {
-        len: 3,
-        b0: lead_bit(base, x, y),
-        b1: low(x),
-        b2: low(z),
-    }
+    three_bytes(lead_bit(base, x, y), low(x), low(z))
 }

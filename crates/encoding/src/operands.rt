@@ -72,7 +72,7 @@ fn distance(n: Address, v: i32) -> i32
 fn signed_byte(d: i32) -> bool
     ensures { result ≡ signed_byte d }
 {
-    -128 <= d && d <= 127
+    matches!(d, -128..=127)
 }
 
 fn low_byte(d: i32) -> u16
@@ -110,7 +110,7 @@ fn page_address(i: Place, j: usize, n: Address, v: i32) -> Field
         return Field::Refused(Refusal::Range(i, j, v));
     }
     let a = number(v);
-    if page_of(a as usize) == page_of(n.0) {
+    if page_of(usize::from(a)) == page_of(n.0) {
         Field::Is(a)
     } else {
         Field::Refused(Refusal::Page(i, j, v))
@@ -123,7 +123,7 @@ fn rel16(i: Place, j: usize, n: Address, v: i32) -> Field
 {
     if unsigned(v, 16) {
         let a = number(v);
-        Field::Is(((a as usize + 65537 - n.0) % 65536) as u16)
+        Field::Is(((usize::from(a) + 65537 - n.0) % 65536) as u16)
     } else {
         Field::Refused(Refusal::Outside(i, j, v))
     }

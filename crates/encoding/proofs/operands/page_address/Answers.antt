@@ -23,7 +23,7 @@ returns-then-page_of c =
     let a : c.number-a.result ≡ nat x.v = c.number-a.ensures ∙ ap nat (to_z-of_z c.ranges.v) in
     ap Is a
     ∙ a12_in x.i.0 x.j x.n.0 x.v (told 65536 c.ranges.v c.unsigned.ensures c.if-not-unsigned.false)
-    (eq-eqb (page (nat x.v)) (page x.n.0) (sym (c.page_of.ensures ∙ ap page a) ∙ c.if-page_of.true ∙ c.page_of-2.ensures))
+    (eq-eqb (page (nat x.v)) (page x.n.0) (sym (c.page_of.ensures ∙ ap page (c.from.ensures ∙ a)) ∙ c.if-page_of.true ∙ c.page_of-2.ensures))
 
 pub returns-else-page_of : goal.returns-else-page_of
 returns-else-page_of c =
@@ -31,4 +31,4 @@ returns-else-page_of c =
     let a : c.number-a.result ≡ nat x.v = c.number-a.ensures ∙ ap nat (to_z-of_z c.ranges.v) in
     ap (λ (z : ℤ). Refused (Page x.i x.j z)) (to_z-of_z c.ranges.v)
     ∙ a12_page x.i.0 x.j x.n.0 x.v (told 65536 c.ranges.v c.unsigned.ensures c.if-not-unsigned.false)
-    (ne_eqb (page (nat x.v)) (page x.n.0) (λ e. c.if-page_of.false (c.page_of.ensures ∙ ap page a ∙ e ∙ sym c.page_of-2.ensures)))
+    (ne_eqb (page (nat x.v)) (page x.n.0) (λ e. c.if-page_of.false (c.page_of.ensures ∙ ap page (c.from.ensures ∙ a) ∙ e ∙ sym c.page_of-2.ensures)))

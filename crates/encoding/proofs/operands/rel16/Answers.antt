@@ -13,7 +13,7 @@ use Rattle.encoding.proofs.operands.rel16.Goals as goal
 pub returns-then-unsigned : goal.returns-then-unsigned
 returns-then-unsigned c =
     let x = c.args in
-    ap (λ (a : ℕ). Is ((a + 65537 - x.n.0) % 65536)) (c.number-a.ensures ∙ ap nat (to_z-of_z c.ranges.v))
+    ap (λ (a : ℕ). Is ((a + 65537 - x.n.0) % 65536)) (c.from.ensures ∙ c.number-a.ensures ∙ ap nat (to_z-of_z c.ranges.v))
     ∙ rel16_in x.i.0 x.j x.n.0 x.v (told 65536 c.ranges.v c.unsigned.ensures c.if-unsigned.true)
 
 pub returns-else-unsigned : goal.returns-else-unsigned
