@@ -1,8 +1,8 @@
 -- What comes out for a line: how long it is, and its characters.
 use mathlib.Core.Path.{◌≡◌, refl, sym, ap, ◌∙◌}
-use mathlib.Core.Bool.{Bool, true, false, ◌&&◌, cond}
+use mathlib.Core.Bool.{true, ◌&&◌, cond}
 use mathlib.Core.List.{List, [], ◌∷◌, ◌++◌, append_assoc}
-use Prim.Native.Nat.{ℕ, ◌+◌, ◌*◌, ◌-◌, ◌/◌, ◌%◌, ◌≤◌, ◌<◌}
+use Prim.Native.Nat.{ℕ, ◌+◌, ◌*◌, ◌-◌, ◌/◌, ◌%◌, ◌≤◌, min, ◌<◌}
 use native.Mathlib.Omega.{arith}
 use lib.Dec.{leb, ltb, eqb}
 use lib.ListN.{length, get_or, take, drop, set, replicate, length-take, length-append, take-append-drop}
@@ -17,7 +17,7 @@ use Rattle.rules.specs.Programs.{Program, Stmt, comment}
 use Rattle.rules.specs.Listing.{Line, is_digit, unhex, ListingForm, old_form, new_form, line_bytes, widest, most_characters, within_limits, well_formed, read_frame_in, read_lines}
 use Rattle.rules.specs.Output.{frame_in, frame_of, line_of}
 use Rattle.rules.proofs.Laws.{then_ok, require_ok}
-use Rattle.listing.specs.Lines.{first_line}
+use Rattle.listing.specs.Lines.{line_length, first_line}
 use Rattle.digits.specs.Digits.{hex_of, laid}
 use Rattle.digits.proofs.Rooms.{length_hex, laid_more, laid_front}
 use Rattle.lines.specs.Alone.{by_itself, stands, standing}
@@ -53,31 +53,23 @@ module _ (x : List ℕ) (o : OneLine x) where
   abbrev Keeps : ℕ → Type 0
   Keeps r = (r ≡ length (take 119 chars)) × (r ≤ length x)
 
-  pub kept_ended : get_or x (length x - 1) 0 ≡ 10 → length x ≤ 119 → Keeps (length x - 1)
-  kept_ended e h =
+  pub kept_ended : get_or x (length x - 1) 0 ≡ 10 → Keeps (min (length x - 1) 119)
+  kept_ended e =
       let n = ended_length x o (sym (last_feed x o) ∙ eq-eqb _ 10 e) in
       let m = length-take 119 chars in
       (omega arith, omega arith)
 
-  pub kept_unended : (get_or x (length x - 1) 0 ≡ 10 → ⊥) → length x ≤ 119 → Keeps (length x)
-  kept_unended e h =
+  pub kept_unended : (get_or x (length x - 1) 0 ≡ 10 → ⊥) → Keeps (min (length x) 119)
+  kept_unended e =
       let n = unended_length x o (sym (last_feed x o) ∙ ne_eqb _ 10 e) in
       let m = length-take 119 chars in
       (omega arith, omega arith)
 
-  -- the line feed is one character at most
-  nearly : (length x ≤ length chars + 1) × (length chars ≤ length x)
-  nearly = on (first_line x).ended refl
-    where
-      on : (b : Bool) → (first_line x).ended ≡ b → (length x ≤ length chars + 1) × (length chars ≤ length x)
-      on true e = let n = ended_length x o e in (omega arith, omega arith)
-      on false e = let n = unended_length x o e in (omega arith, omega arith)
-
-  pub kept_of_many : 119 < length x → Keeps 119
-  kept_of_many h = let m = length-take 119 chars in (omega (arith, nearly.0), omega arith)
-
-  pub kept_of_none : length x ≡ 0 → Keeps 0
-  kept_of_none h = let m = length-take 119 chars in (omega (arith, nearly.1), omega arith)
+  pub kept_of_none : length x ≡ 0 → Keeps (min (length x) 119)
+  kept_of_none h =
+      let n = length-take (line_length x) x in
+      let m = length-take 119 chars in
+      (omega arith, omega arith)
 
   -- and which they are
   pub kept_chars : (k : ℕ) → k ≡ length (take 119 chars) → take k x ≡ take 119 chars

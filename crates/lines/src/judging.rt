@@ -16,24 +16,7 @@ fn one_or_two(r: Refusal) -> u8
 {
     match r {
         Refusal::Limit(_) => 2,
-        Refusal::Broken(_)
-        | Refusal::Again(_)
-        | Refusal::NoName(_)
-        | Refusal::Back(_)
-        | Refusal::Beyond(_)
-        | Refusal::NoValue(_)
-        | Refusal::Range(_, _, _)
-        | Refusal::Outside(_, _, _)
-        | Refusal::Far(_, _, _)
-        | Refusal::Page(_, _, _)
-        | Refusal::Room(_)
-        | Refusal::Pairing(_)
-        | Refusal::Absent
-        | Refusal::Column(_, _)
-        | Refusal::Start
-        | Refusal::Unknown
-        | Refusal::Full
-        | Refusal::Store => 1,
+        _ => 1,
     }
 }
 
@@ -55,10 +38,7 @@ fn judge_old(line: &[u8]) -> u8
     requires { OneLine line.now }
     ensures { Numbered (by_itself old_form (first_line line.now)) result }
 {
-    if new_form(line) {
-        return 1;
-    }
-    number_of(line)
+    if new_form(line) { 1 } else { number_of(line) }
 }
 
 // A line of the new form is read behind a mark; over 248 characters it is 2.
@@ -71,8 +51,7 @@ fn judge_new(line: &[u8]) -> u8
         return 2;
     }
     let mut page = [0u8; 254];
-    let mark = [55, 68, 48, 50, 10];
-    put_text(&mut page, 0, &mark);
+    put_text(&mut page, 0, b"7D02\n");
     put_text(&mut page, 5, line);
     let end = 5 + n;
     number_of(&page[..end])
@@ -84,7 +63,8 @@ pub fn judge(line: &[u8], marked: bool) -> u8
     ensures { Numbered (by_itself (form_of marked) (first_line line.now)) result }
 {
     if marked {
-        return judge_new(line);
+        judge_new(line)
+    } else {
+        judge_old(line)
     }
-    judge_old(line)
 }

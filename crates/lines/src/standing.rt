@@ -34,17 +34,11 @@ fn kept(line: &[u8]) -> usize
     requires { OneLine line.now }
     ensures { (result ≡ length (take 119 (first_line line.now).chars)) × (result ≤ length line.now) }
 {
-    let n = line.len();
-    if 119 < n {
-        return 119;
-    }
-    if n == 0 {
-        return 0;
-    }
-    if line[n - 1] == 10 {
-        return n - 1;
-    }
-    n
+    let chars = match line {
+        [chars @ .., b'\n'] => chars.len(),
+        _ => line.len(),
+    };
+    chars.min(119)
 }
 
 // How many characters come out for a line, the line feed apart.
@@ -53,9 +47,10 @@ fn stands_length(line: &[u8], marked: bool, number: u8) -> usize
     ensures { (result ≡ length (standing (form_of marked) (first_line line.now))) × (result ≤ 248) }
 {
     if number == 0 {
-        return line.len() - 1;
+        line.len() - 1
+    } else {
+        2 * (1 + line_bytes(marked) + kept(line))
     }
-    2 * (1 + line_bytes(marked) + kept(line))
 }
 
 pub fn take_turn(text: &[u8], marked: bool) -> Turn
@@ -67,9 +62,9 @@ pub fn take_turn(text: &[u8], marked: bool) -> Turn
     let number = judge(line, marked);
     let length = stands_length(line, marked, number);
     Turn {
-        end: end,
-        number: number,
-        length: length,
+        end,
+        number,
+        length,
     }
 }
 
@@ -99,7 +94,7 @@ pub fn put_standing(line: &[u8], marked: bool, number: u8, out: &mut [u8], at: u
 {
     if number == 0 {
         put_text(out, at, line);
-        return;
+    } else {
+        put_comment(line, marked, out, at);
     }
-    put_comment(line, marked, out, at);
 }

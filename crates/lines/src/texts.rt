@@ -13,11 +13,7 @@ pub fn put_text(out: &mut [u8], at: usize, s: &[u8])
     requires { at + length s.now ≤ length out.old }
     ensures { out.new ≡ laid out.old at s.now }
 {
-    let mut k = 0;
-    while k < s.len() {
-        out[at + k] = s[k];
-        k += 1;
-    }
+    out[at..at + s.len()].copy_from_slice(s);
 }
 
 fn low_byte(x: usize) -> u8

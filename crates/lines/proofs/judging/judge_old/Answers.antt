@@ -11,7 +11,7 @@ pub returns-then-new_form : goal.returns-then-new_form
 returns-then-new_form c =
     rw (mark_broken c.args.line.now c.requires (sym c.new_form.ensures.0 ∙ c.if-new_form.true)) (refl, omega arith)
 
-pub returns : goal.returns
-returns c =
+pub returns-else-new_form : goal.returns-else-new_form
+returns-else-new_form c =
     subst (λ (j : Judged Program). Numbered j c.number_of.result)
     (read_old c.args.line.now c.requires (sym c.new_form.ensures.0 ∙ c.if-new_form.false)) c.number_of.ensures

@@ -1,13 +1,19 @@
 -- `standing::kept` meets its contract: at most 119 characters, and never the line feed. Assumes nothing.
+use mathlib.Core.Path.{◌≡◌}
+use Prim.Native.Nat.{◌-◌}
 use native.Mathlib.Omega.{arith}
-use Rattle.lines.proofs.Comments.{kept_of_many, kept_ended, kept_unended}
+use lib.ListN.{length, take, length-take}
+use Rattle.lines.proofs.Comments.{kept_of_none, kept_ended, kept_unended}
 use Rattle.lines.proofs.standing.kept.Goals as goal
-
-pub returns-then-n-gt119 : goal.returns-then-n-gt119
-returns-then-n-gt119 c = kept_of_many c.args.line.now c.requires c.if-n-gt119.true
-
-pub returns-then-line-n-eq10 : goal.returns-then-line-n-eq10
-returns-then-line-n-eq10 c = kept_ended c.args.line.now c.requires c.if-line-n-eq10.true (omega arith)
+use Rattle.lines.proofs.standing.kept.Goals.{in-10, in_default, in_default-2}
 
 pub returns : goal.returns
-returns c = kept_unended c.args.line.now c.requires c.if-line-n-eq10.false (omega arith)
+returns c =
+    let x = c.args.line.now in
+    rw c.min.ensures (elim c.if-line-lt1.branch [
+      | in-10 w ↦
+          let m : length (take (length x - 1) x) ≡ length x - 1 = omega (arith, length-take (length x - 1) x) in
+          rw (w.chars-is, m) (kept_ended x c.requires (omega arith))
+      | in_default w ↦ rw w.chars-is (kept_of_none x c.requires (omega arith))
+      | in_default-2 w ↦ rw w.chars-is (kept_unended x c.requires (λ e. omega arith))
+    ])

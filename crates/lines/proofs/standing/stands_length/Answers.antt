@@ -53,5 +53,5 @@ returns-then-number-eq0 c = (omega (arith, good c, (good_is c).0), omega (arith,
 pub overflow_mul-result : goal.overflow_mul-result
 overflow_mul-result c = omega (arith, (bad c).0, (bad c).1)
 
-pub returns : goal.returns
-returns c = (omega (arith, (bad c).0, (bad c).2), omega (arith, (bad c).1))
+pub returns-else-number-eq0 : goal.returns-else-number-eq0
+returns-else-number-eq0 c = (omega (arith, (bad c).0, (bad c).2), omega (arith, (bad c).1))
