@@ -1,13 +1,19 @@
 -- The list of stems, slot by slot: one more place or none, and how many bytes the places have. Assumes nothing.
-use mathlib.Core.Path.{◌≡◌, refl, sym, ap, ◌∙◌}
+use mathlib.Core.Path.{◌≡◌, refl, sym, ap, ◌∙◌, subst}
 use mathlib.Core.List.{List, [], ◌∷◌, ◌++◌, append-nil}
 use mathlib.Core.Logic.{⊎_elim}
-use mathlib.Core.Bool.{Bool, true, false, cond}
-use Prim.Native.Nat.{ℕ, suc, ◌+◌, ◌*◌, ◌≤◌, ◌<◌}
+use mathlib.Core.Bool.{Bool, true, false, not, cond}
+use Prim.Native.Nat.{ℕ, zero, suc, ◌+◌, ◌*◌, ◌≤◌, ◌<◌}
 use native.Mathlib.Numerals.{add-one}
 use native.Mathlib.Omega.{arith}
 use lib.ListN.{length, get_or, length-append}
+use lib.Dec.{leb}
+use Rattle.std.specs.List.{count_by, range_with_len}
 use borrow.Author.Tests.{le-leb, lt-leb}
+use Rattle.std.proofs.lemmas.List.{map-id}
+use Rattle.std.proofs.lemmas.List.FromFn.{map-range_with_len_more}
+use Rattle.std.proofs.lemmas.List.Sums.{sum_by-append}
+use Rattle.laws.specs.Counts.{tab}
 use Rattle.laws.specs.Lists.{each}
 use Rattle.laws.proofs.Lists.{each_append, each_one}
 use Rattle.laws.proofs.Counts.{rises}
@@ -63,3 +69,26 @@ length_list (i ∷ is) = omega (arith, length_list is)
 pub list_more : (is : List Placeℕ) (i : Placeℕ) → list_of (is ++ (i ∷ [])) ≡ list_of is ++ pair i
 unfolding list_of
 list_more is i = each_append (λ k. pair k) is (i ∷ []) ∙ ap (λ (l : List ℕ). list_of is ++ l) (each_one (λ k. pair k) i)
+
+-- ---- the places that pass a count
+
+kept_length : (b : Bool) (n : ℕ) → cond (not b) 1 0 ≡ length (cond b [] (n ∷ []))
+kept_length true n = refl
+kept_length false n = refl
+
+pub kept_count : (forms : List ℕ) (n : ℕ)
+    → count_by (λ i. not (leb gone_form (get_or forms i 0))) (range_with_len 0 n) ≡ length (kept_to forms n)
+unfolding kept_to each tab
+kept_count forms zero = refl
+kept_count forms (suc n) =
+    let left : ℕ → Bool = λ i. not (leb gone_form (get_or forms i 0)) in
+    let more : range_with_len 0 (n + 1) ≡ range_with_len 0 n ++ (n ∷ []) =
+    sym (map-id (range_with_len 0 (n + 1))) ∙ map-range_with_len_more (λ x. x) 0 n n (omega arith)
+    ∙ ap (λ l. l ++ (n ∷ [])) (map-id (range_with_len 0 n)) in
+    let counted : count_by left (range_with_len 0 (n + 1)) ≡ count_by left (range_with_len 0 n) + (0 + cond (left n) 1 0) =
+    ap (count_by left) more ∙ sum_by-append (λ x. cond (left x) 1 0) (range_with_len 0 n) (n ∷ []) in
+    let kept : length (kept_to forms (n + 1)) ≡ length (kept_to forms n) + length (cond (leb gone_form (get_or forms n 0)) [] (n ∷ [])) =
+    ap length (kept_more forms n) ∙ length-append (kept_to forms n) _ in
+    let both : count_by left (range_with_len 0 (n + 1)) ≡ length (kept_to forms (n + 1)) =
+    omega (arith, counted, kept, kept_count forms n, kept_length (leb gone_form (get_or forms n 0)) n) in
+    subst (λ m. count_by left (range_with_len 0 m) ≡ length (kept_to forms m)) (add-one n) both

@@ -7,16 +7,8 @@ mod showing; // which slots are shown
 mod stems; // which slots the lines stem from
 mod text; // the lines themselves
 
-ghost use Rattle.std.specs.Prelude.{◌≡◌, ◌%◌};
-
 pub use last::{bits, done_line, refused_line};
 pub use lines::{line_length_at, text_length};
 pub use showing::show;
 pub use stems::{count_stems, write_stems};
 pub use text::write_text;
-
-fn low_byte(x: u32) -> u8
-    ensures { result ≡ x % 256 }
-{
-    (x % 256) as u8
-}

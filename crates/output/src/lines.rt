@@ -10,9 +10,7 @@ ghost use Rattle.slots.specs.State.{starts_in, forms_in, carry_in, owners_in};
 use instruction::tables::{is_transfer, operand_count};
 use listing::line_bytes;
 use rules::Place;
-use slots::{
-    CARRY, NO_OWNER, Slot, State, argument_at, form_in, frame_at, owner_at, slot_at, wide,
-};
+use slots::{NO_OWNER, Slot, State, argument_at, carry_at, form_in, frame_at, owner_at, slot_at};
 
 // Where the target of an instruction begins in its frame; the frame's end where it has none. `at` is the frame's place.
 pub fn own_end(frame: &[u8], state: &State, at: Place) -> usize
@@ -46,12 +44,10 @@ fn instruction_length(frames: &[u8], state: &State, count: usize, at: Place) -> 
     ensures { (result ≤ 57344) × InstrHas frames.now (starts_in state.now) count (forms_in state.now)
         (carry_in state.now) (owners_in state.now) at.0 result }
 {
-    let i = at.0;
     let frame = frame_at(frames, state, count, at);
     let own = own_end(frame, state, at);
     if is_transfer(form_in(state, at)) {
-        let c = wide(state[CARRY][i]);
-        own + target_length(frames, state, count, Place(c))
+        own + target_length(frames, state, count, carry_at(state, at))
     } else {
         own
     }
@@ -77,10 +73,7 @@ pub fn line_length_at(marked: bool, frames: &[u8], state: &State, count: usize, 
 pub fn mark_length(marked: bool) -> usize
     ensures { (result ≡ length (mark_of (form_of marked))) × (result ≤ 5) }
 {
-    if !marked {
-        return 0;
-    }
-    5
+    if marked { 5 } else { 0 }
 }
 
 // How many characters the text has.
@@ -91,10 +84,8 @@ pub fn text_length(marked: bool, frames: &[u8], state: &State, count: usize) -> 
         (carry_in state.now) (owners_in state.now) result }
 {
     let mut n = mark_length(marked);
-    let mut i = 0;
-    while i < count {
+    for i in 0..count {
         n += line_length_at(marked, frames, state, count, Place(i));
-        i += 1;
     }
     n
 }

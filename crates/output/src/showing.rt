@@ -17,17 +17,10 @@ fn shown_form(asked: Settings, frames: &[u8], state: &State, count: usize, at: P
         state.now) carry owners offsets in
         result ≡ shown_form asked (kind_of (slot_at t at.0)) (get_or (forms_in state.now) at.0 0)) }
 {
-    let form = form_in(state, at);
-    if asked.comments {
-        return form;
+    match slot_at(frames, state, count, at) {
+        Slot::Holds(Statement::Comment(_)) if !asked.comments => GONE,
+        _ => form_in(state, at),
     }
-    let Slot::Holds(statement) = slot_at(frames, state, count, at) else {
-        return form;
-    };
-    let Statement::Comment(_) = statement else {
-        return form;
-    };
-    GONE
 }
 
 // Comments that are not asked for become slots that are gone.
@@ -38,10 +31,8 @@ pub fn show(asked: Settings, frames: &[u8], state: &mut State, count: usize)
         let forms : List ℕ = forms_in state.new in
         (table_of frames.now state.new count ≡ formed t forms) × Shown asked t (formed t forms) }
 {
-    let mut i = 0;
-    while i < count {
+    for i in 0..count {
         let shown = shown_form(asked, frames, state, count, Place(i));
         put_form(state, Place(i), shown);
-        i += 1;
     }
 }

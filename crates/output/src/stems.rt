@@ -14,24 +14,16 @@ pub fn count_stems(count: usize, state: &State) -> usize
     requires { count ≤ 1024 }
     ensures { result ≡ length (kept_to (forms_in state.now) count) }
 {
-    let mut n = 0;
-    let mut i = 0;
-    while i < count {
-        if !is_gone(state, Place(i)) {
-            n += 1;
-        }
-        i += 1;
-    }
-    n
+    (0..count).filter(|&i| !is_gone(state, Place(i))).count()
 }
 
 // An entry: high byte first.
+#[tactic(auto, unfolding(digits::specs::Digits::laid))]
 fn put_entry(list: &mut [u8], at: usize, i: usize)
     requires { (at + 2 ≤ length list.old) × (i < 65536) }
     ensures { list.new ≡ laid list.old at (pair i) }
 {
-    list[at] = (i / 256) as u8;
-    list[at + 1] = (i % 256) as u8;
+    list[at..at + 2].copy_from_slice(&(i as u16).to_be_bytes());
 }
 
 // The places of the slots that are left, at the front of the list; how many they are.
@@ -41,13 +33,11 @@ pub fn write_stems(count: usize, state: &State, list: &mut [u8]) -> usize
         (list.new ≡ front (list_of left) list.old) × (result ≡ length left) }
 {
     let mut n = 0;
-    let mut i = 0;
-    while i < count {
+    for i in 0..count {
         if !is_gone(state, Place(i)) {
             put_entry(list, 2 * n, i);
             n += 1;
         }
-        i += 1;
     }
     n
 }

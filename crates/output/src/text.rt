@@ -15,13 +15,12 @@ ghost use Rattle.output.specs.Lines.{InstrAt, Drawn, NumberLow, Positioned};
 ghost use Rattle.slots.specs.State.{starts_in, forms_in, carry_in, owners_in, offsets_in, table_of};
 
 use crate::lines::own_end;
-use crate::low_byte;
 use digits::{put_byte, put_bytes};
 use instruction::tables::is_transfer;
 use listing::line_bytes;
 use rules::Place;
 use slots::{
-    CARRY, NO_OWNER, OFFSET, Slot, State, form_in, frame_at, is_gone, owner_at, slot_at, wide,
+    NO_OWNER, OFFSET, Slot, State, carry_at, form_in, frame_at, is_gone, owner_at, slot_at,
 };
 
 // A byte, and the four bytes of a number behind it, high byte first.
@@ -29,14 +28,8 @@ fn put_five(out: &mut [u8], at: usize, first: u8, n: u32)
     requires { at + 10 ≤ length out.old }
     ensures { out.new ≡ laid out.old at (hex_of (first ∷ four n)) }
 {
-    let bytes = [
-        first,
-        low_byte(n / 16777216),
-        low_byte(n / 65536),
-        low_byte(n / 256),
-        low_byte(n),
-    ];
-    put_bytes(out, at, &bytes);
+    let [n3, n2, n1, n0] = n.to_be_bytes();
+    put_bytes(out, at, &[first, n3, n2, n1, n0]);
 }
 
 // A plain number: 00 and its four bytes.
@@ -52,16 +45,9 @@ fn put_source(marked: bool, kind: u8, n: u32, out: &mut [u8], at: usize)
     requires { at + (2 + 2 * line_bytes (form_of marked)) ≤ length out.old }
     ensures { out.new ≡ sourced (form_of marked) kind n out.old at }
 {
-    if !marked {
-        return;
+    if marked {
+        put_five(out, at, kind, n);
     }
-    put_five(out, at, kind, n);
-}
-
-fn widen(x: u16) -> u32
-    ensures { (result ≡ x) × (result < 65536) }
-{
-    x as u32
 }
 
 // The target that a place wrote: the number that its inner label stands for, or as it stands there.
@@ -85,7 +71,7 @@ fn put_target(
     let c = from.0;
     let owner = owner_at(state, from);
     if owner < NO_OWNER {
-        put_number(out, at, positions[owner] + widen(state[OFFSET][c]));
+        put_number(out, at, positions[owner] + u32::from(state[OFFSET][c]));
         return at + 10;
     }
     let frame = frame_at(frames, state, count, from);
@@ -125,13 +111,12 @@ fn put_instruction(
     ensures { let t : Slots = table_of frames.now state.now count in
         Put out.old at (instr_bytes t positions.now place.0) out.new result }
 {
-    let i = place.0;
     let form = form_in(state, place);
     let frame = frame_at(frames, state, count, place);
     let end = put_own(frame, state, place, form, out, at);
     if is_transfer(form) {
-        let c = wide(state[CARRY][i]);
-        return put_target(frames, state, count, positions, Place(c), out, end);
+        let from = carry_at(state, place);
+        return put_target(frames, state, count, positions, from, out, end);
     }
     end
 }
@@ -164,7 +149,7 @@ fn end_line(out: &mut [u8], at: usize) -> usize
     requires { at < length out.old }
     ensures { (out.new ≡ laid out.old at (10 ∷ [])) × (result ≡ at + 1) }
 {
-    out[at] = 10;
+    out[at] = b'\n';
     at + 1
 }
 
@@ -207,8 +192,7 @@ fn put_mark(marked: bool, out: &mut [u8]) -> usize
     if !marked {
         return 0;
     }
-    let mark = [0x7D, 0x02];
-    put_bytes(out, 0, &mark);
+    put_bytes(out, 0, &[0x7D, 0x02]);
     end_line(out, 4)
 }
 
@@ -228,11 +212,9 @@ pub fn write_text(
     ensures { let t : Slots = table_of frames.now state.now count in
         out.new ≡ front (listing_of (beside_in marked lines.now count) t) out.old }
 {
-    let first = put_mark(marked, out);
-    let mut at = first;
-    let mut i = 0;
-    while i < count {
-        let end = put_line(
+    let mut at = put_mark(marked, out);
+    for i in 0..count {
+        at = put_line(
             marked,
             lines,
             frames,
@@ -243,7 +225,5 @@ pub fn write_text(
             out,
             at,
         );
-        at = end;
-        i += 1;
     }
 }

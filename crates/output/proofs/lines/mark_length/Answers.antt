@@ -5,5 +5,5 @@ use native.Mathlib.Omega.{arith}
 use Rattle.digits.proofs.Rooms.{length_line}
 use Rattle.output.proofs.lines.mark_length.Goals as goal
 
-pub returns : goal.returns
-returns c = rw c.if-not-marked.false (sym (length_line (0x7D ∷ 0x02 ∷ [])), omega arith)
+pub returns-then-marked : goal.returns-then-marked
+returns-then-marked c = rw c.if-marked.true (sym (length_line (0x7D ∷ 0x02 ∷ [])), omega arith)

@@ -20,16 +20,15 @@ over s offsets = slots s.args.frames.now (starts_in s.args.state.now) s.args.cou
 pub loop-i-init : goal.loop-i-init
 loop-i-init c =
     let m = c.mark_length-n.ensures in
-    (omega arith, omega (arith, m.1), λ lines offsets sound. m.0 ∙ sym (ap length (lines_none _ _ _)))
+    (omega (arith, m.1), λ lines offsets sound. m.0 ∙ sym (ap length (lines_none _ _ _)))
 
 pub loop-i-preserved : goal.loop-i-preserved
 loop-i-preserved c =
     let l = c.loop-i in (
-      omega arith,
       omega (arith, c.line_length_at-n.ensures.0),
       λ lines offsets sound. omega (
         arith,
-        l.invariant.2 lines offsets sound,
+        l.invariant.1 lines offsets sound,
         c.line_length_at-n.ensures.1 lines offsets sound,
         length_more
             (over (goal.at.loop-i-preserved c).Start offsets) (form_of c.args.marked) lines l.i,
@@ -41,5 +40,5 @@ returns c lines offsets sound =
     let l = c.loop-i in
     let w = form_of c.args.marked in
     let e : l.i ≡ c.args.count = omega arith in
-    l.invariant.2 lines offsets sound ∙ ap (λ k. length (lines_to w lines (over (goal.at.returns c).Start offsets) k)) e ∙ ap length
+    l.invariant.1 lines offsets sound ∙ ap (λ k. length (lines_to w lines (over (goal.at.returns c).Start offsets) k)) e ∙ ap length
     (lines_all (over (goal.at.returns c).Start offsets) w lines)

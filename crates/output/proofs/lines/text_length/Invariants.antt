@@ -1,7 +1,7 @@
 -- `output::lines::text_length` meets its contract: after i turns n is the length of the mark and the first i lines.
 use mathlib.Core.Path.{◌≡◌}
 use mathlib.Core.List.{List}
-use Prim.Native.Nat.{ℕ, ◌+◌, ◌-◌, ◌*◌, ◌≤◌}
+use Prim.Native.Nat.{ℕ, ◌+◌, ◌*◌, ◌≤◌}
 use lib.ListN.{length}
 use Rattle.listing.specs.Form.{form_of}
 use Rattle.slots.specs.Slots.{slots, Sound}
@@ -11,10 +11,7 @@ use Rattle.output.proofs.lines.text_length.Given as goal
 
 abbrev pub invariant-loop-i : goal.invariant-loop-i
 invariant-loop-i l =
-    (l.i ≤ l.count) × (l.n ≤ 5 + 114697 * l.i)
+    (l.n ≤ 5 + 114697 * l.i)
     × ((lines offsets : List ℕ) → Sound (slots l.frames (starts_in l.state) l.count (forms_in l.state) (carry_in l.state)
     (owners_in l.state) offsets) → l.n ≡ length (lines_to (form_of l.marked) lines (slots l.frames (starts_in l.state) l.count
     (forms_in l.state) (carry_in l.state) (owners_in l.state) offsets) l.i))
-
-abbrev pub decreases-loop-i : goal.decreases-loop-i
-decreases-loop-i l = l.count - l.i

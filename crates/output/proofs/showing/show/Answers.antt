@@ -15,12 +15,13 @@ use Rattle.slots.proofs.State.{kept_same, kept_more, table_kept}
 use Rattle.output.specs.Showing.{shown_form}
 use Rattle.output.proofs.Shows.{slot_same, shown_slots, front_at, behind_at}
 use Rattle.output.proofs.showing.show.Goals as goal
+use Rattle.output.proofs.showing.show.Goals.{Start}
 
 -- the form of each place
 abbrev given : Settings → Slots → (i : ℕ) → ℕ
 given asked t i = shown_form asked (kind_of (slot_at t i)) (get_or t.forms i 0)
 
-module _ (s : goal.After-put_form-arg-1) where
+module _ (s : Start) where
   abbrev before : List (List ℕ)
   before = s.args.state.now
 
@@ -36,32 +37,6 @@ module _ (s : goal.After-put_form-arg-1) where
       front_length (tab its i) (forms_in before) forms i e (length_tab its i) (omega (arith, l, s.requires.0.held.few, s.requires.1))
       ∙ s.requires.1
 
-module _ (s : goal.After-put_form) where
-  abbrev before_2 : List (List ℕ)
-  before_2 = s.args.state.now
-
-  abbrev old_2 : Slots
-  old_2 = table_of s.args.frames.now before_2 s.args.count
-
-  abbrev its_2 : (i : ℕ) → ℕ
-  its_2 i = given s.args.asked old_2 i
-
-module _ (s : goal.After-loop-i) where
-  abbrev before_3 : List (List ℕ)
-  before_3 = s.args.state.now
-
-  abbrev old_3 : Slots
-  old_3 = table_of s.args.frames.now before_3 s.args.count
-
-  abbrev its_3 : (i : ℕ) → ℕ
-  its_3 i = given s.args.asked old_3 i
-
-  -- a row stays as long as it was
-  full_3 : (i : ℕ) (forms : List ℕ) → i ≤ s.args.count → forms ≡ tab its_3 i ++ drop i (forms_in before_3) → length forms ≡ 1025
-  full_3 i forms l e =
-      front_length (tab its_3 i) (forms_in before_3) forms i e (length_tab its_3 i) (omega (arith, l, s.requires.0.held.few, s.requires.1))
-      ∙ s.requires.1
-
 -- what stands at place i stands there until its turn
 still : (t : Slots) (starts forms : List ℕ) (i : ℕ) → starts ≡ t.starts → get_or forms i 0 ≡ get_or t.forms i 0
     → slot_at (slots t.frames starts t.count forms t.carry t.owners t.offsets) i ≡ slot_at t i
@@ -69,41 +44,43 @@ still t starts forms i e q = rw e (slot_same t forms i q)
 
 pub loop-i-init : goal.loop-i-init
 unfolding tab
-loop-i-init c = (omega arith, refl, refl, kept_same _)
+loop-i-init c = (refl, refl, kept_same _)
 
 pub put_form-requires : goal.put_form-requires
 put_form-requires c =
-    (omega (arith, c.loop-i-test.true, c.requires.0.held.few), full c c.loop-i.i _ c.loop-i.invariant.0 c.loop-i.invariant.1)
+    let s = (goal.at.put_form-requires c).Start in
+    (omega (arith, c.requires.0.held.few), full s c.loop-i.i _ c.loop-i.auto.i-end c.loop-i.invariant.0)
 
 pub loop-i-preserved : goal.loop-i-preserved
 loop-i-preserved c =
+    let s = (goal.at.loop-i-preserved c).Start in
     let l = c.loop-i in
-    let b = before_2 c in
-    let form = behind_at (its_2 c) (forms_in b) (forms_in l.state) l.i l.invariant.1 in
-    let same = still (old_2 c) (starts_in l.state) (forms_in l.state) l.i l.invariant.3.starts form in (
-      omega arith,
+    let b = before s in
+    let form = behind_at (its s) (forms_in b) (forms_in l.state) l.i l.invariant.0 in
+    let same = still (old s) (starts_in l.state) (forms_in l.state) l.i l.invariant.2.starts form in (
       c.put_form.ensures.forms
-          ∙ tab_more (its_2 c) (forms_in b) (forms_in l.state) l.i _ l.invariant.1
-          (omega (arith, c.loop-i-test.true, c.requires.0.held.few, c.requires.1))
+          ∙ tab_more (its s) (forms_in b) (forms_in l.state) l.i _ l.invariant.0
+          (omega (arith, c.requires.0.held.few, c.requires.1))
           (c.shown_form-shown.ensures (carry_in b) (owners_in b) (offsets_in b) ∙ ap₂ (λ (x : Stmt) (y : ℕ). shown_form c.args.asked
           (kind_of x) y) same form),
-      c.put_form.ensures.carry ∙ l.invariant.2,
-      kept_more b l.state _ l.invariant.3 c.put_form.ensures.kept,
+      c.put_form.ensures.carry ∙ l.invariant.1,
+      kept_more b l.state _ l.invariant.2 c.put_form.ensures.kept,
     )
 
 pub returns : goal.returns
 returns c =
+    let s = (goal.at.returns c).Start in
     let l = c.loop-i in
     let n = c.args.count in
+    let b = before s in
     let e : l.i ≡ n = omega arith in
-    let filled : forms_in l.state ≡ tab (its_3 c) n ++ drop n (forms_in (before_3 c)) = l.invariant.1
-    ∙ ap (λ (k : ℕ). tab (its_3 c) k ++ drop k (forms_in (before_3 c))) e in
-    let b = before_3 c in record {
-      room = (full_3 c n (forms_in l.state) (omega arith) filled, l.invariant.3.starts);
+    let filled : forms_in l.state ≡ tab (its s) n ++ drop n (forms_in b) = rw e at l.invariant.0 in
+    record {
+      room = (full s n (forms_in l.state) (omega arith) filled, l.invariant.2.starts);
       shows = (
-        table_kept c.args.frames.now b l.state n l.invariant.3
-            ∙ ap (λ (z : List ℕ). slots c.args.frames.now (starts_in b) n (forms_in l.state) z (owners_in b) (offsets_in b)) l.invariant.2,
-        shown_slots c.args.asked (old_3 c) (forms_in l.state) c.requires.0
-            (λ i h. front_at (its_3 c) n (forms_in l.state) (drop n (forms_in b)) i filled h),
+        table_kept c.args.frames.now b l.state n l.invariant.2
+            ∙ ap (λ (z : List ℕ). slots c.args.frames.now (starts_in b) n (forms_in l.state) z (owners_in b) (offsets_in b)) l.invariant.1,
+        shown_slots c.args.asked (old s) (forms_in l.state) c.requires.0
+            (λ i h. front_at (its s) n (forms_in l.state) (drop n (forms_in b)) i filled h),
       );
     }

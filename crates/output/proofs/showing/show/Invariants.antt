@@ -1,7 +1,7 @@
 -- `output::showing::show` meets its contract: a row filled from the front, each form from its own.
 use mathlib.Core.Path.{◌≡◌}
 use mathlib.Core.List.{◌++◌}
-use Prim.Native.Nat.{ℕ, ◌-◌, ◌≤◌}
+use Prim.Native.Nat.{ℕ}
 use lib.ListN.{get_or, drop}
 use Rattle.laws.specs.Counts.{tab}
 use Rattle.rules.specs.declared.Settings.{Settings}
@@ -17,10 +17,6 @@ given asked t i = shown_form asked (kind_of (slot_at t i)) (get_or t.forms i 0)
 
 abbrev pub invariant-loop-i : goal.invariant-loop-i
 invariant-loop-i l =
-    (l.i ≤ l.count)
-    × (forms_in l.state ≡ tab (given l.asked (table_of l.frames l.initial.state l.count)) l.i ++ drop l.i (forms_in l.initial.state))
+    (forms_in l.state ≡ tab (given l.asked (table_of l.frames l.initial.state l.count)) l.i ++ drop l.i (forms_in l.initial.state))
     × (carry_in l.state ≡ carry_in l.initial.state)
     × Kept l.initial.state l.state
-
-abbrev pub decreases-loop-i : goal.decreases-loop-i
-decreases-loop-i l = l.count - l.i

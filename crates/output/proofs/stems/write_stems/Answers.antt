@@ -12,7 +12,7 @@ use Rattle.slots.specs.Slots.{gone_form}
 use Rattle.digits.specs.Digits.{laid}
 use Rattle.slots.specs.State.{forms_in}
 use Rattle.output.specs.Stems.{kept_to, list_of}
-use Rattle.digits.proofs.Rooms.{length_laid, laid_more, laid_nothing, laid_front}
+use Rattle.digits.proofs.Rooms.{laid_more, laid_nothing, laid_front}
 use Rattle.output.proofs.Listings.{kept_few}
 use Rattle.output.proofs.Left.{kept_one, kept_none, counts_one, kept_within, length_list, list_more}
 use Rattle.output.proofs.stems.write_stems.Goals.{then-not-is_gone, else-not-is_gone}
@@ -35,49 +35,38 @@ module _ (count : ℕ) (forms list : List ℕ) (i n : ℕ) (l : i < count) (e : 
 
 pub loop-i-init : goal.loop-i-init
 unfolding kept_to list_of each tab
-loop-i-init c = (omega arith, refl, sym (laid_nothing _ 0), refl)
+loop-i-init c = (refl, sym (laid_nothing _ 0))
 
 pub overflow_mul-n : goal.overflow_mul-n
-overflow_mul-n c =
-    let l = c.loop-i in
-    omega (arith, l.invariant.1, kept_few (forms_in c.args.state.now) l.i, c.requires.0)
+overflow_mul-n c = omega (arith, kept_few (forms_in c.args.state.now) c.loop-i.i, c.requires.0)
 
 pub put_entry-requires : goal.put_entry-requires
 put_entry-requires c =
     let l = c.loop-i in
-    let h = entry_fits c.args.count (forms_in c.args.state.now) c.args.list.now l.i l.n c.loop-i-test.true l.invariant.1
+    let h = entry_fits c.args.count (forms_in c.args.state.now) c.args.list.now l.i l.n c.loop-i-test.true l.invariant.0
     (leb-false _ _ (sym c.is_gone.ensures ∙ c.if-not-is_gone.true)) c.requires.1 in
-    (omega (arith, h, l.invariant.3), omega (arith, c.requires.0))
+    (omega arith, omega arith)
 
 pub overflow_add-n : goal.overflow_add-n
-overflow_add-n c =
-    let l = c.loop-i in
-    omega (arith, l.invariant.1, kept_few (forms_in c.args.state.now) l.i, c.requires.0)
+overflow_add-n c = omega (arith, kept_few (forms_in c.args.state.now) c.loop-i.i, c.requires.0)
 
 pub loop-i-preserved : goal.loop-i-preserved
 loop-i-preserved c =
     let l = c.loop-i in
     let f = forms_in c.args.state.now in
     let d = c.args.list.now in
-    let less = c.loop-i-test.true in
     let form = c.is_gone.ensures in
     elim c.if-not-is_gone.branch [
       | then-not-is_gone w ↦
-          let t = leb-false _ _ (sym form ∙ w.if-not-is_gone.true) in
-          let h = entry_fits c.args.count f d l.i l.n less l.invariant.1 t c.requires.1 in (
-            omega arith,
-            w.n-is ∙ omega (arith, l.invariant.1, counts_one f l.i t),
-            w.list-is ∙ entry_more c.args.count f d l.i l.n less l.invariant.1 t l.list _ c.requires.1 l.invariant.2 w.put_entry.ensures,
-            ap length (w.list-is ∙ w.put_entry.ensures) ∙ length_laid l.list (2 * l.n) (pair l.i) (omega (arith, h, l.invariant.3))
-                ∙ l.invariant.3,
+          let t = leb-false _ _ (sym form ∙ w.if-not-is_gone.true) in (
+            w.n-is ∙ omega (arith, counts_one f l.i t),
+            w.list-is
+                ∙ entry_more c.args.count f d l.i l.n c.loop-i-test.true l.invariant.0 t l.list _ c.requires.1 l.invariant.1
+                w.put_entry.ensures,
           )
       | else-not-is_gone w ↦
-          let q = kept_none f l.i (leb-true _ _ (sym form ∙ w.if-not-is_gone.false)) in (
-            omega arith,
-            w.n-is ∙ l.invariant.1 ∙ ap length (sym q),
-            w.list-is ∙ l.invariant.2 ∙ ap (λ is. laid d 0 (list_of is)) (sym q),
-            ap length w.list-is ∙ l.invariant.3,
-          )
+          let q = kept_none f l.i (leb-true _ _ (sym form ∙ w.if-not-is_gone.false)) in
+          (w.n-is ∙ l.invariant.0 ∙ ap length (sym q), w.list-is ∙ l.invariant.1 ∙ ap (λ is. laid d 0 (list_of is)) (sym q))
     ]
 
 pub returns : goal.returns
@@ -85,7 +74,7 @@ returns c =
     let l = c.loop-i in
     let f = forms_in c.args.state.now in
     let e : l.i ≡ c.args.count = omega arith in (
-      l.invariant.2 ∙ ap (λ k. laid c.args.list.now 0 (list_of (kept_to f k))) e ∙ laid_front c.args.list.now
+      l.invariant.1 ∙ ap (λ k. laid c.args.list.now 0 (list_of (kept_to f k))) e ∙ laid_front c.args.list.now
           (list_of (kept_to f c.args.count)),
-      l.invariant.1 ∙ ap (λ k. length (kept_to f k)) e,
+      l.invariant.0 ∙ ap (λ k. length (kept_to f k)) e,
     )

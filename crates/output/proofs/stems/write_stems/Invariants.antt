@@ -1,6 +1,5 @@
 -- `output::stems::write_stems` meets its contract: after i turns the list begins with the places below i that are left.
 use mathlib.Core.Path.{◌≡◌}
-use Prim.Native.Nat.{◌-◌, ◌≤◌}
 use lib.ListN.{length}
 use Rattle.digits.specs.Digits.{laid}
 use Rattle.slots.specs.State.{forms_in}
@@ -9,8 +8,5 @@ use Rattle.output.proofs.stems.write_stems.Given as goal
 
 abbrev pub invariant-loop-i : goal.invariant-loop-i
 invariant-loop-i l =
-    (l.i ≤ l.count) × (l.n ≡ length (kept_to (forms_in l.state) l.i))
-    × (l.list ≡ laid l.initial.list 0 (list_of (kept_to (forms_in l.state) l.i))) × (length l.list ≡ length l.initial.list)
-
-abbrev pub decreases-loop-i : goal.decreases-loop-i
-decreases-loop-i l = l.count - l.i
+    (l.n ≡ length (kept_to (forms_in l.state) l.i))
+    × (l.list ≡ laid l.initial.list 0 (list_of (kept_to (forms_in l.state) l.i)))
