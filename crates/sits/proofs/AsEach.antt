@@ -3,18 +3,18 @@ use mathlib.Core.Path.{◌≡◌, refl, sym, ap, ◌∙◌}
 use mathlib.Core.List.{List, [], ◌∷◌}
 use Prim.Native.Nat.{ℕ, zero, suc, ◌+◌, ◌≤◌}
 use native.Mathlib.Omega.{arith}
-use lib.ListN.{length, get_or, take}
+use lib.ListN.{length, get_or}
 use lib.Seq.{take_all}
 use Rattle.laws.proofs.Counts.{get_or_tab}
 use Rattle.rules.specs.declared.Refusal.{Refusal}
 use Rattle.rules.specs.Answers.{Judged, Check, ok, no, ◌>>=◌, ◌>>◌}
 use Rattle.rules.specs.Programs.{Program}
-use Rattle.rules.specs.Listing.{Line, lines_of, ListingForm, form_in, statement_lines, read_lines, read_listing}
+use Rattle.rules.specs.Listing.{Line, lines_of, form_in, statement_lines, read_lines, read_listing}
 use Rattle.rules.specs.Layout.{position}
 use Rattle.rules.specs.Names.{placed}
 use Rattle.rules.specs.Judging.{positions_fit}
-use Rattle.rules.proofs.Laws.{then_ok, next_ok, no_ok}
-use Rattle.sits.specs.Sits.{lines_before, read_before, sits_among, sits}
+use Rattle.rules.proofs.Laws.{then_ok, next_ok}
+use Rattle.sits.specs.Sits.{read_before, sits_among, sits}
 use Rattle.sits.specs.All.{fitting, laid_out, all_positions, AsEach}
 use Rattle.sits.proofs.FullLayout.{before_lines, before_form, full_layout, none_before}
 

@@ -9,17 +9,15 @@ fn lines_length(text: &[u8], n: usize) -> usize
     ensures { result ≡ lines_length n text.now }
 {
     let mut passed = 0;
-    let mut i = 0;
-    while i < text.len() {
+    for (i, c) in text.iter().enumerate() {
         if passed == n {
             return i;
         }
-        if text[i] == 10 {
+        if *c == b'\n' {
             passed += 1;
         }
-        i += 1;
     }
-    i
+    text.len()
 }
 
 // How many bytes come before statement n: the lines before it, and the line that marks their form. Where n is 0 not even the mark is looked at.

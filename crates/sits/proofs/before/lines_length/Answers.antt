@@ -1,14 +1,13 @@
 -- `lines_length` meets its contract: what is passed and what the lines still to pass have come to the whole. Assumes nothing.
 use mathlib.Core.Path.{◌≡◌}
 use mathlib.Core.List.{List}
-use mathlib.Core.Logic.{⊎_elim}
 use Prim.Native.Nat.{ℕ, suc, ◌<◌, ◌+◌, ◌-◌}
 use native.Mathlib.Numerals.{add-one}
 use native.Mathlib.Omega.{arith}
 use lib.ListN.{length, get_or, drop}
 use Rattle.sits.specs.Before.{lines_length}
 use Rattle.sits.proofs.LinesBefore.{lines_none, lines_end, lines_feed, lines_more}
-use Rattle.sits.proofs.before.lines_length.Goals.{then-text-i-eq10, else-text-i-eq10}
+use Rattle.sits.proofs.before.lines_length.Goals.{then-c-eq10, else-c-eq10}
 use Rattle.sits.proofs.before.lines_length.Goals as goal
 
 -- one byte more, where some lines are still to pass
@@ -33,7 +32,7 @@ returns-then-passed-n c =
     let text = c.args.text.now in
     let z : c.args.n - turn.passed ≡ 0 = omega arith in
     let none : lines_length (c.args.n - turn.passed) (drop turn.i text) ≡ 0 = rw z (lines_none (drop turn.i text)) in
-    omega (arith, turn.invariant.3)
+    omega (arith, turn.invariant.2)
 
 pub loop-i-preserved : goal.loop-i-preserved
 loop-i-preserved c =
@@ -41,22 +40,20 @@ loop-i-preserved c =
     let text = c.args.text.now in
     let n = c.args.n in
     let some : turn.passed < n = omega (arith, c.if-passed-n.false) in
-    elim c.if-text-i-eq10.branch [
-      | then-text-i-eq10 w ↦ (
-        omega arith,
+    elim c.if-c-eq10.branch [
+      | then-c-eq10 w ↦ (
         omega (arith, w.passed-is),
         omega (arith, w.passed-is),
-        feed text n turn.passed turn.i (omega arith) some turn.invariant.3 c.if-text-i-eq10.passed w.if-text-i-eq10.true w.passed-is,
+        feed text n turn.passed turn.i (omega arith) some turn.invariant.2 c.if-c-eq10.passed w.if-c-eq10.true w.passed-is,
       )
-      | else-text-i-eq10 w ↦ (
-        omega arith,
+      | else-c-eq10 w ↦ (
         omega (arith, w.passed-is),
         omega (arith, w.passed-is),
-        more text n turn.passed turn.i (omega arith) some turn.invariant.3 c.if-text-i-eq10.passed w.if-text-i-eq10.false w.passed-is,
+        more text n turn.passed turn.i (omega arith) some turn.invariant.2 c.if-c-eq10.passed w.if-c-eq10.false w.passed-is,
       )
     ]
 
 pub returns : goal.returns
 returns c =
     let turn = c.loop-i in
-    omega (arith, turn.invariant.3, lines_end (c.args.n - turn.passed) c.args.text.now turn.i (omega arith))
+    omega (arith, turn.invariant.2, lines_end (c.args.n - turn.passed) c.args.text.now turn.i (omega arith))
