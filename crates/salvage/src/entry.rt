@@ -17,10 +17,7 @@ use rules::Refusal;
 fn mark_length(marked: bool) -> usize
     ensures { result ≡ mark_length marked }
 {
-    if marked {
-        return 5;
-    }
-    0
+    if marked { 5 } else { 0 }
 }
 
 // That line, at the front of the room.
@@ -43,18 +40,13 @@ pub fn salvage(text: &[u8], listing: &mut [u8], report: &mut [u8]) -> Saved
     let start = mark_length(marked);
     let rest = measure(text, marked, start);
     let chars = start + rest.listing;
-    let told = rest.report;
-    if listing.len() < chars {
-        return Saved::Refused(Refusal::Room(rest.statements));
-    }
-    if report.len() < told {
+    if listing.len() < chars || report.len() < rest.report {
         return Saved::Refused(Refusal::Room(rest.statements));
     }
     put_mark(marked, listing);
     write_from(text, marked, start, listing, report);
     Saved::Done(Extent {
-        statements: rest.statements,
         listing: chars,
-        report: told,
+        ..rest
     })
 }

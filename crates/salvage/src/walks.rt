@@ -23,20 +23,14 @@ fn keeps_limits(marked: bool, i: usize, sum: usize, length: usize) -> bool
     requires { (sum ≤ 65536) × (length ≤ 248) }
     ensures { result ≡ keeps_limits (form_of marked) i sum length }
 {
-    if 1024 <= i {
-        return false;
-    }
-    sum + length <= 49152 + 2048 * line_bytes(marked)
+    i < 1024 && sum + length <= 49152 + 2048 * line_bytes(marked)
 }
 
 // How many characters are told of a line.
 fn told_length(number: u8) -> usize
     ensures { (result ≡ told_length number) × (result ≤ 9) }
 {
-    if number == 0 {
-        return 0;
-    }
-    9
+    if number == 0 { 0 } else { 9 }
 }
 
 // What is told of a line, from `at` on, and where that ends.
@@ -45,10 +39,11 @@ fn put_told(report: &mut [u8], at: usize, number: u8, place: Place) -> usize
     ensures { (report.new ≡ laid report.old at (told_of number place.0)) × (result ≡ at + told_length number) }
 {
     if number == 0 {
-        return at;
+        at
+    } else {
+        put_replaced(report, at, number, place);
+        at + 9
     }
-    put_replaced(report, at, number, place);
-    at + 9
 }
 
 // What comes out of the lines from byte `start` on, which are the first statements.
