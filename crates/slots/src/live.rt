@@ -8,7 +8,7 @@ ghost use Rattle.slots.specs.Slots.{Slots, slots, gone_form, slot_at};
 ghost use Rattle.slots.specs.State.{starts_in, forms_in};
 ghost use Rattle.slots.specs.Meaning.{OtherIn, meant_by, Agrees, Stands};
 
-use crate::{GONE, SECOND, Slot, State, THIRD, form_in, frame_at, half, items_in, pair_in, wide};
+use crate::{GONE, SECOND, Slot, State, THIRD, form_in, frame_at, items_in, pair_in};
 use instruction::forms::{Made, make};
 use rules::{Arg, Instr, Place, Statement};
 
@@ -24,7 +24,10 @@ fn other_in(frame: &[u8]) -> Statement
         5 => Statement::Org(pair_in(frame)),
         6 => Statement::Bytes(items_in(frame), Arg(2)),
         7 => Statement::Words(items_in(frame), Arg(2)),
-        _ => Statement::Pad(items_in(frame), wide(half(frame[2], frame[3]))),
+        _ => Statement::Pad(
+            items_in(frame),
+            usize::from(u16::from_be_bytes([frame[2], frame[3]])),
+        ),
     }
 }
 
@@ -57,8 +60,8 @@ pub fn instr_at(state: &State, at: Place) -> Instr
         → slot_at t at.0 ≡ meant_by t at.0 (Statement.Instr result)) }
 {
     let i = at.0;
-    let second = Arg(wide(state[SECOND][i]));
-    let third = Arg(wide(state[THIRD][i]));
+    let second = Arg(usize::from(state[SECOND][i]));
+    let third = Arg(usize::from(state[THIRD][i]));
     match make(form_in(state, at), Arg(2), second, third) {
         Made::Is(x) => x,
         Made::Nothing => Instr::Nop, // never met: the form is one of the seventy

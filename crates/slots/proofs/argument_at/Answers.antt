@@ -13,7 +13,7 @@ pub returns-then-j-eq0 : goal.returns-then-j-eq0
 returns-then-j-eq0 c s n k l =
     sym (ap (λ (j : ℕ). argument_at s (operands_at (get_or s 1 0)) 2 j) c.if-j-eq0.true ∙ argument_first s (operands_at (get_or s 1 0)) 2)
 
-pub returns : goal.returns
-returns c s n k l =
-    c.wide.ensures ∙ sym (found_at c.args.state.now c.args.j c.args.at.0 (omega (arith, c.requires.1)) c.requires.0)
+pub returns-else-j-eq0 : goal.returns-else-j-eq0
+returns-else-j-eq0 c s n k l =
+    c.from.ensures ∙ sym (found_at c.args.state.now c.args.j c.args.at.0 (omega (arith, c.requires.1)) c.requires.0)
     ∙ n.place k c.args.j (omega (arith, c.if-j-eq0.false)) l

@@ -1,9 +1,11 @@
--- `slots::is_register` meets its contract: in each arm the kind is the arm's.
+-- `slots::is_register` meets its contract: by what the operand is.
 use mathlib.Core.Path.{◌≡◌, refl, sym, ap, ◌∙◌}
 use mathlib.Core.List.{List, [], ◌∷◌}
 use mathlib.Core.Bool.{Bool, false}
 use Prim.Native.Nat.{ℕ, zero, suc}
+use Rattle.std.proofs.Common.{rules}
 use Rattle.rules.specs.declared.Kind.{Kind}
+use Rattle.rules.specs.declared.Kind.TheVariants.{Reg, I8, D9, Bit, Rel8, A12, A16, Rel16}
 use Rattle.rules.specs.Forms.{operands_at}
 use Rattle.instruction.specs.declared.tables.Operand.{Operand}
 use Rattle.instruction.specs.declared.tables.Operand.TheVariants.{Is, Nothing}
@@ -21,34 +23,28 @@ same_register [] j = refl
 same_register (k ∷ ks) zero = refl
 same_register (k ∷ ks) (suc j) = same_register ks j
 
-via : (ks : List Kind) (j : ℕ) {o : Operand} {k r : Kind} → o ≡ operand_in ks j → o ≡ Is k → k ≡ r → is_reg r ≡ register_at ks j
+by : (f j : ℕ) {o p : Operand} → o ≡ operand_in (operands_at f) j → o ≡ p → register_of p ≡ register_at (operands_at f) j
+by f j e g = ap register_of (sym g ∙ e) ∙ same_register (operands_at f) j
+
+not_reg : (k : Kind) → (k ≡ Reg → ⊥) → is_reg k ≡ false
+not_reg Reg h = absurd (h refl)
+not_reg I8 h = refl
+not_reg D9 h = refl
+not_reg Bit h = refl
+not_reg Rel8 h = refl
+not_reg A12 h = refl
+not_reg A16 h = refl
+not_reg Rel16 h = refl
+
+pub returns-in-Is-Reg : goal.returns-in-Is-Reg
 unfolding register_of
-via ks j e f g = ap is_reg (sym g) ∙ ap register_of (sym f ∙ e) ∙ same_register ks j
+returns-in-Is-Reg c = by c.args.form c.args.j c.operand_kind.ensures (c.in-Is-Reg.is ∙ ap Is c.in-Is-Reg.field-0-is)
 
-pub returns-in-Reg : goal.returns-in-Reg
-returns-in-Reg c = via (operands_at c.args.form) c.args.j c.operand_kind.ensures c.in-Is.is c.in-Reg.is
-
-pub returns-in-I8 : goal.returns-in-I8
-returns-in-I8 c = via (operands_at c.args.form) c.args.j c.operand_kind.ensures c.in-Is.is c.in-I8.is
-
-pub returns-in-D9 : goal.returns-in-D9
-returns-in-D9 c = via (operands_at c.args.form) c.args.j c.operand_kind.ensures c.in-Is.is c.in-D9.is
-
-pub returns-in-Bit : goal.returns-in-Bit
-returns-in-Bit c = via (operands_at c.args.form) c.args.j c.operand_kind.ensures c.in-Is.is c.in-Bit.is
-
-pub returns-in-Rel8 : goal.returns-in-Rel8
-returns-in-Rel8 c = via (operands_at c.args.form) c.args.j c.operand_kind.ensures c.in-Is.is c.in-Rel8.is
-
-pub returns-in-A12 : goal.returns-in-A12
-returns-in-A12 c = via (operands_at c.args.form) c.args.j c.operand_kind.ensures c.in-Is.is c.in-A12.is
-
-pub returns-in-A16 : goal.returns-in-A16
-returns-in-A16 c = via (operands_at c.args.form) c.args.j c.operand_kind.ensures c.in-Is.is c.in-A16.is
-
-pub returns-in-Rel16 : goal.returns-in-Rel16
-returns-in-Rel16 c = via (operands_at c.args.form) c.args.j c.operand_kind.ensures c.in-Is.is c.in-Rel16.is
-
-pub returns-in-Nothing : goal.returns-in-Nothing
+pub returns-in_default : goal.returns-in_default
 unfolding register_of
-returns-in-Nothing c = ap register_of (sym c.in-Nothing.is ∙ c.operand_kind.ensures) ∙ same_register (operands_at c.args.form) c.args.j
+returns-in_default c =
+    sym (not_reg c.in_default.field-0 (λ e. search (rules, e))) ∙ by c.args.form c.args.j c.operand_kind.ensures c.in_default.is
+
+pub returns-in_default-2 : goal.returns-in_default-2
+unfolding register_of
+returns-in_default-2 c = by c.args.form c.args.j c.operand_kind.ensures c.in_default.is

@@ -7,4 +7,4 @@ use Rattle.slots.proofs.put_form.Goals as goal
 pub returns : goal.returns
 returns c =
     let byte : c.args.form < 256 = omega arith in
-    form_put c.args.state.now c.args.at.0 c.args.form byte c.requires.1
+    rw c.from.ensures (form_put c.args.state.now c.args.at.0 c.args.form byte c.requires.1)

@@ -4,4 +4,4 @@ use Rattle.slots.proofs.State.{start_at}
 use Rattle.slots.proofs.start_at.Goals as goal
 
 pub returns : goal.returns
-returns c = c.wide.ensures ∙ sym (start_at c.args.state.now c.args.i c.requires)
+returns c = c.from.ensures ∙ sym (start_at c.args.state.now c.args.i c.requires)

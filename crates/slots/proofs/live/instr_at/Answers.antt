@@ -24,10 +24,10 @@ module _ (c : goal.In-Is) where
   place = c.args.at.0
 
   abbrev second : ℕ
-  second = c.wide.result
+  second = c.from.result
 
   abbrev third : ℕ
-  third = c.wide-2.result
+  third = c.from-2.result
 
   abbrev held : ℕ
   held = c.form_in.result
@@ -42,13 +42,13 @@ module _ (c : goal.In-Is) where
     second_is : get_or frame 0 0 ≡ 1 → (j : ℕ) → 1 < length (operands_at (get_or frame 1 0)) → second ≡ argument_at frame
         (operands_at (get_or frame 1 0)) 2 1
     second_is one j m =
-        c.wide.ensures ∙ sym (found_at c.args.state.now 1 place (omega arith) (omega (arith, c.requires.0)))
+        c.from.ensures ∙ sym (found_at c.args.state.now 1 place (omega arith) (omega (arith, c.requires.0)))
         ∙ (h.noted place l).place one 1 (omega arith) m
 
     third_is : get_or frame 0 0 ≡ 1 → (j : ℕ) → 2 < length (operands_at (get_or frame 1 0)) → third ≡ argument_at frame
         (operands_at (get_or frame 1 0)) 2 2
     third_is one j m =
-        c.wide-2.ensures ∙ sym (found_at c.args.state.now 2 place (omega arith) (omega (arith, c.requires.0)))
+        c.from-2.ensures ∙ sym (found_at c.args.state.now 2 place (omega arith) (omega (arith, c.requires.0)))
         ∙ (h.noted place l).place one 2 (omega arith) m
 
 pub returns-in-Is : goal.returns-in-Is
