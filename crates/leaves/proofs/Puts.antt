@@ -5,11 +5,15 @@ use mathlib.Core.List.{List, [], ◌∷◌, ◌++◌, append_assoc, append-nil}
 use mathlib.Core.Bool.{Bool, true, false}
 use lib.Dec.{leb}
 use borrow.Author.Tests.{leb-true, leb-false}
-use Prim.Native.Nat.{ℕ, suc, ◌+◌, ◌≤◌, ◌<◌}
+use Prim.Native.Nat.{ℕ, suc, ◌+◌, ◌-◌, ◌≤◌, ◌<◌}
 use native.Mathlib.Numerals.{add-one}
 use native.Mathlib.Omega.{arith}
-use lib.ListN.{length, get_or, take, drop, set, length-set, length-append, length-take, drop_of_length-le}
-use lib.Seq.{take-suc-set, take-set-le, take-set-lt, drop-set-lt, take-take, length-take-le, get_or-take, get_or-set_same, drop-cons, set_split, take_at, drop_at}
+use lib.ListN.{length, take, drop, set, length-set, length-append, length-drop}
+use lib.Seq.{take-suc-set, take-set-lt, take-take, length-take-le, set_split, take_at, drop_at, length-paste}
+use borrow.Rule.Slice.PartMut.{put_mid, same_len_mid}
+use Rattle.std.specs.List.{copy_within}
+use Rattle.std.proofs.lemmas.Slice.{take-put_mid}
+use Rattle.std.proofs.lemmas.List.{take-append-le, drop-take}
 use Rattle.leaves.specs.Answering.{Put, Inserted}
 
 le_or_lt : (a b : ℕ) → (a ≤ b) ⊎ (b < a)
@@ -68,6 +72,21 @@ put_five b at v x y z w h =
     let e5 : at + 5 ≡ at + 4 + 1 = omega arith in
     ap (λ n. take n (set b4 (at + 4) w)) e5 ∙ s5
 
+-- a byte and, behind it, a piece copied into its part of the room
+pub put_behind : (b x y : List ℕ) (at v k to : ℕ) → length b ≡ 32 → y ≡ x → length x ≡ k → to ≡ at + 1 + k → to ≤ 32
+    → Put b (put_mid (at + 1) (to - (at + 1)) (set b at v) y) at (v ∷ x) to
+put_behind b x y at v k to s q l e h =
+    let d : List ℕ = set b at v in
+    let n : to - (at + 1) ≡ k = omega arith in
+    let z : length d ≡ 32 = length-set b at v ∙ s in
+    let ly : length y ≡ k = ap (λ (t : List ℕ). length t) q ∙ l in
+    let m : length (take (to - (at + 1)) (drop (at + 1) d)) ≡ k =
+    length-take-le (to - (at + 1)) (drop (at + 1) d) (omega (arith, length-drop (at + 1) d)) ∙ n in
+    let one : take (at + 1) d ≡ take at b ++ (v ∷ []) = ap (λ j. take j d) (add-one at) ∙ take-suc-set b at v (omega arith) in
+    fits b (put_mid (at + 1) (to - (at + 1)) d y) (v ∷ x) at to (same_len_mid (at + 1) (to - (at + 1)) d y (ly ∙ sym m) ∙ z) h
+    (omega arith)
+    (take-put_mid (at + 1) (to - (at + 1)) d y to (omega arith) (omega arith) ∙ rw (one, q, append_assoc (take at b) (v ∷ []) x))
+
 -- ---- an operator in front of its operands
 
 -- b is now a, where the bytes from i to `end` have moved up by one
@@ -76,45 +95,27 @@ pub record Moved (b a : List ℕ) (end i : ℕ) : Type 0 where
   pub below : take i a ≡ take i b
   pub above : drop (i + 1) (take (end + 1) a) ≡ drop i (take end b)
 
-pub moved_start : (b : List ℕ) (end : ℕ) → Moved b b end end
-moved_start b end =
+-- moved by the library
+pub moved_within : (b a : List ℕ) (end i : ℕ) → i ≤ end → end < length b → a ≡ copy_within b i end (i + 1) → Moved b a end i
+moved_within b a end i h k e =
+    let p : List ℕ = take (i + 1) b in
+    let q : List ℕ = take (end - i) (drop i b) in
+    let r : List ℕ = drop (i + 1 + (end - i)) b in
+    let lp : length p ≡ i + 1 = length-take-le (i + 1) b (omega arith) in
+    let lq : length q ≡ end - i = length-take-le (end - i) (drop i b) (omega (arith, length-drop i b)) in
+    let z : i + (end - i) ≡ end = omega arith in
+    let lx : length (p ++ q) ≡ end + 1 = omega (arith, length-append p q) in
     record {
-      size = refl;
-      below = refl;
-      above =
-          let h : length (take (end + 1) b) ≤ end + 1 = omega (arith, length-take (end + 1) b) in
-          let k : length (take end b) ≤ end = omega (arith, length-take end b) in
-          drop_of_length-le (take (end + 1) b) h ∙ sym (drop_of_length-le (take end b) k);
-    }
-
-pub moved_more : (b a : List ℕ) (end i : ℕ) → i < end → end < length b → Moved b a end (i + 1)
-    → Moved b (set a (i + 1) (get_or a i 0)) end i
-moved_more b a end i h k m =
-    let v = get_or a i 0 in
-    let z = set a (i + 1) v in
-    let j = i + 1 in
-    let la : length a ≡ length b = m.size in
-    let t : List ℕ = take (end + 1) a in
-    let lt : length t ≡ end + 1 = length-take-le (end + 1) a (omega arith) in
-    let lb : length (take end b) ≡ end = length-take-le end b (omega arith) in
-    let same : v ≡ get_or b i 0 =
-    sym (get_or-take (i + 1) a i 0 (omega arith)) ∙ ap (λ y. get_or y i 0) m.below ∙ get_or-take (i + 1) b i 0 (omega arith) in
-    let lz : j < length (set t j v) = omega (arith, length-set t j v) in
-    record {
-      size = length-set a (i + 1) v ∙ m.size;
+      size = ap (λ (t : List ℕ). length t) e ∙ length-paste b (i + 1) (drop i b) (end - i) (omega arith) (omega (arith, length-drop i b));
       below =
-          take-set-le i a (i + 1) v (omega arith)
-          ∙ sym (take-take i (i + 1) a (omega arith))
-          ∙ ap (take i) m.below
+          ap (take i) e ∙ take-append-le i (p ++ q) r (omega arith) ∙ take-append-le i p q (omega arith)
           ∙ take-take i (i + 1) b (omega arith);
       above =
-          ap (drop j) (take-set-lt (end + 1) a j v (omega arith))
-          ∙ drop-cons (set t j v) j 0 lz
-          ∙ ap (λ y. y ∷ drop (suc j) (set t j v)) (get_or-set_same t j v 0 (omega arith) ∙ same ∙ sym (get_or-take end b i 0 h))
-          ∙ ap (λ y. get_or (take end b) i 0 ∷ y)
-          (drop-set-lt (suc j) t j v (omega arith) ∙ ap (λ n. drop n t) (sym (add-one j)) ∙ m.above
-          ∙ ap (λ n. drop n (take end b)) (add-one i))
-          ∙ sym (drop-cons (take end b) i 0 (omega arith));
+          ap (λ (t : List ℕ). drop (i + 1) (take (end + 1) t)) e
+          ∙ ap (drop (i + 1)) (take_at (p ++ q) r (end + 1) lx)
+          ∙ drop_at p q (i + 1) lp
+          ∙ sym (drop-take i (end - i) b)
+          ∙ ap (λ n. drop i (take n b)) z;
     }
 
 pub moved_put : (b a : List ℕ) (end at code : ℕ) → at ≤ end → end < length b → Moved b a end at

@@ -11,41 +11,27 @@ use crate::Value;
 pub fn look(s: &[u8]) -> u8
     ensures { result ≡ look s.now }
 {
-    if s.len() < 1 {
-        return 0;
-    }
-    s[0]
+    s.first().copied().unwrap_or(0)
 }
 
 pub fn is_decimal(c: u8) -> bool
     ensures { result ≡ is_decimal c }
 {
-    if c < 48 {
-        return false;
-    }
-    c < 58
+    c.is_ascii_digit()
 }
 
 fn digit(c: u8) -> usize
     requires { is_decimal c ≡ true }
     ensures { (result ≡ c - 48) × (result ≤ 9) }
 {
-    let d = c - 48;
-    d as usize
+    usize::from(c - b'0')
 }
 
 // How many spaces come first.
 pub fn spaces(s: &[u8]) -> usize
     ensures { (result ≤ length s.now) × (drop result s.now ≡ skip s.now) }
 {
-    let mut i = 0;
-    while i < s.len() {
-        if s[i] != 32 {
-            return i;
-        }
-        i += 1;
-    }
-    i
+    s.iter().position(|c| *c != b' ').unwrap_or(s.len())
 }
 
 // The digits that come first, as a number of at most `most`.
@@ -53,10 +39,8 @@ pub fn digits(s: &[u8], most: usize) -> Value
     requires { most ≤ 2147483648 }
     ensures { Valued s.now (digits most 0 s.now) most result }
 {
-    let mut i = 0;
-    let mut v: usize = 0;
-    while i < s.len() {
-        let c = s[i];
+    let mut v = 0;
+    for (i, &c) in s.iter().enumerate() {
         if !is_decimal(c) {
             return Value::Is(i, v);
         }
@@ -65,9 +49,8 @@ pub fn digits(s: &[u8], most: usize) -> Value
             return Value::Not(i);
         }
         v = w;
-        i += 1;
     }
-    Value::Is(i, v)
+    Value::Is(s.len(), v)
 }
 
 fn tens(k: usize) -> usize
@@ -87,22 +70,16 @@ fn tens(k: usize) -> usize
 pub fn fixed(s: &[u8]) -> Value
     ensures { Valued s.now (fixed 32767 5 0 s.now) 32767 result }
 {
-    let mut i = 0;
-    let mut v: usize = 0;
-    while i < 5 {
-        if s.len() <= i {
+    let mut v = 0;
+    for i in 0..5 {
+        if s.len() <= i || !is_decimal(s[i]) {
             return Value::Not(i);
         }
-        let c = s[i];
-        if !is_decimal(c) {
-            return Value::Not(i);
-        }
-        let w = 10 * v + digit(c);
+        let w = 10 * v + digit(s[i]);
         if w * tens(4 - i) > 32767 {
             return Value::Not(i);
         }
         v = w;
-        i += 1;
     }
     Value::Is(5, v)
 }

@@ -14,20 +14,12 @@ use crate::{Found, Value};
 fn sign_at(s: &[u8]) -> u8
     ensures { result ≡ sign_code (led s.now) }
 {
-    let c = look(s);
-    if c == 62 {
-        return 0x21;
+    match look(s) {
+        b'>' => 0x21,
+        b'<' => 0x22,
+        b'-' if !is_decimal(look(&s[1..])) => 0x20,
+        _ => 0,
     }
-    if c == 60 {
-        return 0x22;
-    }
-    if c != 45 {
-        return 0;
-    }
-    if is_decimal(look(&s[1..])) {
-        return 0;
-    }
-    0x20
 }
 
 // Spaces may stand before it.
@@ -44,7 +36,7 @@ fn blank(s: &[u8]) -> usize
     ensures { (start s.now ≡ nothing (drop result s.now)) × (result ≤ length s.now) }
 {
     let j = spaces(s);
-    if look(&s[j..]) == 45 {
+    if look(&s[j..]) == b'-' {
         return j + 1;
     }
     j
@@ -94,7 +86,7 @@ fn local(s: &[u8], out: &mut [u8; 32], at: usize) -> Found
     requires { (length out.old ≡ 32) × (at ≤ 33) × (look s.now ≡ 46) }
     ensures { Answered alone s.now out.old out.new at result }
 {
-    if look(&s[1..]) != 108 {
+    if look(&s[1..]) != b'l' {
         return Found::Stuck(1);
     }
     match fixed(&s[2..]) {
@@ -111,23 +103,14 @@ pub fn leaf(s: &[u8], out: &mut [u8; 32], at: usize) -> Found
     requires { (length out.old ≡ 32) × (at ≤ 33) × (sign_code (start s.now) ≡ 0) × (look s.now ≡ 40 → ⊥) }
     ensures { Answered alone s.now out.old out.new at result }
 {
-    let c = look(s);
-    if is_decimal(c) {
-        return plain(s, out, at);
+    match look(s) {
+        b'0'..=b'9' => plain(s, out, at),
+        b'-' => minus(s, out, at),
+        b'g' => global(s, out, at),
+        b'.' => local(s, out, at),
+        b' ' => Found::Stuck(blank(s)),
+        _ => Found::Stuck(0),
     }
-    if c == 45 {
-        return minus(s, out, at);
-    }
-    if c == 103 {
-        return global(s, out, at);
-    }
-    if c == 46 {
-        return local(s, out, at);
-    }
-    if c == 32 {
-        return Found::Stuck(blank(s));
-    }
-    Found::Stuck(0)
 }
 
 // The four bytes of -v, as a number.
@@ -135,8 +118,5 @@ fn negative(v: usize) -> u32
     requires { v ≤ 2147483648 }
     ensures { result ≡ of_z w32 (neg_ℤ (pos v)) }
 {
-    if v < 1 {
-        return 0;
-    }
-    (4294967296 - v) as u32
+    (v as u32).wrapping_neg()
 }

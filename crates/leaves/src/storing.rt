@@ -4,12 +4,6 @@ ghost use Rattle.std.specs.Prelude.{◌≡◌, ◌∷◌, ◌++◌, ℕ, ◌+◌
 ghost use Rattle.rules.specs.Expressions.{pair, four};
 ghost use Rattle.leaves.specs.Answering.{Put, Inserted};
 
-fn low_byte(x: u32) -> u8
-    ensures { result ≡ x % 256 }
-{
-    (x % 256) as u8
-}
-
 // A number: 00 and four bytes.
 pub fn put_number(out: &mut [u8; 32], at: usize, bits: u32) -> usize
     requires { (length out.old ≡ 32) × (at ≤ 33) }
@@ -19,10 +13,7 @@ pub fn put_number(out: &mut [u8; 32], at: usize, bits: u32) -> usize
         return 33;
     }
     out[at] = 0;
-    out[at + 1] = low_byte(bits / 16777216);
-    out[at + 2] = low_byte(bits / 65536);
-    out[at + 3] = low_byte(bits / 256);
-    out[at + 4] = low_byte(bits);
+    out[at + 1..at + 5].copy_from_slice(&bits.to_be_bytes());
     at + 5
 }
 
@@ -35,8 +26,7 @@ pub fn put_name(out: &mut [u8; 32], at: usize, name: u32) -> usize
         return 33;
     }
     out[at] = 1;
-    out[at + 1] = low_byte(name / 256);
-    out[at + 2] = low_byte(name);
+    out[at + 1..at + 3].copy_from_slice(&(name as u16).to_be_bytes());
     at + 3
 }
 
@@ -48,11 +38,7 @@ pub fn insert(out: &mut [u8; 32], at: usize, end: usize, code: u8) -> usize
     if end > 31 {
         return 33;
     }
-    let mut i = end;
-    while i > at {
-        out[i] = out[i - 1];
-        i -= 1;
-    }
+    out.copy_within(at..end, at + 1);
     out[at] = code;
     end + 1
 }

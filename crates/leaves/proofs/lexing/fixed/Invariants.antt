@@ -5,7 +5,4 @@ use Rattle.grammar.specs.Going.{fixed}
 use Rattle.leaves.proofs.lexing.fixed.Given as goal
 
 abbrev pub invariant-loop-i : goal.invariant-loop-i
-invariant-loop-i l = (l.i ≤ 5) × ((l.i ≤ length l.s) × ((l.v ≤ 32767) × (fixed 32767 5 0 l.s ≡ fixed 32767 (5 - l.i) l.v (drop l.i l.s))))
-
-abbrev pub decreases-loop-i : goal.decreases-loop-i
-decreases-loop-i l = 5 - l.i
+invariant-loop-i l = (l.i ≤ length l.s) × (l.v ≤ 32767) × (fixed 32767 5 0 l.s ≡ fixed 32767 (5 - l.i) l.v (drop l.i l.s))

@@ -1,0 +1,16 @@
+-- `storing::put_name` meets its contract.
+use mathlib.Core.Path.{◌≡◌, refl, ◌∙◌, ap}
+use mathlib.Core.List.{[], ◌∷◌}
+use Prim.Native.Nat.{ℕ, ◌/◌, ◌%◌}
+use native.Mathlib.Omega.{arith}
+use Rattle.rules.specs.Expressions.{pair}
+use Rattle.leaves.proofs.Puts.{put_behind}
+use Rattle.leaves.proofs.storing.put_name.Goals as goal
+
+pub returns : goal.returns
+returns c =
+    let n = c.args.name in
+    let z : n / 256 % 256 ≡ n / 256 = omega arith in
+    let f : c.to_be_bytes.result ≡ pair n = c.to_be_bytes.ensures ∙ ap (λ (k : ℕ). k ∷ n % 256 ∷ []) z in
+    put_behind c.args.out.now (pair n) c.copy_from_slice.new.self c.args.at 1 2 _ c.requires.0 (c.copy_from_slice.ensures.after ∙ f) refl
+    (omega arith) (omega arith)
