@@ -19,13 +19,13 @@ fn infix_of(c: u8) -> u8
     ensures { result ≡ code_of (infix_of c) }
 {
     match c {
-        42 => 0x12,
-        47 => 0x13,
-        43 => 0x10,
-        45 => 0x11,
-        38 => 0x15,
-        94 => 0x14,
-        124 => 0x16,
+        b'*' => 0x12,
+        b'/' => 0x13,
+        b'+' => 0x10,
+        b'-' => 0x11,
+        b'&' => 0x15,
+        b'^' => 0x14,
+        b'|' => 0x16,
         _ => 0,
     }
 }
@@ -34,19 +34,13 @@ fn infix_of(c: u8) -> u8
 fn level_of(code: u8) -> usize
     ensures { (o : Op2) → code ≡ code2 o → result ≡ level_of o }
 {
-    if code < 0x12 {
-        return 2;
+    match code {
+        0x12 | 0x13 => 1,
+        0x10 | 0x11 => 2,
+        0x15 => 3,
+        0x14 => 4,
+        _ => 5,
     }
-    if code < 0x14 {
-        return 1;
-    }
-    if code == 0x15 {
-        return 3;
-    }
-    if code == 0x14 {
-        return 4;
-    }
-    5
 }
 
 // The byte of the operator of a level that a byte is; 0 where it is none.
@@ -54,13 +48,11 @@ fn op_at(level: usize, c: u8) -> u8
     ensures { result ≡ code_of (op_at level c) }
 {
     let code = infix_of(c);
-    if code < 1 {
-        return 0;
+    if code == 0 || level_of(code) != level {
+        0
+    } else {
+        code
     }
-    if level_of(code) != level {
-        return 0;
-    }
-    code
 }
 
 // What was read after k bytes.
@@ -98,10 +90,8 @@ fn trail(s: &[u8], n: usize, to: usize) -> Found
 {
     let t = &s[n..];
     let k = n + spaces(t);
-    if k > n {
-        if infix_of(look(&s[k..])) < 1 {
-            return Found::Stuck(k);
-        }
+    if k > n && infix_of(look(&s[k..])) == 0 {
+        return Found::Stuck(k);
     }
     Found::Ends(k, to)
 }
@@ -111,21 +101,19 @@ fn closing(s: &[u8], k: usize, to: usize) -> Found
     requires { k ≤ length s.now }
     ensures { Passed s.now to (λ e. close (got e (drop k s.now))) result }
 {
-    if k < s.len() {
-        if s[k] == 41 {
-            return Found::Ends(k + 1, to);
-        }
+    if k < s.len() && s[k] == b')' {
+        return Found::Ends(k + 1, to);
     }
     Found::Stuck(k)
 }
 
 // An operand without the spaces behind it: in parentheses, behind a sign, or a number or a name.
-#[cycle(atom_more_operand_product_sum_tier)]
+#[cycle(atom_more_operand_tier)]
 fn atom(s: &[u8], out: &mut [u8; 32], at: usize) -> Found
     requires { (length out.old ≡ 32) × (at ≤ 33) }
     ensures { Answered alone s.now out.old out.new at result }
 {
-    if look(s) == 40 {
+    if look(s) == b'(' {
         let r = tier(5, &s[1..], out, at);
         match r {
             Found::Ends(n, to) => {
@@ -137,7 +125,7 @@ fn atom(s: &[u8], out: &mut [u8; 32], at: usize) -> Found
         }
     }
     let code = sign_of(s);
-    if code < 1 {
+    if code == 0 {
         return leaf(s, out, at);
     }
     let k = past_sign(s);
@@ -151,7 +139,7 @@ fn atom(s: &[u8], out: &mut [u8; 32], at: usize) -> Found
     }
 }
 
-#[cycle(atom_more_operand_product_sum_tier)]
+#[cycle(atom_more_operand_tier)]
 fn operand(s: &[u8], out: &mut [u8; 32], at: usize) -> Found
     requires { (length out.old ≡ 32) × (at ≤ 33) }
     ensures { Answered (whole 0) s.now out.old out.new at result }
@@ -163,52 +151,14 @@ fn operand(s: &[u8], out: &mut [u8; 32], at: usize) -> Found
     }
 }
 
-// "a product of operands"
-#[cycle(atom_more_operand_product_sum_tier)]
-fn product(s: &[u8], out: &mut [u8; 32], at: usize) -> Found
-    requires { (length out.old ≡ 32) × (at ≤ 33) }
-    ensures { Answered (whole 1) s.now out.old out.new at result }
-{
-    let r = operand(s, out, at);
-    match r {
-        Found::Ends(n, to) => {
-            let q = more(0, &s[n..], out, at, to);
-            after(n, q)
-        }
-        Found::Stuck(n) => Found::Stuck(n),
-    }
-}
-
-// "A sum is made of products"
-#[cycle(atom_more_operand_product_sum_tier)]
-fn sum(s: &[u8], out: &mut [u8; 32], at: usize) -> Found
-    requires { (length out.old ≡ 32) × (at ≤ 33) }
-    ensures { Answered (whole 2) s.now out.old out.new at result }
-{
-    let r = product(s, out, at);
-    match r {
-        Found::Ends(n, to) => {
-            let q = more(1, &s[n..], out, at, to);
-            after(n, q)
-        }
-        Found::Stuck(n) => Found::Stuck(n),
-    }
-}
-
-// An expression of any level: an operand 0, a product 1, a sum 2, then those of `&`, `^` and `|`.
-#[cycle(atom_more_operand_product_sum_tier)]
+// An expression of any level: an operand 0, "a product of operands" 1, "a sum .. of products" 2, then those of `&`, `^` and `|`.
+#[cycle(atom_more_operand_tier)]
 fn tier(level: usize, s: &[u8], out: &mut [u8; 32], at: usize) -> Found
     requires { (length out.old ≡ 32) × (at ≤ 33) × (level ≤ 5) }
     ensures { Answered (whole level) s.now out.old out.new at result }
 {
-    if level < 1 {
+    if level == 0 {
         return operand(s, out, at);
-    }
-    if level == 1 {
-        return product(s, out, at);
-    }
-    if level == 2 {
-        return sum(s, out, at);
     }
     let below = level - 1;
     let r = tier(below, s, out, at);
@@ -222,13 +172,13 @@ fn tier(level: usize, s: &[u8], out: &mut [u8; 32], at: usize) -> Found
 }
 
 // What follows in a chain of level + 1 whose left operand stands from `at` to `to`.
-#[cycle(atom_more_operand_product_sum_tier)]
+#[cycle(atom_more_operand_tier)]
 fn more(level: usize, s: &[u8], out: &mut [u8; 32], at: usize, to: usize) -> Found
     requires { (length out.old ≡ 32) × (to ≤ 33) × (to ≤ 32 → at ≤ to) × (level ≤ 4) }
     ensures { (takes result ≤ length s.now) × Continued level s.now out.old out.new at to result }
 {
     let code = op_at(level + 1, look(s));
-    if code < 1 {
+    if code == 0 {
         return Found::Ends(0, to);
     }
     let k = past(s);

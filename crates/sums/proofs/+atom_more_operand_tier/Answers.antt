@@ -5,10 +5,9 @@ use Rattle.leaves.specs.declared.Found.TheVariants.{Stuck}
 use Rattle.grammar.specs.Going.{alone, whole, op_at}
 use Rattle.leaves.specs.Answering.{Answered, Continued, takes, after_of, code_of}
 use Rattle.leaves.proofs.Leafs.{some_byte}
-use Rattle.sums.proofs.Readings.{of_rest, part_length, left, paren_ends, paren_stuck, sign_ends, sign_stuck, sign_byte, trail_ends, trail_stuck, chain_ends, chain_stuck, continued, more_none, more_ends, more_stuck, op_byte, inserted, takes_is, takes_after}
+use Rattle.sums.proofs.Readings.{of_rest, part_length, left, paren_ends, paren_stuck, sign_ends, sign_stuck, sign_byte, trail_ends, trail_stuck, chain_ends, chain_stuck, continued, more_none, more_ends, more_stuck, op_byte, takes_is, takes_after}
 use native.Mathlib.Omega.{arith}
-use Prim.Native.Nat.{ℕ, ◌<◌}
-use Rattle.sums.proofs.+atom_more_operand_product_sum_tier.Goals as goal
+use Rattle.sums.proofs.+atom_more_operand_tier.Goals as goal
 
 pub atom-returns-in-Ends : goal.atom-returns-in-Ends
 atom-returns-in-Ends t c =
@@ -37,7 +36,7 @@ atom-past_sign-k-requires t c =
     let a = c.args in
     let s = a.s.now in
     let o = a.out.now in
-    sign_byte s c.sign_of-code.result c.sign_of-code.ensures c.if-code-lt1.false
+    sign_byte s c.sign_of-code.result c.sign_of-code.ensures (omega arith)
 
 pub atom-returns-in-Ends-r : goal.atom-returns-in-Ends-r
 atom-returns-in-Ends-r t c =
@@ -51,7 +50,7 @@ atom-returns-in-Ends-r t c =
     let n = c.in-Ends-r.n in
     let to = c.in-Ends-r.end in
     sign_ends s o a.at c.atom-r.new.out c.insert-to.new.out k n to c.sign_of-code.result c.insert-to.result c.requires.0 c.requires.1
-    c.sign_of-code.ensures c.if-code-lt1.false kp.1 kp.2 g c.insert-to.ensures
+    c.sign_of-code.ensures (omega arith) kp.1 kp.2 g c.insert-to.ensures
 
 pub atom-returns-in-Stuck-r : goal.atom-returns-in-Stuck-r
 atom-returns-in-Stuck-r t c =
@@ -63,16 +62,16 @@ atom-returns-in-Stuck-r t c =
     let g = subst (λ x. Answered alone (drop k s) (o) c.atom-r.new.out a.at x) c.in-Stuck-r.is
     (of_rest alone k s (o) c.atom-r.new.out a.at c.atom-r.result c.atom-r.ensures) in
     let n = c.in-Stuck-r.n in
-    sign_stuck s o a.at c.atom-r.new.out k n c.sign_of-code.result c.sign_of-code.ensures c.if-code-lt1.false kp.1 kp.2 g
+    sign_stuck s o a.at c.atom-r.new.out k n c.sign_of-code.result c.sign_of-code.ensures (omega arith) kp.1 kp.2 g
 
-pub more-returns-then-code-lt1 : goal.more-returns-then-code-lt1
-more-returns-then-code-lt1 t c =
+pub more-returns-then-code-eq0 : goal.more-returns-then-code-eq0
+more-returns-then-code-eq0 t c =
     let a = c.args in
     let s = a.s.now in
     let o = a.out.now in (
       omega arith,
       more_none a.level s a.at a.to c.op_at-code.result (c.op_at-code.ensures
-          ∙ ap (λ x. code_of (op_at (a.level + 1) x)) c.look.ensures) o c.if-code-lt1.true,
+          ∙ ap (λ x. code_of (op_at (a.level + 1) x)) c.look.ensures) o (omega arith),
     )
 
 pub more-past-k-requires : goal.more-past-k-requires
@@ -82,7 +81,7 @@ more-past-k-requires t c =
     let o = a.out.now in
     let code = c.op_at-code.result in
     let ce = c.op_at-code.ensures ∙ ap (λ x. code_of (op_at (a.level + 1) x)) c.look.ensures in
-    let ch = c.if-code-lt1.false in
+    let ch : 1 ≤ code = omega arith in
     op_byte (a.level + 1) s code ce ch
 
 pub more-returns-in-Ends : goal.more-returns-in-Ends
@@ -94,7 +93,7 @@ more-returns-in-Ends t c =
     let kp = c.past-k.ensures in
     let code = c.op_at-code.result in
     let ce = c.op_at-code.ensures ∙ ap (λ x. code_of (op_at (a.level + 1) x)) c.look.ensures in
-    let ch = c.if-code-lt1.false in
+    let ch : 1 ≤ code = omega arith in
     let g = subst (λ x. Answered (whole a.level) (drop k s) (o) c.tier-r.new.out a.to x) c.in-Ends.is
     (of_rest (whole a.level) k s (o) c.tier-r.new.out a.to c.tier-r.result c.tier-r.ensures) in
     let n = c.in-Ends.n in
@@ -120,7 +119,7 @@ more-returns-in-Stuck t c =
     let kp = c.past-k.ensures in
     let code = c.op_at-code.result in
     let ce = c.op_at-code.ensures ∙ ap (λ x. code_of (op_at (a.level + 1) x)) c.look.ensures in
-    let ch = c.if-code-lt1.false in
+    let ch : 1 ≤ code = omega arith in
     let g = subst (λ x. Answered (whole a.level) (drop k s) (o) c.tier-r.new.out a.to x) c.in-Stuck.is
     (of_rest (whole a.level) k s (o) c.tier-r.new.out a.to c.tier-r.result c.tier-r.ensures) in
     let n = c.in-Stuck.n in
@@ -144,48 +143,6 @@ operand-returns-in-Stuck t c =
     let g = subst (λ x. Answered alone s (o) c.atom-r.new.out a.at x) c.in-Stuck.is c.atom-r.ensures in
     let n = c.in-Stuck.n in
     trail_stuck s o a.at c.atom-r.new.out n g
-
-pub product-returns-in-Ends : goal.product-returns-in-Ends
-product-returns-in-Ends t c =
-    let a = c.args in
-    let s = a.s.now in
-    let o = a.out.now in
-    let g = subst (λ x. Answered (whole 0) s (o) c.operand-r.new.out a.at x) c.in-Ends.is c.operand-r.ensures in
-    let n = c.in-Ends.n in
-    let to = c.in-Ends.to in
-    subst (λ x. Answered (whole 1) s o c.more-q.new.out a.at x) (sym c.after.ensures)
-    (chain_ends s o a.at 0 c.operand-r.new.out c.more-q.new.out n to c.requires.0 g c.more-q.result
-    (continued 0 n s c.operand-r.new.out c.more-q.new.out a.at to c.more-q.result c.more-q.ensures.1))
-
-pub product-returns-in-Stuck : goal.product-returns-in-Stuck
-product-returns-in-Stuck t c =
-    let a = c.args in
-    let s = a.s.now in
-    let o = a.out.now in
-    let g = subst (λ x. Answered (whole 0) s (o) c.operand-r.new.out a.at x) c.in-Stuck.is c.operand-r.ensures in
-    let n = c.in-Stuck.n in
-    chain_stuck s o a.at 0 c.operand-r.new.out n g
-
-pub sum-returns-in-Ends : goal.sum-returns-in-Ends
-sum-returns-in-Ends t c =
-    let a = c.args in
-    let s = a.s.now in
-    let o = a.out.now in
-    let g = subst (λ x. Answered (whole 1) s (o) c.product-r.new.out a.at x) c.in-Ends.is c.product-r.ensures in
-    let n = c.in-Ends.n in
-    let to = c.in-Ends.to in
-    subst (λ x. Answered (whole 2) s o c.more-q.new.out a.at x) (sym c.after.ensures)
-    (chain_ends s o a.at 1 c.product-r.new.out c.more-q.new.out n to c.requires.0 g c.more-q.result
-    (continued 1 n s c.product-r.new.out c.more-q.new.out a.at to c.more-q.result c.more-q.ensures.1))
-
-pub sum-returns-in-Stuck : goal.sum-returns-in-Stuck
-sum-returns-in-Stuck t c =
-    let a = c.args in
-    let s = a.s.now in
-    let o = a.out.now in
-    let g = subst (λ x. Answered (whole 1) s (o) c.product-r.new.out a.at x) c.in-Stuck.is c.product-r.ensures in
-    let n = c.in-Stuck.n in
-    chain_stuck s o a.at 1 c.product-r.new.out n g
 
 pub tier-returns-in-Ends : goal.tier-returns-in-Ends
 tier-returns-in-Ends t c =
