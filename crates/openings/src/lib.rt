@@ -25,7 +25,7 @@ fn end_at(opens: bool, i: usize, s: &[u8]) -> Front
     ensures { result ≡ ended opens i (drop i s.now) }
 {
     if opens {
-        if look(&s[i..]) == 32 {
+        if look(&s[i..]) == b' ' {
             return Front::Whole(i + 1);
         }
         return Front::Part(i);
@@ -41,19 +41,13 @@ fn along(word: &[u8; 8], opens: bool, s: &[u8]) -> Front
     requires { length word.now ≡ 8 }
     ensures { Fronted word.now opens s.now result }
 {
-    let mut i = 0;
-    while i < 8 {
-        let c = word[i];
-        if c == 32 {
+    for (i, &c) in word.iter().enumerate() {
+        if c == b' ' {
             return end_at(opens, i, s);
         }
-        if i >= s.len() {
+        if i >= s.len() || s[i] != c {
             return Front::Part(i);
         }
-        if s[i] != c {
-            return Front::Part(i);
-        }
-        i += 1;
     }
     end_at(opens, 8, s)
 }
@@ -83,12 +77,6 @@ fn word_at(i: u8) -> [u8; 8]
     dot_word(4)
 }
 
-fn larger(a: usize, b: usize) -> usize
-    ensures { result ≡ cond (leb a b) b a }
-{
-    if a <= b { b } else { a }
-}
-
 // What a line begins with: a name, a word by its number, which ends there, or none; then so many bytes are good.
 #[derive(Clone, Copy)]
 pub enum Begun {
@@ -102,18 +90,16 @@ fn tabled(s: &[u8]) -> Begun
     ensures { Started s.now result }
 {
     let mut far = 0;
-    let mut i: u8 = 0;
-    while i < 76 {
+    for i in 0..76 {
         let word = word_at(i);
         match along(&word, opens_at(i), s) {
             Front::Whole(n) => {
                 return Begun::Row(i, n);
             }
             Front::Part(n) => {
-                far = larger(far, n);
+                far = far.max(n);
             }
         }
-        i += 1;
     }
     Begun::Nothing(far)
 }
@@ -121,16 +107,13 @@ fn tabled(s: &[u8]) -> Begun
 fn is_local(s: &[u8]) -> bool
     ensures { result ≡ (eqb (look s.now) 46 && eqb (look (drop 1 s.now)) 108) }
 {
-    if look(s) != 46 {
-        return false;
-    }
-    look(&s[1..]) == 108
+    s.starts_with(b".l")
 }
 
 pub fn begin(s: &[u8]) -> Begun
     ensures { Begins s.now result }
 {
-    if look(s) == 103 {
+    if look(s) == b'g' {
         return Begun::Global;
     }
     if is_local(s) {

@@ -4,6 +4,7 @@ use lib.ListN.{drop}
 use Rattle.openings.specs.Fronting.{ended, Fronted}
 use Rattle.openings.proofs.Fronting.{goes, ends_space, ends_full, parts_short, parts_other}
 use Rattle.openings.proofs.along.Goals as goal
+use Rattle.openings.proofs.along.Goals.{then-i-s-via-then-i-s, then-i-s-via-else-i-s+then-s-i}
 
 -- src/lib.rt:49:13
 pub returns-then-c-eq32 : goal.returns-then-c-eq32
@@ -12,17 +13,15 @@ returns-then-c-eq32 c =
     subst (λ r. Fronted a.word.now a.opens a.s.now r) (sym c.end_at.ensures)
     (ends_space a.word.now a.s.now c.loop-i.i c.loop-i.invariant a.opens (omega arith) c.if-c-eq32.true)
 
--- src/lib.rt:52:13
 pub returns-then-i-s : goal.returns-then-i-s
 returns-then-i-s c =
     let a = c.args in
-    parts_short a.word.now a.s.now c.loop-i.i c.loop-i.invariant a.opens (omega arith) c.if-c-eq32.false (omega arith)
-
--- src/lib.rt:55:13
-pub returns-then-s-i : goal.returns-then-s-i
-returns-then-s-i c =
-    let a = c.args in
-    parts_other a.word.now a.s.now c.loop-i.i c.loop-i.invariant a.opens (omega arith) c.if-c-eq32.false (omega arith) c.if-s-i.true
+    elim c.then-i-s.branch [
+      | then-i-s-via-then-i-s w ↦
+          parts_short a.word.now a.s.now c.loop-i.i c.loop-i.invariant a.opens (omega arith) c.if-c-eq32.false (omega arith)
+      | then-i-s-via-else-i-s+then-s-i w ↦
+          parts_other a.word.now a.s.now c.loop-i.i c.loop-i.invariant a.opens (omega arith) c.if-c-eq32.false (omega arith) w.if-s-i.true
+    ]
 
 -- src/lib.rt:46:5
 pub loop-i-preserved : goal.loop-i-preserved
