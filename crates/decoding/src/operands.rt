@@ -12,22 +12,14 @@ const MOV_D9: u8 = 0x23;
 fn has_bit(form: u8) -> bool
     ensures { result ≡ has_bit form }
 {
-    match form {
-        0x30 => true,
-        0x31 => true,
-        0x32 => true,
-        0x40 => true,
-        0x41 => true,
-        0x42 => true,
-        _ => false,
-    }
+    matches!(form, 0x30..=0x32 | 0x40..=0x42)
 }
 
 // The upper byte and the lower.
 fn join(high: u8, low: u8) -> u16
     ensures { result ≡ high * 256 + low }
 {
-    high as u16 * 256 + low as u16
+    u16::from_be_bytes([high, low])
 }
 
 // What form holds of an argument of this kind.
@@ -35,14 +27,8 @@ pub fn held(form: u8, kind: Kind, b0: u8, b1: u8, b2: u8) -> u16
     ensures { result ≡ number_in (b0 ∷ b1 ∷ b2 ∷ []) (runs_of form kind) }
 {
     match kind {
-        Kind::Reg => join(0, b0 % 4),
-        Kind::I8 => {
-            if form == MOV_D9 {
-                join(0, b2)
-            } else {
-                join(0, b1)
-            }
-        }
+        Kind::Reg => u16::from(b0 % 4),
+        Kind::I8 => u16::from(if form == MOV_D9 { b2 } else { b1 }),
         Kind::D9 => {
             if has_bit(form) {
                 join(b0 / 16 % 2, b1)
@@ -50,14 +36,8 @@ pub fn held(form: u8, kind: Kind, b0: u8, b1: u8, b2: u8) -> u16
                 join(b0 % 2, b1)
             }
         }
-        Kind::Bit => join(0, b0 % 8),
-        Kind::Rel8 => {
-            if tables::size(form) == 3 {
-                join(0, b2)
-            } else {
-                join(0, b1)
-            }
-        }
+        Kind::Bit => u16::from(b0 % 8),
+        Kind::Rel8 => u16::from(if tables::size(form) == 3 { b2 } else { b1 }),
         Kind::A12 => join(b0 / 16 % 2 * 8 + b0 % 8, b1),
         Kind::A16 => join(b1, b2),
         Kind::Rel16 => join(b2, b1),
@@ -88,9 +68,8 @@ fn near(n: usize, v: usize) -> Number
     ensures { result ≡ number_as (near_to n v) }
 {
     if v < 128 {
-        return inside(n + v);
-    }
-    if n + v < 256 {
+        inside(n + v)
+    } else if n + v < 256 {
         Number::Outside
     } else {
         inside(n + v - 256)
@@ -102,15 +81,11 @@ pub fn read_as(kind: Kind, n: usize, v: u16) -> Number
     requires { (n ≤ 65536) × (v < 2 ^ width kind) }
     ensures { result ≡ number_as (reads n kind v) }
 {
-    let w = v as usize;
+    let w = usize::from(v);
     match kind {
-        Kind::Reg => inside(w),
-        Kind::I8 => inside(w),
-        Kind::D9 => inside(w),
-        Kind::Bit => inside(w),
+        Kind::Reg | Kind::I8 | Kind::D9 | Kind::Bit | Kind::A16 => inside(w),
         Kind::Rel8 => near(n, w),
         Kind::A12 => inside(n % 65536 / 4096 * 4096 + w),
-        Kind::A16 => inside(w),
         Kind::Rel16 => inside((w + n + 65535) % 65536),
     }
 }

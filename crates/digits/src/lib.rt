@@ -9,7 +9,7 @@ fn hex_digit(d: u8) -> u8
     requires { d < 16 }
     ensures { result ≡ hex_digit d }
 {
-    if d < 10 { 48 + d } else { 55 + d }
+    if d < 10 { b'0' + d } else { b'A' + d - 10 }
 }
 
 // The two digits of a byte, the high one first.
@@ -26,10 +26,8 @@ pub fn put_bytes(out: &mut [u8], at: usize, s: &[u8])
     requires { at + 2 * length s.now ≤ length out.old }
     ensures { out.new ≡ laid out.old at (hex_of s.now) }
 {
-    let mut k = 0;
-    while k < s.len() {
-        put_byte(out, at + 2 * k, s[k]);
-        k += 1;
+    for (k, b) in s.iter().enumerate() {
+        put_byte(out, at + 2 * k, *b);
     }
 }
 
@@ -39,5 +37,5 @@ pub fn put_line(out: &mut [u8], at: usize, frame: &[u8])
     ensures { out.new ≡ laid out.old at (line_of frame.now) }
 {
     put_bytes(out, at, frame);
-    out[at + 2 * frame.len()] = 10;
+    out[at + 2 * frame.len()] = b'\n';
 }

@@ -19,12 +19,7 @@ pub struct Fault {
 fn about(number: u8, place: Place) -> Fault
     ensures { IsFault result (of_statement number place) }
 {
-    Fault {
-        number,
-        place: place.0,
-        argument: 0,
-        amount: 0,
-    }
+    about_argument(number, place, 0, 0)
 }
 
 fn about_argument(number: u8, place: Place, argument: usize, amount: i32) -> Fault

@@ -11,7 +11,7 @@ use Rattle.digits.proofs.put_bytes.Goals as goal
 
 pub loop-k-init : goal.loop-k-init
 unfolding each
-loop-k-init c = (omega arith, sym (laid_nothing _ _), refl)
+loop-k-init c = (sym (laid_nothing _ _), refl)
 
 pub loop-k-preserved : goal.loop-k-preserved
 loop-k-preserved c =
@@ -19,9 +19,8 @@ loop-k-preserved c =
     let a = c.args in
     let e = c.put_byte.ensures in
     let n = length_hex (take l.k a.s.now) in
-    let m = length-take-le l.k a.s.now l.invariant.0 in (
-      omega arith,
-      e ∙ rw (l.invariant.1, hex_more a.s.now l.k (omega arith))
+    let m = length-take-le l.k a.s.now (omega arith) in (
+      e ∙ rw (l.invariant.0, hex_more a.s.now l.k (omega arith))
           (laid_more a.out.now (hex_of (take l.k a.s.now)) _ a.at (a.at + 2 * l.k) (omega arith) (omega arith)),
-      ap length e ∙ length_laid l.out (a.at + 2 * l.k) _ (omega arith) ∙ l.invariant.2,
+      ap length e ∙ length_laid l.out (a.at + 2 * l.k) _ (omega arith) ∙ l.invariant.1,
     )
