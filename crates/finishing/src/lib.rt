@@ -54,20 +54,17 @@ pub fn judge_end(
     let marked = wanted.marked;
     let listing_size = text_length(marked, frames, state, count);
     let image_size = image_length(frames, state, count, &positions);
-    if out.len() < listing_size {
-        return Answer::Refused(Refusal::Room(count));
-    }
-    if image.len() < image_size {
-        return Answer::Refused(Refusal::Room(count));
-    }
-    if wanted.list < 2 * count_stems(count, state) {
+    if out.len() < listing_size
+        || image.len() < image_size
+        || wanted.list < 2 * count_stems(count, state)
+    {
         return Answer::Refused(Refusal::Room(count));
     }
     write_text(marked, lines, frames, state, count, &positions, out);
     write_image(frames, state, count, links, &values, &positions, image);
     Answer::Done(Sizes {
         listing: listing_size,
-        rewrites: rewrites,
+        rewrites,
         image: image_size,
     })
 }
