@@ -117,11 +117,7 @@ fn compare(
     ) {
         Paired::Refused(r) => Differs::OfBoth(r),
         Paired::Are(k) => {
-            let all = Counts {
-                first: n,
-                second: m,
-                pairs: k,
-            };
+            let all = Counts { pairs: k, ..counts };
             write_differences(first, &firsts, second, &seconds, all, &pairs, out)
         }
     }

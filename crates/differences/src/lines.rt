@@ -1,5 +1,5 @@
 // The lines of the differences: a frame's digits are copied as they stand.
-ghost use Rattle.std.specs.Prelude.{◌≡◌, ◌∷◌, ◌++◌, ◌+◌, ◌≤◌, ◌<◌, ◌/◌, ◌%◌, length};
+ghost use Rattle.std.specs.Prelude.{◌≡◌, ◌∷◌, ◌++◌, ◌+◌, ◌*◌, ◌≤◌, ◌<◌, ◌/◌, ◌%◌, length};
 ghost use Rattle.rules.specs.Listing.{unhex};
 ghost use Rattle.rules.specs.Expressions.{pair};
 ghost use Rattle.rules.specs.Output.{line_of};
@@ -32,18 +32,27 @@ fn put_text(out: &mut [u8], at: usize, s: &[u8])
     out[at..at + s.len()].copy_from_slice(s);
 }
 
+// The bytes of a head, and behind them a frame; where the line ends.
+fn put_headed(out: &mut [u8], at: usize, head: &[u8], line: &[u8]) -> usize
+    requires { Written line.now × (at + (2 * length head.now + 1 + length line.now) ≤ length out.old) }
+    ensures { (out.new ≡ laid out.old at (line_of (head.now ++ unhex line.now)))
+        × (result ≡ at + (2 * length head.now + 1 + length line.now)) }
+{
+    let middle = at + 2 * head.len();
+    let end = middle + line.len();
+    put_bytes(out, at, head);
+    put_text(out, middle, line);
+    out[end] = b'\n';
+    end + 1
+}
+
 // Kind, place, frame; where the line ends.
 pub fn put_one(out: &mut [u8], at: usize, kind: u8, i: usize, line: &[u8]) -> usize
     requires { Written line.now × (i < 65536) × (at + (7 + length line.now) ≤ length out.old) }
     ensures { (out.new ≡ laid out.old at (line_of (kind ∷ (pair i ++ unhex line.now))))
         × (result ≡ at + (7 + length line.now)) }
 {
-    let head = [kind, high(i), low(i)];
-    let end = at + 6 + line.len();
-    put_bytes(out, at, &head);
-    put_text(out, at + 6, line);
-    out[end] = b'\n';
-    end + 1
+    put_headed(out, at, &[kind, high(i), low(i)], line)
 }
 
 // 70, both places, the frame.
@@ -52,12 +61,7 @@ fn put_kept(out: &mut [u8], at: usize, i: usize, j: usize, line: &[u8]) -> usize
     ensures { (out.new ≡ laid out.old at (line_of (bytes_of (kept i j (unhex line.now)))))
         × (result ≡ at + (11 + length line.now)) }
 {
-    let head = [0x70, high(i), low(i), high(j), low(j)];
-    let end = at + 10 + line.len();
-    put_bytes(out, at, &head);
-    put_text(out, at + 10, line);
-    out[end] = b'\n';
-    end + 1
+    put_headed(out, at, &[0x70, high(i), low(i), high(j), low(j)], line)
 }
 
 // 73, both places, how many bytes the old frame has, both frames.

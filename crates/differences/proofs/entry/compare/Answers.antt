@@ -9,43 +9,23 @@ use Rattle.differences.specs.Differences.{Differing}
 use Rattle.differences.specs.Entry.{given_as, PairedAs, Leaves}
 use Rattle.differences.proofs.Outcomes.{pairs_bad, pairs_good}
 use Rattle.differences.proofs.entry.compare.Goals as goal
+use Rattle.differences.proofs.entry.compare.Goals.{After-pair_up}
 
 -- what was paired
-module _ (u : goal.After-write_differences-arg-1) where
-  told : (r : Paired) → u.pair_up.result ≡ r → let a = u.args in
-      PairedAs (frames_of a.first.now) (frames_of a.second.now) (given_as a.given a.pairing.now)
-      u.pair_up.new.pairs r
+module _ (c : After-pair_up) where
+  told : (r : Paired) → c.pair_up.result ≡ r → let a = c.args in
+      PairedAs (frames_of a.first.now) (frames_of a.second.now) (given_as a.given a.pairing.now) c.pair_up.new.pairs r
   told r e =
-      let a = u.args in
+      let a = c.args in
       subst (λ (x : Paired). PairedAs (frames_of a.first.now) (frames_of a.second.now) (given_as a.given a.pairing.now)
-      u.pair_up.new.pairs x) e u.pair_up.ensures
-
--- what was paired
-module _ (u : goal.In-Refused) where
-  told_2 : (r : Paired) → u.pair_up.result ≡ r → let a = u.args in
-      PairedAs (frames_of a.first.now) (frames_of a.second.now) (given_as a.given a.pairing.now)
-      u.pair_up.new.pairs r
-  told_2 r e =
-      let a = u.args in
-      subst (λ (x : Paired). PairedAs (frames_of a.first.now) (frames_of a.second.now) (given_as a.given a.pairing.now)
-      u.pair_up.new.pairs x) e u.pair_up.ensures
-
--- what was paired
-module _ (u : goal.After-slice_known-in-Are-1) where
-  told_3 : (r : Paired) → u.pair_up.result ≡ r → let a = u.args in
-      PairedAs (frames_of a.first.now) (frames_of a.second.now) (given_as a.given a.pairing.now)
-      u.pair_up.new.pairs r
-  told_3 r e =
-      let a = u.args in
-      subst (λ (x : Paired). PairedAs (frames_of a.first.now) (frames_of a.second.now) (given_as a.given a.pairing.now)
-      u.pair_up.new.pairs x) e u.pair_up.ensures
+      c.pair_up.new.pairs x) e c.pair_up.ensures
 
 pub write_differences-requires : goal.write_differences-requires
 write_differences-requires c =
     let a = c.args in
     let f = c.find_lines.ensures in
     let g = c.find_lines-2.ensures in
-    let t = told c _ c.in-Are.is in
+    let t = told (goal.at.write_differences-requires c).After-pair_up _ c.in-Are.is in
     let x = frames_of a.first.now in
     let y = frames_of a.second.now in
     let n : length x ≡ a.n = frames_count a.first.now ∙ sym f.count in
@@ -62,7 +42,7 @@ returns-in-Refused c =
     let a = c.args in
     pairs_bad (frames_of a.first.now) (frames_of a.second.now) (given_as a.given a.pairing.now)
     c.pair_up.new.pairs a.n a.out.now _
-    (told_2 c _ c.in-Refused.is)
+    (told (goal.at.returns-in-Refused c).After-pair_up _ c.in-Refused.is)
 
 pub returns-in-Are : goal.returns-in-Are
 returns-in-Are c =
@@ -70,5 +50,5 @@ returns-in-Are c =
     let w = c.write_differences in
     let e = pairs_good (frames_of a.first.now) (frames_of a.second.now) (given_as a.given a.pairing.now) _ a.n
     a.out.now _
-    (told_3 c _ c.in-Are.is) in
+    (told (goal.at.returns-in-Are c).After-pair_up _ c.in-Are.is) in
     subst (λ (x : Differing). Leaves x w.result a.out.now w.new.out) (sym e) w.ensures

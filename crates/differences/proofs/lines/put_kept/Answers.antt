@@ -1,29 +1,17 @@
--- `put_kept` meets its contract: head, frame and line feed, one behind the other. Assumes nothing.
+-- `put_kept` meets its contract: a head of 70 and both places. Assumes nothing.
 use mathlib.Core.Path.{ap, ◌∙◌}
-use mathlib.Core.List.{List, [], ◌∷◌}
+use mathlib.Core.List.{List}
 use Prim.Native.Nat.{ℕ}
 use native.Mathlib.Omega.{arith}
 use Rattle.rules.specs.Listing.{unhex}
 use Rattle.rules.specs.Output.{line_of}
 use Rattle.digits.specs.Digits.{laid}
-use Rattle.differences.proofs.Pieces.{one_laid, two_head}
+use Rattle.differences.proofs.Pieces.{two_head}
 use Rattle.differences.proofs.lines.put_kept.Goals as goal
 
 pub returns : goal.returns
 returns c =
-    let t = c.put_text in
-    let p = c.put_bytes in
-    let l' = c.low-2 in
-    let h' = c.high-2 in
-    let l = c.low in
-    let h = c.high in
-    let d = c.args.out.now in (
-      one_laid d p.new.out t.new.out (0x70 ∷ h.result ∷ l.result ∷ h'.result ∷ l'.result ∷ []) c.args.line.now
-          c.args.at _ _
-          c.requires.0 p.ensures t.ensures (omega arith) (omega arith) (omega (arith, c.requires.3))
-          ∙ ap (λ (f : List ℕ). laid d c.args.at (line_of f))
-          (two_head 0x70 h.result l.result h'.result l'.result c.args.i c.args.j (unhex c.args.line.now)
-          h.ensures l.ensures
-          h'.ensures l'.ensures),
-      omega arith,
-    )
+    let a = c.args in
+    let h = two_head 0x70 c.high.result c.low.result c.high-2.result c.low-2.result a.i a.j (unhex a.line.now) c.high.ensures c.low.ensures
+    c.high-2.ensures c.low-2.ensures in
+    (c.put_headed.ensures.0 ∙ ap (λ (f : List ℕ). laid a.out.now a.at (line_of f)) h, omega (arith, c.put_headed.ensures.1))
