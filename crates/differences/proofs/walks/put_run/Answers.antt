@@ -17,6 +17,7 @@ use Rattle.differences.specs.Walks.{run_text}
 use Rattle.differences.proofs.Pieces.{one_size}
 use Rattle.differences.proofs.Sizes.{line_of_run}
 use Rattle.differences.proofs.walks.put_run.Goals as goal
+use Rattle.differences.proofs.walks.put_run.Goals.{After-line_at}
 
 abbrev left : (kind : ℕ) (text : List ℕ) (to i : ℕ) → List ℕ
 left kind text to i = run_text kind (frames_of text) (to - i) i
@@ -32,7 +33,7 @@ unfolding run_text
 run_none kind text to i h = let z : to - i ≡ 0 = omega arith in rw z
 
 -- the line that is written
-module _ (c : goal.After-line_at) where
+module _ (c : After-line_at) where
   abbrev text : List ℕ
   text = c.args.text.now
 
@@ -59,61 +60,34 @@ module _ (c : goal.After-line_at) where
     ap length line_is,
   )
 
--- the line that is written
-module _ (c : goal.After-slice_known-in-loop-i-1) where
-  abbrev text_2 : List ℕ
-  text_2 = c.args.text.now
-
-  abbrev i_2 : ℕ
-  i_2 = c.loop-i.i
-
-  less_2 : i_2 < c.args.to
-  less_2 = omega arith
-
-  inside_2 : i_2 < c.args.n
-  inside_2 = omega (arith, less_2, c.requires.2)
-
-  line_is_2 : c.line_at.result.now ≡ line_in text_2 i_2
-  line_is_2 = c.line_at.ensures
-
-  frame_is_2 : unhex c.line_at.result.now ≡ get_or (frames_of text_2) i_2 []
-  frame_is_2 = ap unhex line_is_2 ∙ sym (frame_at text_2 i_2)
-
-  size_2 : length (left c.args.kind text_2 c.args.to i_2) ≡ 7 + length c.line_at.result.now + length
-      (left c.args.kind text_2 c.args.to (i_2 + 1))
-  size_2 = omega (
-    arith,
-    ap length (run_turn c.args.kind text_2 c.args.to i_2 less_2),
-    length-append (line_of (c.args.kind ∷ (pair i_2 ++ get_or (frames_of text_2) i_2 [])))
-        (left c.args.kind text_2 c.args.to (i_2 + 1)),
-    line_of_run text_2 c.args.starts.now c.args.n c.requires.0 c.args.kind i_2 inside_2,
-    ap length line_is_2,
-  )
+  frame_is : unhex c.line_at.result.now ≡ get_or (frames_of text) i []
+  frame_is = ap unhex line_is ∙ sym (frame_at text i)
 
 pub put_one-a-requires : goal.put_one-a-requires
-put_one-a-requires c = (
-  rw (line_is c) (c.requires.0.written (i c) (inside c)),
-  omega (arith, inside c, c.requires.0.few),
-  omega (arith, size c, c.loop-i.invariant.0, c.loop-i.invariant.1, c.requires.3),
+put_one-a-requires c = let g = (goal.at.put_one-a-requires c).After-line_at in (
+  rw (line_is g) (c.requires.0.written (i g) (inside g)),
+  omega (arith, inside g, c.requires.0.few),
+  omega (arith, size g, c.loop-i.invariant.0, c.loop-i.invariant.1, c.requires.3),
 )
 
 pub loop-i-preserved : goal.loop-i-preserved
 loop-i-preserved c =
+    let g = (goal.at.loop-i-preserved c).After-line_at in
     let w = c.put_one-a in
     let t = c.loop-i in
     let kind = c.args.kind in
     let x = line_of (kind ∷ (pair t.i ++ unhex c.line_at.result.now)) in
-    let rest = left kind (text_2 c) c.args.to (t.i + 1) in
-    let good : Written c.line_at.result.now = rw (line_is_2 c) (c.requires.0.written t.i (inside_2 c)) in
+    let rest = left kind (text g) c.args.to (t.i + 1) in
+    let good : Written c.line_at.result.now = rw (line_is g) (c.requires.0.written t.i (inside g)) in
     let n = one_size kind t.i c.line_at.result.now good in
-    let whole : x ++ rest ≡ left kind (text_2 c) c.args.to t.i =
-    ap (λ (f : Frame). line_of (kind ∷ (pair t.i ++ f)) ++ rest) (frame_is_2 c) ∙ sym
-    (run_turn kind (text_2 c) c.args.to t.i (less_2 c)) in (
+    let whole : x ++ rest ≡ left kind (text g) c.args.to t.i =
+    ap (λ (f : Frame). line_of (kind ∷ (pair t.i ++ f)) ++ rest) (frame_is g) ∙ sym
+    (run_turn kind (text g) c.args.to t.i (less g)) in (
       w.auto.out ∙ t.invariant.0,
-      omega (arith, w.ensures.1, size_2 c, t.invariant.1),
+      omega (arith, w.ensures.1, size g, t.invariant.1),
       ap (λ (o : List ℕ). laid o w.result rest) w.ensures.0
           ∙ laid_more t.out x rest t.a w.result (omega (arith, w.ensures.1, n))
-          (omega (arith, w.ensures.1, size_2 c, t.invariant.0, t.invariant.1, c.requires.3))
+          (omega (arith, w.ensures.1, size g, t.invariant.0, t.invariant.1, c.requires.3))
           ∙ ap (laid t.out t.a) whole ∙ t.invariant.2,
     )
 
