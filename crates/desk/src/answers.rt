@@ -57,14 +57,7 @@ pub fn put_page(rt: &impl Print, page: &[u8; 62482], n: usize) -> io::Result<()>
 fn zeros(bytes: &[u8]) -> usize
     ensures { IsPrefixLen result bytes.now }
 {
-    let mut i = 0;
-    while i < bytes.len() {
-        if bytes[i] != 0 {
-            return i;
-        }
-        i += 1;
-    }
-    i
+    bytes.iter().position(|b| *b != 0).unwrap_or(bytes.len())
 }
 
 // A number's last digit in hexadecimal, where it is shown.
@@ -101,10 +94,8 @@ fn put_bytes(rt: &impl Print, bytes: &[u8]) -> io::Result<()> {
 }
 
 fn put_digits(rt: &impl Print, bytes: &[u8]) -> io::Result<()> {
-    let mut i = 0;
-    while i < bytes.len() {
-        put_pair(rt, bytes[i])?;
-        i += 1;
+    for b in bytes {
+        put_pair(rt, *b)?;
     }
     Ok(())
 }
@@ -162,7 +153,7 @@ pub fn put_refusal(rt: &impl Print, r: Refusal) -> io::Result<()> {
 
 // The rooms held zeros.
 fn put_kept(rt: &impl Print, room: &[u8]) -> io::Result<()> {
-    if zeros(room) < room.len() {
+    if room.iter().any(|b| *b != 0) {
         rt.write_all(b"ROOMS CHANGED\n")?;
     }
     Ok(())

@@ -2,39 +2,18 @@
 ghost use Rattle.std.specs.Prelude.{◌≤◌, ◌<◌};
 ghost use Rattle.desk.specs.Counts.{IsPrefixLen};
 
-// The characters `==` and a line feed stand at i.
-fn mark_at(text: &[u8], i: usize) -> bool {
-    if i < text.len() {
-        if text[i] == 61 {
-            return marks(&text[i..]);
-        }
-    }
-    false
-}
-
-fn marks(rest: &[u8]) -> bool {
-    if rest.len() < 3 {
-        return false;
-    }
-    if rest[1] == 61 { rest[2] == 10 } else { false }
-}
-
 // Where the first line `==` begins; the text's end where there is none.
 pub fn block_end(text: &[u8]) -> usize
     ensures { IsPrefixLen result text.now }
 {
     let mut is_new = true;
-    let mut i = 0;
-    while i < text.len() {
-        if is_new {
-            if mark_at(text, i) {
-                return i;
-            }
+    for (i, b) in text.iter().enumerate() {
+        if is_new && text[i..].starts_with(b"==\n") {
+            return i;
         }
-        is_new = text[i] == 10;
-        i += 1;
+        is_new = *b == b'\n';
     }
-    i
+    text.len()
 }
 
 // Behind the block that begins at `at` and has n characters, and behind its line `==`; at most the text's end.
@@ -42,11 +21,5 @@ pub fn behind(at: usize, n: usize, end: usize) -> usize
     requires { at < end }
     ensures { (at < result) × (result ≤ end) }
 {
-    let left = end - at;
-    if n < left {
-        if left - n > 3 {
-            return at + n + 3;
-        }
-    }
-    end
+    at.saturating_add(n).saturating_add(3).min(end)
 }

@@ -7,15 +7,16 @@ use std::io;
 pub fn part(n: usize, room: &[u8]) -> usize
     ensures { IsPrefixLen result room.now }
 {
-    if n < room.len() { n } else { room.len() }
+    n.min(room.len())
 }
 
 // A digit of the sixteen.
 fn digit(x: u8) -> u8 {
-    if x < 10 {
-        return 48 + x;
+    match x {
+        0..10 => b'0' + x,
+        10..16 => b'A' + (x - 10),
+        _ => b'?',
     }
-    if x < 16 { 55 + x } else { 63 }
 }
 
 // A byte as two digits on standard output.

@@ -15,10 +15,8 @@ pub fn numbered(k: u8) -> Settings {
 
 // Under each setting but document 01's own, which is 7.
 pub fn put_others(rt: &impl Print, text: &[u8], given: &[u8]) -> io::Result<()> {
-    let mut k = 0;
-    while k < 7 {
+    for k in 0..7 {
         put_other(rt, k, text, given)?;
-        k += 1;
     }
     Ok(())
 }

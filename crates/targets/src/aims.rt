@@ -30,8 +30,7 @@ fn value_bits(v: Outcome) -> u32
 {
     match v {
         Outcome::Is(z) => bits(z),
-        Outcome::Unknown => 0,
-        Outcome::Nothing => 0,
+        Outcome::Unknown | Outcome::Nothing => 0,
     }
 }
 

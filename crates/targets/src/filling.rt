@@ -57,10 +57,8 @@ fn fill_aims(
         positions.now in
         AimsIn (program d) count aims.new }
 {
-    let mut i = 0;
-    while i < count {
+    for i in 0..count {
         aims[i] = aim_or_zeros(frames, state, count, links, values, positions, Place(i));
-        i += 1;
     }
 }
 
@@ -85,12 +83,8 @@ fn stripes(state: &State) -> Starts
     ensures { result ≡ starts_in state.now }
 {
     let mut starts = [0u16; 4100];
-    let mut k = 0;
-    while k < 4100 {
-        let row = k / 1025;
-        let i = k % 1025;
-        starts[k] = state[row][i];
-        k += 1;
+    for (k, x) in starts.iter_mut().enumerate() {
+        *x = state[k / 1025][k % 1025];
     }
     starts
 }

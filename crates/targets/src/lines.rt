@@ -20,31 +20,13 @@ fn low_byte(x: usize) -> u8
 fn is_same(b: [u8; 8], a: [u8; 8]) -> bool
     ensures { result ≡ same_bytes b a }
 {
-    if b[4] == 255 {
-        return false;
-    }
-    if b[4] != a[4] {
-        return false;
-    }
-    if b[5] != a[5] {
-        return false;
-    }
-    if b[6] != a[6] {
-        return false;
-    }
-    b[7] == a[7]
+    b[4] != 255 && b[4..] == a[4..]
 }
 
 fn mark_byte(same: bool) -> u8
     ensures { result ≡ mark_byte same }
 {
-    if same { 0 } else { 1 }
-}
-
-fn wide(x: u8) -> usize
-    ensures { result ≡ x }
-{
-    x as usize
+    u8::from(!same)
 }
 
 fn head_bytes(mark: u8, i: usize, c: usize) -> [u8; 6]
@@ -70,7 +52,7 @@ fn put_parts(out: &mut [u8], at: usize, head: &[u8; 6], b: &[u8; 8], a: &[u8; 8]
     put_bytes(out, at, head);
     put_bytes(out, at + 12, b);
     put_bytes(out, at + 28, a);
-    out[at + 44] = 10;
+    out[at + 44] = b'\n';
 }
 
 // The line of the transfer at place i of the end form, which carries the target of place c; whether it is marked, as a number.
@@ -82,5 +64,5 @@ pub fn put_target(out: &mut [u8], at: usize, i: usize, c: usize, b: [u8; 8], a: 
     let mark = mark_byte(is_same(b, a));
     let head = head_bytes(mark, i, c);
     put_parts(out, at, &head, &b, &a);
-    wide(mark)
+    usize::from(mark)
 }

@@ -22,12 +22,10 @@ pub fn count_transfers(frames: &[u8], state: &State, count: usize) -> usize
         ((p : Program) → result ≡ length (targets_to p (program_of t) count)) × (result ≤ count) }
 {
     let mut n = 0;
-    let mut i = 0;
-    while i < count {
+    for i in 0..count {
         if is_transfer(form_at(frames, state, count, Place(i))) {
             n += 1;
         }
-        i += 1;
     }
     n
 }
@@ -53,16 +51,13 @@ pub fn write_lines(
 {
     let mut n = 0;
     let mut marked = 0;
-    let mut i = 0;
-    while i < count {
+    for i in 0..count {
         if !is_transfer(form_at(frames, state, count, Place(i))) {
-            i += 1;
             continue;
         }
         let c = carry_at(state, Place(i)).0;
         marked += put_target(out, 45 * n, i, c, before[c], after[i]);
         n += 1;
-        i += 1;
     }
     marked
 }

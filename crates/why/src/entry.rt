@@ -40,7 +40,7 @@ fn tell(
     write_whys(asked, frames, state, count, links, values, positions, out);
     Answer::Done(Sizes {
         listing: 27 * n,
-        rewrites: rewrites,
+        rewrites,
         image: 0,
     })
 }

@@ -29,16 +29,12 @@ fn low_bits(x: u32) -> u8
 fn attempt_byte(k: usize) -> u8
     ensures { result ≡ attempt_byte (attempt_at k) }
 {
-    if k < 23 {
-        return (128 + k) as u8;
+    match k {
+        0..23 => (128 + k) as u8,
+        23 => BR,
+        24 => JMP,
+        _ => CALL,
     }
-    if k == 23 {
-        return BR;
-    }
-    if k == 24 {
-        return JMP;
-    }
-    CALL
 }
 
 fn reason_byte(reason: Reason) -> u8
@@ -70,11 +66,7 @@ fn fault_in(reason: Reason) -> Fault
 {
     match reason {
         Reason::Refused(r) => fault_of(r),
-        Reason::Counts => no_fault(),
-        Reason::Change => no_fault(),
-        Reason::Inside => no_fault(),
-        Reason::Between => no_fault(),
-        Reason::Beyond => no_fault(),
+        _ => no_fault(),
     }
 }
 

@@ -20,10 +20,7 @@ use staying::Attempted;
 fn is_tried(tried: Attempted) -> usize
     ensures { (result ≡ tried_count tried) × (result ≤ 1) }
 {
-    match tried {
-        Attempted::Stays(_) => 1,
-        Attempted::Untried => 0,
-    }
+    usize::from(matches!(tried, Attempted::Stays(_)))
 }
 
 // How many attempts have a reason.
@@ -41,13 +38,10 @@ pub fn count_whys(
     ensures { let t : Slots = table_of frames.now state.now count in
         result ≡ length (whys asked (program_of t)) }
 {
-    let tries = 26 * count;
     let mut n = 0;
-    let mut m = 0;
-    while m < tries {
+    for m in 0..26 * count {
         let tried = attempted(asked, frames, state, count, links, values, positions, m);
         n += is_tried(tried);
-        m += 1;
     }
     n
 }
@@ -69,13 +63,9 @@ pub fn write_whys(
     ensures { let t : Slots = table_of frames.now state.now count in
         out.new ≡ laid out.old 0 (why_lines (whys asked (program_of t))) }
 {
-    let tries = 26 * count;
     let mut n = 0;
-    let mut m = 0;
-    while m < tries {
+    for m in 0..26 * count {
         let tried = attempted(asked, frames, state, count, links, values, positions, m);
-        let next = put_tried(out, n, m, tried);
-        n = next;
-        m += 1;
+        n = put_tried(out, n, m, tried);
     }
 }

@@ -1,6 +1,5 @@
 -- `targets::filling::fill_aims` meets its contract. The loop's invariant: the places passed have their targets.
 use mathlib.Core.Path.{◌≡◌}
-use Prim.Native.Nat.{◌-◌}
 use lib.ListN.{length}
 use Rattle.image.specs.Tables.{tables_of, program}
 use Rattle.targets.specs.Aimed.{AimsIn}
@@ -9,6 +8,3 @@ use Rattle.targets.proofs.filling.fill_aims.Given as goal
 abbrev pub invariant-loop-i : goal.invariant-loop-i
 invariant-loop-i l =
     AimsIn (program (tables_of l.frames l.state l.count l.links l.values l.positions)) l.i l.aims × (length l.aims ≡ 1024)
-
-abbrev pub decreases-loop-i : goal.decreases-loop-i
-decreases-loop-i l = l.count - l.i

@@ -13,4 +13,4 @@ number_at state k = get_or (get_or state (k / 1025) []) (k % 1025) 0
 pub returns : goal.returns
 unfolding starts_in
 returns c =
-    tab_is (number_at c.args.state.now) 4100 c.loop-k.starts 0 c.loop-k.invariant.1 (λ i h. c.loop-k.invariant.2 i (omega arith))
+    tab_is (number_at c.args.state.now) 4100 c.loop-k.x-items 0 c.loop-k.invariant.0 (λ i h. c.loop-k.invariant.1 i (omega arith))

@@ -13,5 +13,5 @@ returns c p e h k =
       c.put_parts.ensures
           ∙ ap (λ (l : List ℕ). laid c.args.out.now c.args.at l)
           (line_is p e c.args.c c.args.i c.args.b c.args.a h k _ _ mark c.head_bytes-head.ensures),
-      c.wide.ensures ∙ mark ∙ ap mark_byte (same_is p e c.args.c c.args.i c.args.b c.args.a h k),
+      c.from.ensures ∙ mark ∙ ap mark_byte (same_is p e c.args.c c.args.i c.args.b c.args.a h k),
     )

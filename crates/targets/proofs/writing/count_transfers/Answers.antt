@@ -26,23 +26,20 @@ asked c =
     c.is_transfer.ensures ∙ ap is_transfer (c.form_at.ensures (carry_in z) (owners_in z) (offsets_in z))
 
 pub loop-i-init : goal.loop-i-init
-loop-i-init c = (λ p. sym (ap length (to_none p (program_of (here c)))), omega arith, omega arith)
+loop-i-init c = (λ p. sym (ap length (to_none p (program_of (here c)))), omega arith)
 
 pub loop-i-preserved : goal.loop-i-preserved
 loop-i-preserved c =
     let e = program_of (here_2 c) in
     let i = c.loop-i.i in
     let n = c.loop-i.n in
-    let test = c.loop-i-test.true in
     elim c.if-is_transfer.branch [
       | then-is_transfer w ↦ (
         λ p. w.n-is ∙ count_one p e i n (c.loop-i.invariant.0 p) (sym (asked c) ∙ w.if-is_transfer.true),
         omega (arith, w.n-is, c.loop-i.invariant.1),
-        omega (arith, test),
       )
       | else-is_transfer w ↦ (
         λ p. w.n-is ∙ count_other p e i n (c.loop-i.invariant.0 p) (sym (asked c) ∙ w.if-is_transfer.false),
         omega (arith, w.n-is, c.loop-i.invariant.1),
-        omega (arith, test),
       )
     ]

@@ -1,7 +1,7 @@
 -- `targets::writing::count_transfers` meets its contract. The loop's invariant: n is the number of transfers among the first i places,
 -- whatever the
 use mathlib.Core.Path.{◌≡◌}
-use Prim.Native.Nat.{◌-◌, ◌≤◌}
+use Prim.Native.Nat.{◌≤◌}
 use lib.ListN.{length}
 use Rattle.rules.specs.Programs.{Program}
 use Rattle.slots.specs.Slots.{program_of}
@@ -11,7 +11,3 @@ use Rattle.targets.proofs.writing.count_transfers.Given as goal
 
 abbrev pub invariant-loop-i : goal.invariant-loop-i
 invariant-loop-i l = ((p : Program) → l.n ≡ length (targets_to p (program_of (table_of l.frames l.state l.count)) l.i)) × (l.n ≤ l.i)
-    × (l.i ≤ l.count)
-
-abbrev pub decreases-loop-i : goal.decreases-loop-i
-decreases-loop-i l = l.count - l.i

@@ -133,12 +133,12 @@ module _ (c : goal.After-put_target-arg-in-loop-i-2-1) where
 
   length_out_2 : length c.loop-i.out ≡ length c.args.out.now
   length_out_2 =
-      written_length (read_4 c) (end_4 c) c.args.out.now place_2 c.loop-i.n c.loop-i.marked c.loop-i.out c.loop-i.invariant.0
+      written_length (read_4 c) (end_4 c) c.args.out.now place_2 c.loop-i.n c.loop-i.marked c.loop-i.out c.loop-i.invariant
       c.args.count (omega (arith, inside_2)) c.requires.3
 
   room_2 : 45 * c.loop-i.n + 45 ≤ length c.args.out.now
   room_2 =
-      written_room (read_4 c) (end_4 c) c.args.out.now place_2 c.loop-i.n c.loop-i.marked c.loop-i.out c.loop-i.invariant.0
+      written_room (read_4 c) (end_4 c) c.args.out.now place_2 c.loop-i.n c.loop-i.marked c.loop-i.out c.loop-i.invariant
       c.args.count (omega (arith, inside_2)) c.requires.3 inside_2 transfers_2
 
   came_to_2 : AimIs (read_4 c) carry_2 (get_or c.args.before.now carry_2 [])
@@ -199,14 +199,12 @@ module _ (w : goal.After-slice_known-in-loop-i-1) where
   put = w.put_target-marked.ensures (read_5 w) (end_5 w) (came_by_2 w) (comes_to_3 w)
 
 pub loop-i-init : goal.loop-i-init
-loop-i-init c = (written_start (read c) (end c) c.args.out.now, omega arith)
+loop-i-init c = written_start (read c) (end c) c.args.out.now
 
 pub loop-i-preserved-then-not-is_transfer : goal.loop-i-preserved-then-not-is_transfer
-loop-i-preserved-then-not-is_transfer c = (
-  written_other (read_2 c) (end_2 c) c.args.out.now c.loop-i.i c.loop-i.n c.loop-i.marked c.loop-i.out c.loop-i.invariant.0
-      (sym (asked c) ∙ not-true _ (ap not c.if-not-is_transfer.true)),
-  omega (arith, c.loop-i-test.true),
-)
+loop-i-preserved-then-not-is_transfer c =
+    written_other (read_2 c) (end_2 c) c.args.out.now c.loop-i.i c.loop-i.n c.loop-i.marked c.loop-i.out c.loop-i.invariant
+    (sym (asked c) ∙ not-true _ (ap not c.if-not-is_transfer.true))
 
 pub offset_bounds-before-c : goal.offset_bounds-before-c
 offset_bounds-before-c c = omega (arith, carry_low c)
@@ -230,16 +228,14 @@ overflow_add-marked c =
       arith,
       (put c).1,
       mark_low (is_same (target_at (read_5 c) (end_5 c) (place_3 c) c.carry_at-c.result.0)),
-      c.loop-i.invariant.0.marked_few,
+      c.loop-i.invariant.marked_few,
       inside_3 c,
       few_3 c,
     )
 
 pub loop-i-preserved : goal.loop-i-preserved
-loop-i-preserved c = (
-  written_one (read_5 c) (end_5 c) c.args.out.now (place_3 c) c.loop-i.n c.loop-i.marked c.loop-i.out c.loop-i.invariant.0 c.args.count
-      (omega (arith, inside_3 c)) c.requires.3
-      (inside_3 c) (transfers_3 c) c.carry_at-c.result.0 c.put_target-marked.result _
-      (c.carry_at-c.ensures ∙ carried_is (here_5 c) c.requires.0 (place_3 c) (inside_3 c) (transfers_3 c)) (put c).0 (put c).1,
-  omega (arith, inside_3 c),
-)
+loop-i-preserved c =
+    written_one (read_5 c) (end_5 c) c.args.out.now (place_3 c) c.loop-i.n c.loop-i.marked c.loop-i.out c.loop-i.invariant c.args.count
+    (omega (arith, inside_3 c)) c.requires.3
+    (inside_3 c) (transfers_3 c) c.carry_at-c.result.0 c.put_target-marked.result _
+    (c.carry_at-c.ensures ∙ carried_is (here_5 c) c.requires.0 (place_3 c) (inside_3 c) (transfers_3 c)) (put c).0 (put c).1

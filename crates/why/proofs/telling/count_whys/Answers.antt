@@ -17,13 +17,13 @@ abbrev over_3 : (c : goal.After-loop-m) → Slots
 over_3 c = table_of c.args.frames.now c.args.state.now c.args.count
 
 pub loop-m-init : goal.loop-m-init
-loop-m-init c = (omega arith, none_before c.args.asked (program_of (over c)))
+loop-m-init c = none_before c.args.asked (program_of (over c))
 
 pub overflow_add-n : goal.overflow_add-n
 overflow_add-n c =
     omega (
       arith,
-      c.loop-m.invariant.1,
+      c.loop-m.invariant,
       few c.args.asked (program_of (over_2 c)) c.loop-m.m,
       c.loop-m-test.true,
       c.is_tried-n.ensures.1,
@@ -33,9 +33,9 @@ overflow_add-n c =
 pub loop-m-preserved : goal.loop-m-preserved
 loop-m-preserved c =
     let more = count_more c.args.asked (program_of (over_2 c)) c.loop-m.m c.attempted-tried.result c.attempted-tried.ensures in
-    (omega (arith, c.loop-m-test.true), omega (arith, c.loop-m.invariant.1, c.is_tried-n.ensures.0, more))
+    omega (arith, c.loop-m.invariant, c.is_tried-n.ensures.0, more)
 
 pub returns : goal.returns
 returns c =
-    c.loop-m.invariant.1 ∙ all_before c.args.asked (program_of (over_3 c)) c.loop-m.m
-    (omega (arith, c.loop-m.invariant.0, c.loop-m-test.false, length_program (over_3 c)))
+    c.loop-m.invariant ∙ all_before c.args.asked (program_of (over_3 c)) c.loop-m.m
+    (omega (arith, length_program (over_3 c)))

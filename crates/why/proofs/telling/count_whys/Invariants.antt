@@ -1,6 +1,5 @@
 -- `why::telling::count_whys` meets its contract: the loop counts the reasons before each try.
 use mathlib.Core.Path.{◌≡◌}
-use Prim.Native.Nat.{◌-◌, ◌≤◌}
 use lib.ListN.{length}
 use Rattle.slots.specs.Slots.{program_of}
 use Rattle.slots.specs.State.{table_of}
@@ -8,7 +7,4 @@ use Rattle.why.proofs.Walks.{before}
 use Rattle.why.proofs.telling.count_whys.Given as goal
 
 abbrev pub invariant-loop-m : goal.invariant-loop-m
-invariant-loop-m l = (l.m ≤ l.tries) × (l.n ≡ length (before l.asked (program_of (table_of l.frames l.state l.count)) l.m))
-
-abbrev pub decreases-loop-m : goal.decreases-loop-m
-decreases-loop-m l = l.tries - l.m
+invariant-loop-m l = (l.n ≡ length (before l.asked (program_of (table_of l.frames l.state l.count)) l.m))

@@ -26,42 +26,39 @@ abbrev over_4 : (c : goal.After-loop-m) → Slots
 over_4 c = table_of c.args.frames.now c.args.state.now c.args.count
 
 pub loop-m-init : goal.loop-m-init
-loop-m-init c = (omega arith, none_before c.args.asked (program_of (over c)), none_laid c.args.asked (program_of (over c)) c.args.out.now)
+loop-m-init c = (none_before c.args.asked (program_of (over c)), none_laid c.args.asked (program_of (over c)) c.args.out.now)
 
-pub put_tried-next-requires : goal.put_tried-next-requires
-put_tried-next-requires c =
+pub put_tried-n-requires : goal.put_tried-n-requires
+put_tried-n-requires c =
     let p = program_of (over_2 c) in
     let few_here = few c.args.asked p c.loop-m.m in
     let room =
     room_here c.args.asked p c.loop-m.m c.attempted-tried.result c.attempted-tried.ensures c.args.count (sym (length_program (over_2 c)))
     c.loop-m-test.true
-    c.args.out.now c.loop-m.out c.requires.3 c.loop-m.invariant.2 in (
-      omega (arith, room, c.loop-m.invariant.1),
+    c.args.out.now c.loop-m.out c.requires.3 c.loop-m.invariant.1 in (
+      omega (arith, room, c.loop-m.invariant.0),
       omega (arith, c.loop-m-test.true, c.requires.0.sound.held.few),
-      omega (arith, c.loop-m.invariant.1, few_here, c.loop-m-test.true, c.requires.0.sound.held.few),
+      omega (arith, c.loop-m.invariant.0, few_here, c.loop-m-test.true, c.requires.0.sound.held.few),
     )
 
 pub loop-m-preserved : goal.loop-m-preserved
 loop-m-preserved c =
-    let w = c.put_tried-next.ensures in
+    let w = c.put_tried-n.ensures in
     let p = program_of (over_3 c) in
     let more = count_more c.args.asked p c.loop-m.m c.attempted-tried.result c.attempted-tried.ensures in (
-      omega (arith, c.loop-m-test.true),
-      omega (arith, c.loop-m.invariant.1, w.0, more),
+      omega (arith, c.loop-m.invariant.0, w.0, more),
       line_here c.args.asked p c.loop-m.m c.attempted-tried.result c.attempted-tried.ensures c.args.count (sym (length_program (over_3 c)))
           c.loop-m-test.true
-          c.args.out.now c.loop-m.out c.requires.3 c.loop-m.invariant.2 _
-          (w.1 ∙ ap (λ (k : ℕ). laid c.loop-m.out (27 * k) (tried_lines c.loop-m.m c.attempted-tried.result)) c.loop-m.invariant.1),
+          c.args.out.now c.loop-m.out c.requires.3 c.loop-m.invariant.1 _
+          (w.1 ∙ ap (λ (k : ℕ). laid c.loop-m.out (27 * k) (tried_lines c.loop-m.m c.attempted-tried.result)) c.loop-m.invariant.0),
     )
 
 pub returns : goal.returns
 returns c =
-    c.loop-m.invariant.2
+    c.loop-m.invariant.1
     ∙ ap (λ (ws : List Why). laid c.args.out.now 0 (why_lines ws))
     (whole_before c.args.asked (program_of (over_4 c)) c.loop-m.m (omega (
       arith,
-      c.loop-m.invariant.0,
-      c.loop-m-test.false,
       length_program
           (over_4 c),
     )))

@@ -1,6 +1,5 @@
 -- `why::telling::write_whys` meets its contract: the lines of the reasons before each try stand in the room.
 use mathlib.Core.Path.{◌≡◌}
-use Prim.Native.Nat.{◌-◌, ◌≤◌}
 use lib.ListN.{length}
 use Rattle.slots.specs.Slots.{program_of}
 use Rattle.slots.specs.State.{table_of}
@@ -12,7 +11,4 @@ use Rattle.why.proofs.telling.write_whys.Given as goal
 abbrev pub invariant-loop-m : goal.invariant-loop-m
 invariant-loop-m l =
     let p = program_of (table_of l.frames l.state l.count) in
-    (l.m ≤ l.tries) × (l.n ≡ length (before l.asked p l.m)) × (l.out ≡ laid l.initial.out 0 (why_lines (before l.asked p l.m)))
-
-abbrev pub decreases-loop-m : goal.decreases-loop-m
-decreases-loop-m l = l.tries - l.m
+    (l.n ≡ length (before l.asked p l.m)) × (l.out ≡ laid l.initial.out 0 (why_lines (before l.asked p l.m)))

@@ -1,9 +1,0 @@
--- `desk::answers::put_digits` reads within the bytes and ends.
-use Rattle.std.proofs.Common.{length, ◌-◌, ◌≤◌}
-use Rattle.desk.proofs.answers.put_digits.Given as goal
-
-abbrev pub invariant-loop-i : goal.invariant-loop-i
-invariant-loop-i g l = l.i ≤ length l.bytes
-
-abbrev pub decreases-loop-i : goal.decreases-loop-i
-decreases-loop-i g l = length l.bytes - l.i

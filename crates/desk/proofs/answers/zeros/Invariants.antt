@@ -1,9 +1,0 @@
--- `desk::answers::zeros` reads within the bytes and ends.
-use Rattle.std.proofs.Common.{length, ◌-◌, ◌≤◌}
-use Rattle.desk.proofs.answers.zeros.Given as goal
-
-abbrev pub invariant-loop-i : goal.invariant-loop-i
-invariant-loop-i l = l.i ≤ length l.bytes
-
-abbrev pub decreases-loop-i : goal.decreases-loop-i
-decreases-loop-i l = length l.bytes - l.i
