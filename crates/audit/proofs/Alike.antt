@@ -1,55 +1,32 @@
 -- How far two images are the same: counted byte by byte, and what the count says.
-use mathlib.Core.Path.{◌≡◌, refl, sym, ap₂, ◌∙◌}
+use mathlib.Core.Path.{◌≡◌, refl, sym, ap₂}
 use mathlib.Core.List.{List, [], ◌∷◌}
+use mathlib.Core.Logic.{◌⊎◌, inl, inr}
 use mathlib.Core.Bool.{Bool, true, false, cond}
-use Prim.Native.Nat.{ℕ, suc, ◌+◌, ◌≤◌, ◌<◌}
-use native.Mathlib.Numerals.{add-one}
+use Prim.Native.Nat.{ℕ, suc, ◌≤◌, ◌<◌}
 use native.Mathlib.Omega.{arith}
 use lib.Dec.{eqb}
-use lib.ListN.{length, get_or, take, drop, drop_of_length-le}
-use lib.Seq.{drop-cons}
+use lib.ListN.{length, get_or, take}
 use borrow.Author.Tests.{eq-eqb, ne_eqb, eqb-true}
 use Rattle.laws.proofs.Tests.{both_ways}
 use Rattle.audit.specs.Audit.{alike}
 
--- ---- counted from place i on
-module _ (w s : List ℕ) (i : ℕ) where
-  abbrev Counted : Type 0
-  Counted = alike w s ≡ i + alike (drop i w) (drop i s)
+-- ---- counted byte by byte: a and b are what is left behind the first n
+pub alike_same : (xs ys : List ℕ) (x y : ℕ) → x ≡ y → alike (x ∷ xs) (y ∷ ys) ≡ suc (alike xs ys)
+unfolding alike
+alike_same xs ys x y e = rw (eq-eqb x y e)
 
-  here : (x y : ℕ) (xs ys : List ℕ) → drop i w ≡ x ∷ xs → drop i s ≡ y ∷ ys → alike (drop i w) (drop i s) ≡ cond (eqb x y) (suc (alike xs ys)) 0
-  unfolding alike
-  here x y xs ys d e = rw (d, e)
+pub alike_other : (xs ys : List ℕ) (x y : ℕ) → (x ≡ y → ⊥) → alike (x ∷ xs) (y ∷ ys) ≡ 0
+unfolding alike
+alike_other xs ys x y n = rw (ne_eqb x y n)
 
-  -- the same byte at i
-  pub alike_more : i < length w → i < length s → get_or w i 0 ≡ get_or s i 0 → Counted → alike w s ≡ (i + 1) + alike (drop (i + 1) w) (drop (i + 1) s)
-  alike_more h k e c =
-      let at_i = here (get_or w i 0) (get_or s i 0) (drop (suc i) w) (drop (suc i) s) (drop-cons w i 0 h) (drop-cons s i 0 k) in
-      let one : alike (drop i w) (drop i s) ≡ suc (alike (drop (suc i) w) (drop (suc i) s)) = at_i ∙ rw (eq-eqb (get_or w i 0) (get_or s i 0) e) in
-      rw add-one (omega (arith, c, one))
-
-  -- another byte
-  pub alike_other : i < length w → i < length s → (get_or w i 0 ≡ get_or s i 0 → ⊥) → Counted → i ≡ alike w s
-  alike_other h k n c =
-      let at_i = here (get_or w i 0) (get_or s i 0) (drop (suc i) w) (drop (suc i) s) (drop-cons w i 0 h) (drop-cons s i 0 k) in
-      let one : alike (drop i w) (drop i s) ≡ 0 = at_i ∙ rw (ne_eqb (get_or w i 0) (get_or s i 0) n) in
-      omega (arith, c, one)
-
-  -- one of them ends
-  no_more : (x y : List ℕ) → (x ≡ []) → alike x y ≡ 0
-  unfolding alike
-  no_more x y e = rw e
-
-  nothing_left : (x y : List ℕ) → (y ≡ []) → alike x y ≡ 0
-  unfolding alike
-  nothing_left [] y e = refl
-  nothing_left (x ∷ xs) y e = rw e
-
-  pub alike_whole : length w ≤ i → Counted → i ≡ alike w s
-  alike_whole h c = let one = no_more (drop i w) (drop i s) (drop_of_length-le w {i = i} h) in omega (arith, c, one)
-
-  pub alike_ended : length s ≤ i → Counted → i ≡ alike w s
-  alike_ended h c = let one = nothing_left (drop i w) (drop i s) (drop_of_length-le s {i = i} h) in omega (arith, c, one)
+-- one of them ends
+pub alike_ended : (a b : List ℕ) → (length a ≡ 0) ⊎ (length b ≡ 0) → alike a b ≡ 0
+unfolding alike
+alike_ended [] b e = refl
+alike_ended (x ∷ a) [] e = refl
+alike_ended (x ∷ a) (y ∷ b) (inl e) = absurd (omega arith)
+alike_ended (x ∷ a) (y ∷ b) (inr e) = absurd (omega arith)
 
 -- ---- what the count says
 pub record Front (w s : List ℕ) (n : ℕ) : Type 0 where

@@ -7,15 +7,10 @@ pub fn count_alike(wanted: &[u8], shipped: &[u8]) -> usize
     ensures { (result ≡ alike wanted.now shipped.now) × (result ≤ length wanted.now)
         × (result ≤ length shipped.now) }
 {
-    let mut i = 0;
-    while i < wanted.len() {
-        if shipped.len() <= i {
+    for (i, (w, s)) in wanted.iter().zip(shipped).enumerate() {
+        if *w != *s {
             return i;
         }
-        if wanted[i] != shipped[i] {
-            return i;
-        }
-        i += 1;
     }
-    i
+    wanted.len().min(shipped.len())
 }

@@ -1,13 +1,13 @@
--- `audit::comparing::count_alike` meets its contract. The loop's invariant: what is the same from i on is counted behind i.
+-- `audit::comparing::count_alike` meets its contract. The loop's invariant: what is the same in what is left is counted behind what was passed.
 use mathlib.Core.Path.{◌≡◌}
-use Prim.Native.Nat.{◌+◌, ◌-◌, ◌≤◌}
-use lib.ListN.{length, drop}
+use Prim.Native.Nat.{◌+◌}
+use lib.ListN.{length}
 use Rattle.audit.specs.Audit.{alike}
 use Rattle.audit.proofs.comparing.count_alike.Given as goal
 
 abbrev pub invariant-loop-i : goal.invariant-loop-i
-invariant-loop-i l = (l.i ≤ length l.wanted) × (l.i ≤ length l.shipped) × (alike l.wanted l.shipped ≡ l.i + alike (drop l.i l.wanted)
-    (drop l.i l.shipped))
-
-abbrev pub decreases-loop-i : goal.decreases-loop-i
-decreases-loop-i l = length l.wanted - l.i
+invariant-loop-i l =
+    let n = l.i-iterator.count in
+    let a = l.i-iterator.iter.a.rest.now in
+    let b = l.i-iterator.iter.b.rest.now in
+    (alike l.wanted l.shipped ≡ n + alike a b) × (n + length a ≡ length l.wanted) × (n + length b ≡ length l.shipped)
