@@ -48,8 +48,7 @@ fn target_value(
         → result ≡ constant_value names (keys_of moving.now contexts.now count) k
         (last_of (args_of (input_at frames.now (starts_in state.now) at.0)))) }
 {
-    let i = at.0;
-    let context = contexts[i];
+    let context = contexts[at.0];
     let target = target_in(frames, state, count, at);
     if holds_label(target, moving, contexts, count, context) {
         return Outcome::Unknown;
@@ -112,10 +111,9 @@ fn origin_at(
         let names : List Key = keys_of moving.now contexts.now count in
         Found d.slots (origin_at d.entries names (program d) at.0) result }
 {
-    if !is_transfer(form_at(frames, state, count, at)) {
-        return Origin::Nothing;
-    }
-    if is_change_jump(frames, state, count, links, values, positions, at) {
+    if !is_transfer(form_at(frames, state, count, at))
+        || is_change_jump(frames, state, count, links, values, positions, at)
+    {
         return Origin::Nothing;
     }
     let x = target_value(frames, state, count, contexts, links, values, moving, at);
@@ -160,8 +158,7 @@ fn anchor_targets(
     ensures { let t : Slots = table_of frames.now state.now count in
         Anchored t (table_of frames.now next.new count) × Labelled state.now next.new }
 {
-    let mut i = 0;
-    while i < count {
+    for i in 0..count {
         let label = label_of(origin_at(
             frames,
             state,
@@ -174,7 +171,6 @@ fn anchor_targets(
             Place(i),
         ));
         put_label(next, Place(i), label.owner, label.offset);
-        i += 1;
     }
 }
 

@@ -29,18 +29,11 @@ fn skipped_at(frames: &[u8], state: &State, count: usize, at: Place) -> bool
     ensures { Any frames.now (starts_in state.now) count (forms_in state.now) (λ t. result ≡ skipped
         (slot_at t at.0)) }
 {
-    match slot_at(frames, state, count, at) {
-        Slot::Gone => true,
-        Slot::Form(_) => false,
-        Slot::Holds(statement) => match statement {
-            Statement::Label(_) | Statement::Variable(_, _) | Statement::Comment(_) => true,
-            Statement::Instr(_)
-            | Statement::Org(_)
-            | Statement::Bytes(_, _)
-            | Statement::Words(_, _)
-            | Statement::Pad(_, _) => false,
-        },
-    }
+    matches!(
+        slot_at(frames, state, count, at),
+        Slot::Gone
+            | Slot::Holds(Statement::Label(_) | Statement::Variable(_, _) | Statement::Comment(_))
+    )
 }
 
 // The last place below whose statement is not skipped.
@@ -49,9 +42,7 @@ fn nearest(frames: &[u8], state: &State, count: usize, at: Place) -> Nearest
     ensures { Any frames.now (starts_in state.now) count (forms_in state.now)
         (λ t. result ≡ nearest_as (nearest_place (program_of t) at.0)) }
 {
-    let mut j = at.0;
-    while 0 < j {
-        j -= 1;
+    for j in (0..at.0).rev() {
         if !skipped_at(frames, state, count, Place(j)) {
             return Nearest::At(Place(j));
         }
@@ -63,11 +54,7 @@ fn nearest(frames: &[u8], state: &State, count: usize, at: Place) -> Nearest
 fn is_number(x: Outcome, n: u16) -> bool
     ensures { result ≡ is_number n x }
 {
-    match x {
-        Outcome::Is(v) => v == n as i32,
-        Outcome::Unknown => false,
-        Outcome::Nothing => false,
-    }
+    matches!(x, Outcome::Is(v) if v == i32::from(n))
 }
 
 // The statement at j ends where the one at `at` begins.
@@ -75,9 +62,7 @@ fn meets(positions: &[u32; 1025], j: Place, at: Place) -> bool
     requires { (j.0 < 1024) × (at.0 < 1024) }
     ensures { result ≡ eqb (get_or positions.now (suc j.0) 0) (get_or positions.now at.0 0) }
 {
-    let i = at.0;
-    let end = j.0 + 1;
-    positions[end] == positions[i]
+    positions[j.0 + 1] == positions[at.0]
 }
 
 // The `Not1` at j has "operands valued 0x10D and 0".
@@ -97,12 +82,13 @@ fn valued_at(
         positions.now in
         result ≡ valued_10d_and_0 (worth_of d.entries (program d) (context_at (program d) j.0)) (args_of (stands_at d.slots j.0)) }
 {
-    let bank = argument_worth(frames, state, count, links, values, positions, j, 0);
-    if !is_number(bank, 0x10D) {
-        return false;
-    }
-    let bit = argument_worth(frames, state, count, links, values, positions, j, 1);
-    is_number(bit, 0)
+    is_number(
+        argument_worth(frames, state, count, links, values, positions, j, 0),
+        0x10D,
+    ) && is_number(
+        argument_worth(frames, state, count, links, values, positions, j, 1),
+        0,
+    )
 }
 
 // The statement at j is `Not1` "with operands valued 0x10D and 0, ending where the jump begins".
@@ -123,13 +109,9 @@ fn changes_at(
         positions.now in
         result ≡ changes_at d.entries (program d) at.0 (some j.0) }
 {
-    if form_at(frames, state, count, j) != NOT1 {
-        return false;
-    }
-    if !valued_at(frames, state, count, links, values, positions, j) {
-        return false;
-    }
-    meets(positions, j, at)
+    form_at(frames, state, count, j) == NOT1
+        && valued_at(frames, state, count, links, values, positions, j)
+        && meets(positions, j, at)
 }
 
 // "a `Jmpf` whose nearest earlier statement .. is `Not1` with operands valued 0x10D and 0, ending where the jump begins"

@@ -1,7 +1,7 @@
 -- `anchors::anchoring::anchor_targets` meets its contract: the loop fills both rows from the front.
 use mathlib.Core.Path.{◌≡◌}
 use mathlib.Core.List.{List, ◌++◌}
-use Prim.Native.Nat.{ℕ, ◌-◌, ◌≤◌}
+use Prim.Native.Nat.{ℕ, ◌≤◌}
 use lib.ListN.{length, drop}
 use Rattle.laws.specs.Counts.{tab}
 use Rattle.rules.specs.Names.{Key}
@@ -30,6 +30,3 @@ abbrev pub invariant-loop-i : goal.invariant-loop-i
 invariant-loop-i l =
     Filling (tables_of l.frames l.state l.count l.links l.values l.positions) (keys_of l.moving l.contexts l.count) l.i l.initial.next
     l.next
-
-abbrev pub decreases-loop-i : goal.decreases-loop-i
-decreases-loop-i l = l.count - l.i

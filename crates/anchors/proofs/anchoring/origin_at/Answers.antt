@@ -3,7 +3,7 @@ use mathlib.Core.Path.{◌≡◌, sym, ap, ◌∙◌}
 use mathlib.Core.Bool.{true}
 use mathlib.Core.List.{List}
 use Prim.Native.Nat.{ℕ}
-use borrow.Author.Tests.{not-true, not-false}
+use borrow.Author.Tests.{not-false}
 use Rattle.rules.specs.Forms.{is_transfer}
 use Rattle.rules.specs.Programs.{args_of, last_of}
 use Rattle.rules.specs.Layout.{origin}
@@ -19,32 +19,9 @@ use Rattle.anchors.proofs.Targets.{origin_other, origin_change, own_target, orig
 use Rattle.slots.specs.State.{starts_in, forms_in, carry_in, owners_in, offsets_in}
 use mathlib.Core.Bool.{not}
 use Rattle.anchors.proofs.anchoring.origin_at.Goals as goal
+use Rattle.anchors.proofs.anchoring.origin_at.Goals.{Else-is_change_jump, After-value_origin, then-not-is_transfer-via-else-not-is_transfer+then-is_change_jump, then-not-is_transfer-via-then-not-is_transfer}
 
-module _ (s : goal.Then-not-is_transfer) where
-  abbrev here : Tables
-  here =
-      tables_of s.args.frames.now s.args.state.now s.args.count
-      s.args.links.now s.args.values.now s.args.positions.now
-
-  abbrev place : ℕ
-  place = s.args.at.0
-
-  abbrev moving : List Key
-  moving = keys_of s.args.moving.now s.args.contexts.now s.args.count
-
-module _ (s : goal.Then-is_change_jump) where
-  abbrev here_2 : Tables
-  here_2 =
-      tables_of s.args.frames.now s.args.state.now s.args.count
-      s.args.links.now s.args.values.now s.args.positions.now
-
-  abbrev place_2 : ℕ
-  place_2 = s.args.at.0
-
-  abbrev moving_2 : List Key
-  moving_2 = keys_of s.args.moving.now s.args.contexts.now s.args.count
-
-module _ (s : goal.Else-is_change_jump) where
+module _ (s : Else-is_change_jump) where
   abbrev here_3 : Tables
   here_3 =
       tables_of s.args.frames.now s.args.state.now s.args.count
@@ -53,7 +30,7 @@ module _ (s : goal.Else-is_change_jump) where
   abbrev place_3 : ℕ
   place_3 = s.args.at.0
 
-module _ (s : goal.After-value_origin) where
+module _ (s : After-value_origin) where
   abbrev here_4 : Tables
   here_4 =
       tables_of s.args.frames.now s.args.state.now s.args.count
@@ -66,48 +43,45 @@ module _ (s : goal.After-value_origin) where
   moving_4 = keys_of s.args.moving.now s.args.contexts.now s.args.count
 
 -- the test, as the program has it
-tested : (c : goal.Then-not-is_transfer) → c.is_transfer.result ≡ is_transfer (form_in (stands_at (here c).slots (place c)))
-tested c =
-    c.is_transfer.ensures ∙ ap is_transfer (c.form_at.ensures (carry_in c.args.state.now) (owners_in c.args.state.now)
-    (offsets_in c.args.state.now))
-
--- the test, as the program has it
-tested_2 : (c : goal.Else-is_change_jump) → c.is_transfer.result ≡ is_transfer (form_in (stands_at (here_3 c).slots (place_3 c)))
+tested_2 : (c : Else-is_change_jump) → c.is_transfer.result ≡ is_transfer (form_in (stands_at (here_3 c).slots (place_3 c)))
 tested_2 c =
     c.is_transfer.ensures ∙ ap is_transfer (c.form_at.ensures (carry_in c.args.state.now) (owners_in c.args.state.now)
     (offsets_in c.args.state.now))
 
 -- the test, as the program has it
-tested_3 : (c : goal.After-value_origin) → c.is_transfer.result ≡ is_transfer (form_in (stands_at (here_4 c).slots (place_4 c)))
+tested_3 : (c : After-value_origin) → c.is_transfer.result ≡ is_transfer (form_in (stands_at (here_4 c).slots (place_4 c)))
 tested_3 c =
     c.is_transfer.ensures ∙ ap is_transfer (c.form_at.ensures (carry_in c.args.state.now) (owners_in c.args.state.now)
     (offsets_in c.args.state.now))
 
 -- a transfer
-moves : (c : goal.Else-is_change_jump) → is_transfer (form_in (stands_at (here_3 c).slots (place_3 c))) ≡ true
+moves : (c : Else-is_change_jump) → is_transfer (form_in (stands_at (here_3 c).slots (place_3 c))) ≡ true
 moves c = sym (tested_2 c) ∙ not-false _ (ap not c.if-not-is_transfer.false)
 
 -- a transfer
-moves_2 : (c : goal.After-value_origin) → is_transfer (form_in (stands_at (here_4 c).slots (place_4 c))) ≡ true
+moves_2 : (c : After-value_origin) → is_transfer (form_in (stands_at (here_4 c).slots (place_4 c))) ≡ true
 moves_2 c = sym (tested_3 c) ∙ not-false _ (ap not c.if-not-is_transfer.false)
 
 pub returns-then-not-is_transfer : goal.returns-then-not-is_transfer
 returns-then-not-is_transfer c =
-    let d = here c in
-    record {
-      answer = sym (ap origin_as (origin_other d.entries (moving c) (program d) (place c)
-          (sym (tested c) ∙ not-true _ (ap not c.if-not-is_transfer.true))));
-      inside = tt;
-    }
-
-pub returns-then-is_change_jump : goal.returns-then-is_change_jump
-returns-then-is_change_jump c =
-    let d = here_2 c in
-    record {
-      answer = sym (ap origin_as (origin_change d.entries (moving_2 c) (program d) (place_2 c) (sym c.is_change_jump.ensures
-          ∙ c.if-is_change_jump.true)));
-      inside = tt;
-    }
+    let d = tables_of c.args.frames.now c.args.state.now c.args.count c.args.links.now c.args.values.now c.args.positions.now in
+    let moving = keys_of c.args.moving.now c.args.contexts.now c.args.count in
+    elim c.then-not-is_transfer.branch [
+      | then-not-is_transfer-via-else-not-is_transfer+then-is_change_jump w ↦
+          record {
+            answer = sym (ap origin_as (origin_change d.entries moving (program d) c.args.at.0 (sym w.is_change_jump.ensures
+                ∙ w.if-is_change_jump.true)));
+            inside = tt;
+          }
+      | then-not-is_transfer-via-then-not-is_transfer w ↦
+          let tested : c.is_transfer.result ≡ is_transfer (form_in (stands_at d.slots c.args.at.0)) =
+          c.is_transfer.ensures ∙ ap is_transfer (c.form_at.ensures (carry_in c.args.state.now) (owners_in c.args.state.now)
+          (offsets_in c.args.state.now)) in
+          record {
+            answer = sym (ap origin_as (origin_other d.entries moving (program d) c.args.at.0 (sym tested ∙ w.if-not-is_transfer.true)));
+            inside = tt;
+          }
+    ]
 
 pub target_value-x-requires : goal.target_value-x-requires
 target_value-x-requires c = (

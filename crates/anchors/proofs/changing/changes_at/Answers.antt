@@ -1,44 +1,31 @@
 -- `anchors::changing::changes_at` meets its contract: the form, then the operands' worth, then where the statement ends.
 use mathlib.Core.Path.{◌≡◌, sym, ap, ◌∙◌}
 use mathlib.Core.Bool.{Bool, ◌&&◌}
-use Prim.Native.Nat.{ℕ, suc}
+use Prim.Native.Nat.{suc}
 use lib.Dec.{eqb}
 use lib.ListN.{get_or}
-use borrow.Author.Tests.{not-false}
+use borrow.Author.Tests.{ne_eqb}
 use Rattle.rules.specs.Forms.{not1}
-use Rattle.image.specs.Tables.{Tables, tables_of}
+use Rattle.image.specs.Tables.{tables_of}
 use Rattle.patterns.specs.Targets.{stands_at, form_in}
 use Rattle.anchors.proofs.Jumps.{changes_is}
 use Rattle.slots.specs.State.{carry_in, owners_in, offsets_in}
-use mathlib.Core.Bool.{not}
 use Rattle.anchors.proofs.changing.changes_at.Goals as goal
+use Rattle.anchors.proofs.changing.changes_at.Goals.{then-form_at-eq-NOT1, else-form_at-eq-NOT1}
+use Rattle.laws.proofs.Tests.{true_false}
 
-module _ (s : goal.After-meets) where
-  abbrev here : Tables
-  here =
-      tables_of s.args.frames.now s.args.state.now s.args.count
-      s.args.links.now s.args.values.now s.args.positions.now
-
-  abbrev jump : ℕ
-  jump = s.args.at.0
-
-  abbrev place : ℕ
-  place = s.args.j.0
-
-  abbrev meeting : Bool
-  meeting = eqb (get_or s.args.positions.now (suc place) 0) (get_or s.args.positions.now jump 0)
-
--- the form, as the program has it
-form_is : (c : goal.After-meets) → c.form_at.result ≡ form_in (stands_at (here c).slots (place c))
-form_is c = c.form_at.ensures (carry_in c.args.state.now) (owners_in c.args.state.now) (offsets_in c.args.state.now)
-
--- a Not1 stands at j
-is_not1 : (c : goal.After-meets) → form_in (stands_at (here c).slots (place c)) ≡ not1
-is_not1 c = sym (form_is c) ∙ c.if-form_at-ne-NOT1.false
-
-pub returns : goal.returns
-returns c =
-    c.meets.ensures
-    ∙ sym
-    (changes_is (here c) c.requires.0 (jump c) (place c) c.requires.1 c.requires.2 (is_not1 c)
-    ∙ ap (λ (b : Bool). b && meeting c) (sym c.valued_at.ensures ∙ not-false _ (ap not c.if-not-valued_at.false)))
+pub returns-then-valued_at : goal.returns-then-valued_at
+returns-then-valued_at c =
+    let d = tables_of c.args.frames.now c.args.state.now c.args.count c.args.links.now c.args.values.now c.args.positions.now in
+    let meeting = eqb (get_or c.args.positions.now (suc c.args.j.0) 0) (get_or c.args.positions.now c.args.at.0 0) in
+    elim c.if-form_at-eq-NOT1.branch [
+      | then-form_at-eq-NOT1 w ↦
+          let is_not1 : form_in (stands_at d.slots c.args.j.0) ≡ not1 =
+          sym (c.form_at.ensures (carry_in c.args.state.now) (owners_in c.args.state.now) (offsets_in c.args.state.now))
+          ∙ w.if-form_at-eq-NOT1.true in
+          c.meets.ensures
+          ∙ sym
+          (changes_is d c.requires.0 c.args.at.0 c.args.j.0 c.requires.1 c.requires.2 is_not1
+          ∙ ap (λ (b : Bool). b && meeting) (sym w.valued_at.ensures ∙ sym w.value-is ∙ c.if-valued_at.true))
+      | else-form_at-eq-NOT1 w ↦ true_false (sym c.if-valued_at.true ∙ w.value-is ∙ ne_eqb _ _ w.if-form_at-eq-NOT1.false)
+    ]

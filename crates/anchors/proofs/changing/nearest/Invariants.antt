@@ -11,6 +11,3 @@ abbrev pub invariant-loop-j : goal.invariant-loop-j
 invariant-loop-j l =
     (l.j ≤ l.count) × ((carry owners offsets : List ℕ) → let t : Slots = slots l.frames (starts_in l.state) l.count (forms_in l.state)
     carry owners offsets in nearest_place (program_of t) l.initial.j ≡ nearest_place (program_of t) l.j)
-
-abbrev pub decreases-loop-j : goal.decreases-loop-j
-decreases-loop-j l = l.j
