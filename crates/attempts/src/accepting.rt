@@ -25,8 +25,6 @@ pub fn acceptable(
         result ≡ Acceptable (program_of t) }
 {
     let mut positions = [0u32; 1025];
-    if assembles(frames, state, count, links, hint, &mut positions) {
-        return offsets_fit(frames, state, count, &positions);
-    }
-    false
+    assembles(frames, state, count, links, hint, &mut positions)
+        && offsets_fit(frames, state, count, &positions)
 }

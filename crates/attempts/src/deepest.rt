@@ -14,11 +14,7 @@ use slots::State;
 fn depth(offset: usize) -> u32
     ensures { result ≡ depth_of offset }
 {
-    if offset < 65535 {
-        (offset + 1) as u32
-    } else {
-        65536
-    }
+    offset.min(65535) as u32 + 1
 }
 
 // What a label wants of its owner's slot, if that is more than what is wanted there.
@@ -27,15 +23,8 @@ fn store_deeper(deepest: &mut [u32; 1024], label: InnerLabel)
     ensures room { length deepest.new ≡ 1024 }
     ensures stored { (i : ℕ) → get_or deepest.new i 0 ≡ max (get_or deepest.old i 0) (wanted_of i label) }
 {
-    match label {
-        InnerLabel::Of(owner, offset) => {
-            let i = owner.0;
-            let wanted = depth(offset);
-            if deepest[i] < wanted {
-                deepest[i] = wanted;
-            }
-        }
-        InnerLabel::Nothing => {}
+    if let InnerLabel::Of(owner, offset) = label {
+        deepest[owner.0] = deepest[owner.0].max(depth(offset));
     }
 }
 
@@ -46,10 +35,8 @@ pub fn fill_deepest(frames: &[u8], state: &State, count: usize, deepest: &mut [u
     ensures { let t : Slots = table_of frames.now state.now count in
         Deepest t deepest.new }
 {
-    let mut j = 0;
-    while j < count {
+    for j in 0..count {
         let label = inner_label_at(frames, state, count, Place(j));
         store_deeper(deepest, label);
-        j += 1;
     }
 }

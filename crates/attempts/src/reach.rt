@@ -15,7 +15,7 @@ use expression::linked_worth;
 use instruction::tables::{Operand, operand_kind, size};
 use patterns::targets::{target_in, target_links};
 use rules::{Address, Outcome, Place};
-use slots::{CARRY, NO_OWNER, State, owner_at, wide};
+use slots::{CARRY, NO_OWNER, State, owner_at};
 
 // The value of the target that was written at place c, where it is the same whatever names stand for and wherever statements lie: by no place below 0
 // is any name known, and so `values` is not looked at.
@@ -55,10 +55,7 @@ fn refuses(at: Place, position: u32, form: u8, v: i32) -> bool
         return false;
     }
     match operand_kind(form, 0) {
-        Operand::Is(kind) => match field_of(at, 0, Address(n), kind, v) {
-            Field::Is(_) => false,
-            Field::Refused(_) => true,
-        },
+        Operand::Is(kind) => matches!(field_of(at, 0, Address(n), kind, v), Field::Refused(_)),
         Operand::Nothing => false,
     }
 }
@@ -83,10 +80,9 @@ pub fn misses(
         state.now) offsets)
         (get_or positions.now at.0 0) form at.0 }
 {
-    let i = at.0;
-    let written = Place(wide(state[CARRY][i]));
+    let written = Place(usize::from(state[CARRY][at.0]));
     match fixed_target(frames, state, count, links, values, written) {
-        Outcome::Is(v) => refuses(at, positions[i], form, v),
+        Outcome::Is(v) => refuses(at, positions[at.0], form, v),
         Outcome::Unknown => false,
         Outcome::Nothing => false,
     }

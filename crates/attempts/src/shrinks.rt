@@ -36,11 +36,7 @@ pub fn try_form(
         let u : Slots = table_of frames.now state.new count in
         Tried (shrunk t at.0 form) t u result }
 {
-    let i = at.0;
-    if 1 < deepest[i] {
-        return false;
-    }
-    if misses(frames, state, count, links, values, positions, form, at) {
+    if 1 < deepest[at.0] || misses(frames, state, count, links, values, positions, form, at) {
         return false;
     }
     let old = form_in(state, at);

@@ -2,7 +2,6 @@
 use mathlib.Core.Path.{sym, ap, ap₂, ◌∙◌}
 use mathlib.Core.List.{List}
 use Prim.Native.Nat.{ℕ, max}
-use native.Mathlib.Omega.{arith}
 use lib.ListN.{length, get_or, length-replicate}
 use Rattle.slots.specs.Slots.{Slots}
 use Rattle.attempts.specs.Deepest.{wanted_of, deepest_to}
@@ -17,7 +16,6 @@ pub loop-j-init : goal.loop-j-init
 unfolding deepest_to
 loop-j-init c =
     let e = c.requires.1 in (
-      omega arith,
       ap (λ (l : List ℕ). length l) e ∙ length-replicate {A = ℕ} 1024 0,
       λ i. ap (λ (l : List ℕ). get_or l i 0) e ∙ none_yet
           1024 i,
@@ -25,10 +23,9 @@ loop-j-init c =
 
 pub loop-j-preserved : goal.loop-j-preserved
 loop-j-preserved c = (
-  omega arith,
   c.store_deeper.ensures.room,
   λ i.
       c.store_deeper.ensures.stored i
-      ∙ ap₂ (λ (m n : ℕ). max m n) (c.loop-j.invariant.2 i) (ap (wanted_of i) c.inner_label_at-label.ensures.0)
+      ∙ ap₂ (λ (m n : ℕ). max m n) (c.loop-j.invariant.1 i) (ap (wanted_of i) c.inner_label_at-label.ensures.0)
       ∙ sym (one_more (over c) i c.loop-j.j),
 )

@@ -1,6 +1,6 @@
 -- `attempts::deepest::fill_deepest` meets its contract: the loop stores the label of each slot.
 use mathlib.Core.Path.{◌≡◌}
-use Prim.Native.Nat.{ℕ, ◌-◌, ◌≤◌}
+use Prim.Native.Nat.{ℕ}
 use lib.ListN.{length, get_or}
 use Rattle.attempts.specs.Deepest.{deepest_to}
 use Rattle.slots.specs.State.{table_of}
@@ -8,9 +8,5 @@ use Rattle.attempts.proofs.deepest.fill_deepest.Given as goal
 
 abbrev pub invariant-loop-j : goal.invariant-loop-j
 invariant-loop-j l =
-    (l.j ≤ l.count)
-    × (length l.deepest ≡ 1024)
+    (length l.deepest ≡ 1024)
     × ((i : ℕ) → get_or l.deepest i 0 ≡ deepest_to (table_of l.frames l.state l.count) i l.j)
-
-abbrev pub decreases-loop-j : goal.decreases-loop-j
-decreases-loop-j l = l.count - l.j

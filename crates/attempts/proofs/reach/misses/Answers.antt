@@ -27,7 +27,7 @@ returns-in-Is c e forms offsets names p k =
     let aim = target_of (slots c.args.frames.now (starts_in c.args.state.now) c.args.count forms (carry_in c.args.state.now)
     (owners_in c.args.state.now) offsets) in
     let fixed : worth_of names p k (aim (get_or (carry_in c.args.state.now) i 0)) ≡ Is c.in-Is.v =
-    ap (λ c. worth_of names p k (aim c)) (sym c.wide.ensures) ∙ c.fixed_target.ensures c.in-Is.v c.in-Is.is forms
+    ap (λ c. worth_of names p k (aim c)) (sym c.from.ensures) ∙ c.fixed_target.ensures c.in-Is.v c.in-Is.is forms
     (carry_in c.args.state.now) offsets names p k in
     ap is_ok (field_value names p i k n 0 kind (aim (get_or (carry_in c.args.state.now) i 0)) c.in-Is.v fixed)
     ∙ ap (λ y. is_ok (field i 0 n kind y)) (sym (as_passed c))

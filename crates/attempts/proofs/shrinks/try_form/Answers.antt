@@ -20,9 +20,10 @@ use Rattle.attempts.specs.Reach.{OutOfReach}
 use Rattle.attempts.proofs.Depths.{deepest_says}
 use Rattle.attempts.proofs.Missed.{out_of_reach}
 use Rattle.attempts.proofs.shrinks.try_form.Goals as goal
+use Rattle.attempts.proofs.shrinks.try_form.Goals.{Joined-then-deepest-at-gt1, then-deepest-at-gt1-via-then-deepest-at-gt1, then-deepest-at-gt1-via-else-deepest-at-gt1+then-misses}
 
 -- the slots as they were
-module _ (s : goal.Then-deepest-i-gt1) where
+module _ (s : Joined-then-deepest-at-gt1) where
   abbrev state : List (List ℕ)
   state = s.args.state.now
 
@@ -45,29 +46,18 @@ module _ (s : goal.Then-deepest-i-gt1) where
   unfolding shrunk
   blocked l = given_false (no_interior_label_at (program_of old) i) (candidate formed) (says ∙ le-ltb deep 2 (omega arith))
 
--- the slots as they were
-module _ (s : goal.Then-misses) where
-  abbrev state_2 : List (List ℕ)
-  state_2 = s.args.state.now
-
-  abbrev i_2 : ℕ
-  i_2 = s.args.at.0
-
-  abbrev old_2 : Slots
-  old_2 = table_of s.args.frames.now state_2 s.args.count
-
   -- with a form in place
-  abbrev with_2 : (forms : List ℕ) → Slots
-  with_2 forms = slots s.args.frames.now (starts_in state_2) s.args.count forms (carry_in state_2) (owners_in state_2) (offsets_in state_2)
+  abbrev with : (forms : List ℕ) → Slots
+  with forms = slots s.args.frames.now (starts_in state) s.args.count forms (carry_in state) (owners_in state) (offsets_in state)
 
-  far_2 : OutOfReach (with_2 (set (forms_in state_2) i_2 s.args.form)) (get_or s.args.positions.now i_2 0) s.args.form i_2 → shrunk old_2
-      i_2 s.args.form ≡ none
-  far_2 o =
-      out_of_reach s.args.frames.now (starts_in state_2) s.args.count (forms_in state_2) (carry_in state_2) (owners_in state_2)
-      (offsets_in state_2)
-      s.requires.0 s.args.form i_2 s.requires.2 s.requires.3 s.requires.4 s.requires.7 s.requires.8
-      (subst (λ (q : ℕ). OutOfReach (with_2 (set (forms_in state_2) i_2 s.args.form)) q s.args.form i_2)
-      (s.requires.6 i_2 (omega (arith, s.requires.2))) o)
+  far : OutOfReach (with (set (forms_in state) i s.args.form)) (get_or s.args.positions.now i 0) s.args.form i → shrunk old i s.args.form
+      ≡ none
+  far o =
+      out_of_reach s.args.frames.now (starts_in state) s.args.count (forms_in state) (carry_in state) (owners_in state)
+      (offsets_in state)
+      s.requires.0 s.args.form i s.requires.2 s.requires.3 s.requires.4 s.requires.7 s.requires.8
+      (subst (λ (q : ℕ). OutOfReach (with (set (forms_in state) i s.args.form)) q s.args.form i)
+      (s.requires.6 i (omega (arith, s.requires.2))) o)
 
 -- the slots as they were
 module _ (s : goal.After-put_form) where
@@ -176,13 +166,15 @@ module _ (c : goal.After-put_form-2) where
       c.requires.4
       c.put_form.ensures.forms c.put_form.ensures.carry)
 
-pub returns-then-deepest-i-gt1 : goal.returns-then-deepest-i-gt1
-returns-then-deepest-i-gt1 c =
-    tried_not (shrunk (old c) (i c) c.args.form) (old c) c.requires.0 (blocked c c.if-deepest-i-gt1.true)
-
-pub returns-then-misses : goal.returns-then-misses
-returns-then-misses c =
-    tried_not (shrunk (old_2 c) (i_2 c) c.args.form) (old_2 c) c.requires.0 (far_2 c (c.misses.ensures c.if-misses.true _ _))
+-- an inner label in the way, or a target out of reach
+pub returns-then-deepest-at-gt1 : goal.returns-then-deepest-at-gt1
+returns-then-deepest-at-gt1 c =
+    let none_there : shrunk (old c) (i c) c.args.form ≡ none =
+    elim c.then-deepest-at-gt1.branch [
+      | then-deepest-at-gt1-via-then-deepest-at-gt1 w ↦ blocked c w.if-deepest-at-gt1.true
+      | then-deepest-at-gt1-via-else-deepest-at-gt1+then-misses w ↦ far c (w.misses.ensures w.if-misses.true _ _)
+    ] in
+    tried_not (shrunk (old c) (i c) c.args.form) (old c) c.requires.0 none_there
 
 pub acceptable-requires : goal.acceptable-requires
 acceptable-requires c = (
@@ -194,7 +186,7 @@ acceptable-requires c = (
 
 pub returns-then-acceptable : goal.returns-then-acceptable
 returns-then-acceptable c =
-    tried_as (shrunk (old_4 c) (i_4 c) c.args.form) (candidate (formed_4 c)) (old_4 c) (new_2 c) _ (free_4 c c.if-deepest-i-gt1.false)
+    tried_as (shrunk (old_4 c) (i_4 c) c.args.form) (candidate (formed_4 c)) (old_4 c) (new_2 c) _ (free_4 c c.if-deepest-at-gt1.false)
     (tried_kept (formed_4 c) (old_4 c) (new_2 c) (held_2 c) c.acceptable.result c.acceptable.ensures c.if-acceptable.true
     c.put_form.ensures.kept.starts)
 
@@ -205,7 +197,7 @@ returns c =
     undone (forms_in (state_5 c)) (forms_in (edited_3 c)) (forms_in r) (i_5 c) _ _ 0 c.put_form.ensures.forms c.form_in-old.ensures
     c.put_form-2.ensures.forms in
     tried_back (shrunk (old_5 c) (i_5 c) c.args.form) (old_5 c) _ c.requires.0
-    (free_5 c c.if-deepest-i-gt1.false ∙ tried_none (formed_5 c) (old_5 c) (new_3 c) (held_3 c) c.acceptable.result c.acceptable.ensures
+    (free_5 c c.if-deepest-at-gt1.false ∙ tried_none (formed_5 c) (old_5 c) (new_3 c) (held_3 c) c.acceptable.result c.acceptable.ensures
     c.if-acceptable.false)
     (table_same c.args.frames.now (state_5 c) r c.args.count (kept_more (state_5 c) (edited_3 c) r c.put_form.ensures.kept
     c.put_form-2.ensures.kept) back
