@@ -19,6 +19,10 @@ use Rattle.attempts.specs.Deepest.{Deepest}
 pub tried_as : (x y : Option Program) {t u : Slots} {r : Bool} → x ≡ y → Tried x t u r → Tried y t u r
 tried_as x y {t} {u} {r} e h = subst (λ (z : Option Program). Tried z t u r) e h
 
+-- the same answer
+pub tried_is : (x : Option Program) {t u : Slots} {r b : Bool} → r ≡ b → Tried x t u b → Tried x t u r
+tried_is x {t} {u} e h = subst (λ (z : Bool). Tried x t u z) (sym e) h
+
 -- nothing is tried
 pub tried_none : (x : Option Program) {t : Slots} → x ≡ none → Standing t → Tried x t t false
 tried_none x {t} e s =
@@ -49,8 +53,8 @@ tried_missed x h e = said_none x (sym h.says ∙ e)
 
 -- ---- the first of two
 
-pub tried_first : (x y : Option Program) {t u : Slots} {r : Bool} → Tried x t u r → r ≡ true → Tried (or_else x y) t u true
-tried_first x y h e = tried_found x (or_else x y) h e (λ q d. or_else_first x y q d) refl
+pub tried_first : (x y : Option Program) {t u : Slots} {r : Bool} → Tried x t u r → r ≡ true → Tried (or_else x y) t u r
+tried_first x y h e = tried_is (or_else x y) e (tried_found x (or_else x y) h e (λ q d. or_else_first x y q d) refl)
 
 -- the second, over tables that are what they were
 pub tried_second : (x : Option Program) (F : Slots → Option Program) {t u v : Slots} {r : Bool} → x ≡ none → u ≡ t → Tried (F u) u v r

@@ -27,10 +27,7 @@ pub fn rewrite(
         let u : Slots = table_of frames.now state.new count in
         Tried (step asked (program_of t)) t u result }
 {
-    if fold_asked(asked, frames, state, count, links) {
-        return true;
-    }
-    shrink(asked, frames, state, count, links)
+    fold_asked(asked, frames, state, count, links) || shrink(asked, frames, state, count, links)
 }
 
 // Rewrites until no rewrite remains, and counts them.
@@ -48,11 +45,8 @@ pub fn optimize(
         Optimized asked t u result }
 {
     let mut rewrites = 0;
-    loop {
-        if rewrite(asked, frames, state, count, links) {
-            rewrites += 1;
-        } else {
-            return rewrites;
-        }
+    while rewrite(asked, frames, state, count, links) {
+        rewrites += 1;
     }
+    rewrites
 }

@@ -13,7 +13,7 @@ use attempts::{try_inverted, try_trampoline};
 use patterns::Pattern;
 use patterns::list::pattern;
 use rules::{Place, Settings};
-use slots::{State, form_in, wide};
+use slots::{State, form_in};
 
 // The form of the branch that a pattern begins with.
 fn branch_of(p: Pattern) -> u8
@@ -52,10 +52,8 @@ fn fill_chains(state: &State, count: usize, first: &mut [u16; 256], after: &mut 
     requires { (count ≤ 1024) × (first.old ≡ replicate 256 count) × (length after.old ≡ 1024) }
     ensures { Chained (forms_in state.now) count first.new after.new }
 {
-    let mut i = count;
-    while 0 < i {
-        i -= 1;
-        let form = form_in(state, Place(i)) as usize;
+    for i in (0..count).rev() {
+        let form = usize::from(form_in(state, Place(i)));
         after[i] = first[form];
         first[form] = i as u16;
     }
@@ -78,13 +76,13 @@ fn fold_with(
         let u : Slots = table_of frames.now state.new count in
         Tried (anywhere (pattern_at (program_of t) (pattern_of p)) (program_of t)) t u result }
 {
-    let form = branch_of(p) as usize;
-    let mut i = wide(first[form]);
+    let form = usize::from(branch_of(p));
+    let mut i = usize::from(first[form]);
     while i < count {
         if try_pattern(frames, state, count, links, p, Place(i)) {
             return true;
         }
-        i = wide(after[i]);
+        i = usize::from(after[i]);
     }
     false
 }
@@ -101,12 +99,10 @@ fn fold(frames: &[u8], state: &mut State, count: usize, links: &[u16; 28672]) ->
     let mut first = [nowhere; 256];
     let mut after = [0u16; 1024];
     fill_chains(state, count, &mut first, &mut after);
-    let mut k = 0;
-    while k < 23 {
+    for k in 0..23 {
         if fold_with(frames, state, count, links, &first, &after, pattern(k)) {
             return true;
         }
-        k += 1;
     }
     false
 }
@@ -125,8 +121,5 @@ pub fn fold_asked(
         let u : Slots = table_of frames.now state.new count in
         Tried (first_of (λ x. anywhere (pattern_at (program_of t) x) (program_of t)) (patterns_for asked)) t u result }
 {
-    if !asked.folds {
-        return false;
-    }
-    fold(frames, state, count, links)
+    asked.folds && fold(frames, state, count, links)
 }

@@ -40,12 +40,9 @@ fn try_br_then_jmp(
         let u : Slots = table_of frames.now state.new count in
         Tried (or_else (shrunk t at.0 br) (shrunk t at.0 jmp)) t u result }
 {
-    if try_form(
-        frames, state, count, links, values, positions, deepest, BR, at,
-    ) {
-        return true;
-    }
     try_form(
+        frames, state, count, links, values, positions, deepest, BR, at,
+    ) || try_form(
         frames, state, count, links, values, positions, deepest, JMP, at,
     )
 }
@@ -70,10 +67,8 @@ fn shrink_jump(
         let u : Slots = table_of frames.now state.new count in
         ((asked : Switches) → Tried (shrink_at asked (names_of (program_of t)) (program_of t) at.0) t u result) }
 {
-    if is_change_jump(frames, state, count, links, values, positions, at) {
-        return false;
-    }
-    try_br_then_jmp(frames, state, count, links, values, positions, deepest, at)
+    !is_change_jump(frames, state, count, links, values, positions, at)
+        && try_br_then_jmp(frames, state, count, links, values, positions, deepest, at)
 }
 
 // The shorter forms of the instruction at a place.
@@ -99,18 +94,14 @@ fn shrink_at(
     let Slot::Form(form) = slot_at(frames, state, count, at) else {
         return false;
     };
-    if form == JMPF {
-        return shrink_jump(frames, state, count, links, values, positions, deepest, at);
+    match form {
+        JMPF => shrink_jump(frames, state, count, links, values, positions, deepest, at),
+        CALLF => asked.callf
+            && try_form(
+                frames, state, count, links, values, positions, deepest, CALL, at,
+            ),
+        _ => false,
     }
-    if form == CALLF {
-        if !asked.callf {
-            return false;
-        }
-        return try_form(
-            frames, state, count, links, values, positions, deepest, CALL, at,
-        );
-    }
-    false
 }
 
 // The shorter forms at the first place where one counts.
@@ -132,8 +123,7 @@ fn shrink_first(
         let u : Slots = table_of frames.now state.new count in
         Tried (anywhere (shrink_at asked (names_of (program_of t)) (program_of t)) (program_of t)) t u result }
 {
-    let mut i = 0;
-    while i < count {
+    for i in 0..count {
         if shrink_at(
             asked,
             frames,
@@ -147,7 +137,6 @@ fn shrink_first(
         ) {
             return true;
         }
-        i += 1;
     }
     false
 }

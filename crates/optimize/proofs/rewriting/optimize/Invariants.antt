@@ -9,12 +9,12 @@ use Rattle.attempts.specs.Standing.{Standing}
 use Rattle.optimize.proofs.Ends.{Led}
 use Rattle.optimize.proofs.rewriting.optimize.Given as goal
 
-abbrev pub invariant-loop-rewrites : goal.invariant-loop-rewrites
-invariant-loop-rewrites l =
+abbrev pub invariant-loop-asked : goal.invariant-loop-asked
+invariant-loop-asked l =
     Standing (table_of l.frames l.state l.count)
     × (starts_in l.state ≡ starts_in l.initial.state)
     × Led l.asked (program_of (table_of l.frames l.initial.state l.count)) (program_of (table_of l.frames l.state l.count)) l.rewrites
 
-abbrev pub decreases-loop-rewrites : goal.decreases-loop-rewrites
-decreases-loop-rewrites l =
+abbrev pub decreases-loop-asked : goal.decreases-loop-asked
+decreases-loop-asked l =
     total instr_bytes (program_of (table_of l.frames l.state l.count))

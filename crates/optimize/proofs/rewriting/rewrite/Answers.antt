@@ -10,14 +10,6 @@ use Rattle.slots.specs.State.{table_of}
 use Rattle.optimize.proofs.Tries.{tried_first, tried_second, tried_missed}
 use Rattle.optimize.proofs.rewriting.rewrite.Goals as goal
 
-abbrev here : (c : goal.Then-fold_asked) → Slots
-here c =
-    table_of c.args.frames.now c.args.state.now c.args.count
-
-abbrev here_2 : (c : goal.After-shrink) → Slots
-here_2 c =
-    table_of c.args.frames.now c.args.state.now c.args.count
-
 abbrev folds : Settings → Slots → Option Program
 folds asked t = first_of (λ x. anywhere (pattern_at (program_of t) x) (program_of t)) (patterns_for asked)
 
@@ -27,12 +19,13 @@ shrinks asked t = anywhere (shrink_at asked (names_of (program_of t)) (program_o
 pub returns-then-fold_asked : goal.returns-then-fold_asked
 unfolding step
 returns-then-fold_asked c =
-    tried_first (folds c.args.asked (here c)) (shrinks c.args.asked (here c)) c.fold_asked.ensures c.if-fold_asked.true
+    let t = table_of c.args.frames.now c.args.state.now c.args.count in
+    tried_first (folds c.args.asked t) (shrinks c.args.asked t) c.fold_asked.ensures c.if-fold_asked.true
 
-pub returns : goal.returns
+pub returns-else-fold_asked : goal.returns-else-fold_asked
 unfolding step
-returns c =
+returns-else-fold_asked c =
+    let t = table_of c.args.frames.now c.args.state.now c.args.count in
     let e = c.fold_asked.ensures in
-    tried_second (folds c.args.asked (here_2 c)) (shrinks c.args.asked) (tried_missed (folds c.args.asked (here_2 c)) e
-    c.if-fold_asked.false)
+    tried_second (folds c.args.asked t) (shrinks c.args.asked) (tried_missed (folds c.args.asked t) e c.if-fold_asked.false)
     (e.kept c.if-fold_asked.false) c.shrink.ensures

@@ -5,6 +5,3 @@ use Rattle.optimize.proofs.scanning.fill_chains.Given as goal
 
 abbrev pub invariant-loop-i : goal.invariant-loop-i
 invariant-loop-i l = Chaining (forms_in l.state) l.count l.first l.after l.i
-
-abbrev pub decreases-loop-i : goal.decreases-loop-i
-decreases-loop-i l = l.i

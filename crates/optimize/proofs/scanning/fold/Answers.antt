@@ -43,17 +43,16 @@ pub returns-then-fold_with : goal.returns-then-fold_with
 returns-then-fold_with c =
     let e = in_order c.loop-k.k _ c.pattern.ensures.0 c.fold_with.ensures in
     tried_as _ (first (here c)) (first_is (here c))
-    (found tries 23 c.loop-k.k c.loop-k.invariant.1 c.loop-k.invariant.2 (omega (arith, c.loop-k-test.true)) e c.if-fold_with.true)
+    (found tries 23 c.loop-k.k c.loop-k.invariant.0 c.loop-k.invariant.1 (omega (arith, c.loop-k-test.true)) e c.if-fold_with.true)
 
 pub loop-k-preserved : goal.loop-k-preserved
 loop-k-preserved c =
     let e = in_order c.loop-k.k _ c.pattern.ensures.0 c.fold_with.ensures in (
-      omega arith,
-      e.kept c.if-fold_with.false ∙ c.loop-k.invariant.1,
-      missed tries 23 c.loop-k.k c.loop-k.invariant.1 c.loop-k.invariant.2 (omega (arith, c.loop-k-test.true)) e c.if-fold_with.false,
+      e.kept c.if-fold_with.false ∙ c.loop-k.invariant.0,
+      missed tries 23 c.loop-k.k c.loop-k.invariant.0 c.loop-k.invariant.1 (omega (arith, c.loop-k-test.true)) e c.if-fold_with.false,
     )
 
 pub returns : goal.returns
 returns c =
     tried_as _ (first (here_2 c)) (first_is (here_2 c))
-    (ended tries 23 c.loop-k.k c.loop-k.invariant.1 c.loop-k.invariant.2 (omega (arith, c.loop-k-test.false)) c.requires.0)
+    (ended tries 23 c.loop-k.k c.loop-k.invariant.0 c.loop-k.invariant.1 (omega (arith, c.loop-k-test.false)) c.requires.0)

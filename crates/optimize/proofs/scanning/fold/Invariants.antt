@@ -1,7 +1,7 @@
 -- `optimize::scanning::fold` meets its contract: over the list is by number.
 use mathlib.Core.Path.{◌≡◌}
 use mathlib.Core.Option.{Option}
-use Prim.Native.Nat.{ℕ, ◌-◌, ◌≤◌}
+use Prim.Native.Nat.{ℕ, ◌-◌}
 use Rattle.laws.specs.Options.{first_from}
 use Rattle.rules.specs.Programs.{Program}
 use Rattle.rules.specs.Rewriting.{pattern_at, anywhere}
@@ -16,10 +16,6 @@ tries t k = anywhere (pattern_at (program_of t) (nth k)) (program_of t)
 
 abbrev pub invariant-loop-k : goal.invariant-loop-k
 invariant-loop-k l =
-    (l.k ≤ 23)
-    × (table_of l.frames l.state l.count ≡ table_of l.frames l.initial.state l.count)
+    (table_of l.frames l.state l.count ≡ table_of l.frames l.initial.state l.count)
     × (first_from (tries (table_of l.frames l.initial.state l.count)) 23 0 ≡ first_from (tries (table_of l.frames l.initial.state l.count))
     (23 - l.k) l.k)
-
-abbrev pub decreases-loop-k : goal.decreases-loop-k
-decreases-loop-k l = 23 - l.k

@@ -4,7 +4,7 @@ use mathlib.Core.Path.{refl, sym, subst, ◌∙◌}
 use mathlib.Core.Option.{Option}
 use Prim.Native.Nat.{◌+◌, ◌<◌}
 use lib.ListN.{get_or}
-use borrow.Author.Rules.{rules}
+use native.Mathlib.Omega.{arith}
 use Rattle.laws.proofs.Options.{first_starts}
 use Rattle.rules.specs.Programs.{Placeℕ, Program}
 use Rattle.rules.specs.Rewriting.{pattern_at, anywhere}
@@ -21,7 +21,7 @@ use Rattle.optimize.proofs.scanning.fold_with.Goals as goal
 abbrev tries : (p : Pattern) → Slots → (i : Placeℕ) → Option Program
 tries p t i = pattern_at (program_of t) (pattern_of p) i
 
-abbrev here : (c : goal.After-wide-i) → Slots
+abbrev here : (c : goal.After-from-i) → Slots
 here c =
     table_of c.args.frames.now c.args.state.now c.args.count
 
@@ -29,7 +29,7 @@ abbrev here_2 : (c : goal.Then-try_pattern) → Slots
 here_2 c =
     table_of c.args.frames.now c.args.state.now c.args.count
 
-abbrev here_3 : (c : goal.After-wide-i-in-loop-i) → Slots
+abbrev here_3 : (c : goal.After-from-i-in-loop-i) → Slots
 here_3 c =
     table_of c.args.frames.now c.args.state.now c.args.count
 
@@ -38,21 +38,21 @@ here_4 c =
     table_of c.args.frames.now c.args.state.now c.args.count
 
 -- the first place of the pattern's branch, and the next one
-begins : (c : goal.After-wide-i) →
-    Next (forms_in c.args.state.now) c.args.count (branch_of (pattern_of c.args.p)) 0 c.wide-i.result
+begins : (c : goal.After-from-i) →
+    Next (forms_in c.args.state.now) c.args.count (branch_of (pattern_of c.args.p)) 0 c.from-i.result
 begins c =
-    let f = c.branch_of-form.result in
-    let byte : f < 256 = search rules in
-    subst (λ g. Next (forms_in c.args.state.now) c.args.count g 0 c.wide-i.result) c.branch_of-form.ensures
-    (subst (Next (forms_in c.args.state.now) c.args.count f 0) (sym c.wide-i.ensures) (c.requires.3.begins f byte))
+    let f = c.from-form.result in
+    let byte : f < 256 = omega (arith, c.from-form.ensures, c.branch_of.type_inv) in
+    subst (λ g. Next (forms_in c.args.state.now) c.args.count g 0 c.from-i.result) (c.from-form.ensures ∙ c.branch_of.ensures)
+    (subst (Next (forms_in c.args.state.now) c.args.count f 0) (sym c.from-i.ensures) (c.requires.3.begins f byte))
 
-goes_on : (c : goal.After-wide-i-in-loop-i) →
-    Next (forms_in c.args.state.now) c.args.count (branch_of (pattern_of c.args.p)) (c.loop-i.i + 1) c.wide-i-in-loop-i.result
+goes_on : (c : goal.After-from-i-in-loop-i) →
+    Next (forms_in c.args.state.now) c.args.count (branch_of (pattern_of c.args.p)) (c.loop-i.i + 1) c.from-i-in-loop-i.result
 goes_on c =
     let i = c.loop-i.i in
-    subst (λ g. Next (forms_in c.args.state.now) c.args.count g (i + 1) c.wide-i-in-loop-i.result) (c.loop-i.invariant.2 c.loop-i-test.true)
+    subst (λ g. Next (forms_in c.args.state.now) c.args.count g (i + 1) c.from-i-in-loop-i.result) (c.loop-i.invariant.2 c.loop-i-test.true)
     (subst (Next (forms_in c.args.state.now) c.args.count (get_or (forms_in c.args.state.now) i 0) (i + 1))
-    (sym c.wide-i-in-loop-i.ensures) (c.requires.3.goes i c.loop-i-test.true))
+    (sym c.from-i-in-loop-i.ensures) (c.requires.3.goes i c.loop-i-test.true))
 
 pub loop-i-init : goal.loop-i-init
 loop-i-init c =
@@ -61,7 +61,7 @@ loop-i-init c =
       refl,
       n.stands,
       first_starts (tries c.args.p (here c)) c.args.count ∙ none_between (here c) c.requires.0.sound (pattern_of c.args.p) 0
-          c.wide-i.result n,
+          c.from-i.result n,
     )
 
 pub returns-then-try_pattern : goal.returns-then-try_pattern
@@ -78,7 +78,7 @@ loop-i-preserved c =
       e.kept c.if-try_pattern.false ∙ c.loop-i.invariant.1,
       n.stands,
       missed (tries c.args.p) c.args.count c.loop-i.i c.loop-i.invariant.1 c.loop-i.invariant.3 c.loop-i-test.true e c.if-try_pattern.false
-          ∙ none_between (here_3 c) c.requires.0.sound (pattern_of c.args.p) (c.loop-i.i + 1) c.wide-i-in-loop-i.result n,
+          ∙ none_between (here_3 c) c.requires.0.sound (pattern_of c.args.p) (c.loop-i.i + 1) c.from-i-in-loop-i.result n,
     )
 
 pub returns : goal.returns

@@ -2,7 +2,6 @@
 -- far.
 use mathlib.Core.Path.{◌∙◌}
 use mathlib.Core.Option.{Option}
-use native.Mathlib.Omega.{arith}
 use Rattle.rules.specs.Programs.{Placeℕ, Program}
 use Rattle.rules.specs.declared.Settings.{Settings}
 use Rattle.rules.specs.Judging.{names_of}
@@ -27,19 +26,18 @@ here_2 c =
 pub returns-then-shrink_at : goal.returns-then-shrink_at
 returns-then-shrink_at c =
     tried_as _ (anywhere (tries c.args.asked (here c)) (program_of (here c))) (anywhere_is (tries c.args.asked (here c)) (here c))
-    (found (tries c.args.asked) c.args.count c.loop-i.i c.loop-i.invariant.1 c.loop-i.invariant.2 c.loop-i-test.true c.shrink_at.ensures
+    (found (tries c.args.asked) c.args.count c.loop-i.i c.loop-i.invariant.0 c.loop-i.invariant.1 c.loop-i-test.true c.shrink_at.ensures
     c.if-shrink_at.true)
 
 pub loop-i-preserved : goal.loop-i-preserved
 loop-i-preserved c =
     let e = c.shrink_at.ensures in (
-      omega arith,
-      e.kept c.if-shrink_at.false ∙ c.loop-i.invariant.1,
-      missed (tries c.args.asked) c.args.count c.loop-i.i c.loop-i.invariant.1 c.loop-i.invariant.2 c.loop-i-test.true e
+      e.kept c.if-shrink_at.false ∙ c.loop-i.invariant.0,
+      missed (tries c.args.asked) c.args.count c.loop-i.i c.loop-i.invariant.0 c.loop-i.invariant.1 c.loop-i-test.true e
           c.if-shrink_at.false,
     )
 
 pub returns : goal.returns
 returns c =
     tried_as _ (anywhere (tries c.args.asked (here_2 c)) (program_of (here_2 c))) (anywhere_is (tries c.args.asked (here_2 c)) (here_2 c))
-    (ended (tries c.args.asked) c.args.count c.loop-i.i c.loop-i.invariant.1 c.loop-i.invariant.2 c.loop-i-test.false c.requires.0)
+    (ended (tries c.args.asked) c.args.count c.loop-i.i c.loop-i.invariant.0 c.loop-i.invariant.1 c.loop-i-test.false c.requires.0)

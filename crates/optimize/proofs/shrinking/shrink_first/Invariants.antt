@@ -2,7 +2,7 @@
 -- far.
 use mathlib.Core.Path.{◌≡◌}
 use mathlib.Core.Option.{Option}
-use Prim.Native.Nat.{◌-◌, ◌≤◌}
+use Prim.Native.Nat.{◌-◌}
 use Rattle.laws.specs.Options.{first_from}
 use Rattle.rules.specs.Programs.{Placeℕ, Program}
 use Rattle.rules.specs.declared.Settings.{Settings}
@@ -18,10 +18,6 @@ tries asked t i = shrink_at asked (names_of (program_of t)) (program_of t) i
 
 abbrev pub invariant-loop-i : goal.invariant-loop-i
 invariant-loop-i l =
-    (l.i ≤ l.count)
-    × (table_of l.frames l.state l.count ≡ table_of l.frames l.initial.state l.count)
+    (table_of l.frames l.state l.count ≡ table_of l.frames l.initial.state l.count)
     × (first_from (tries l.asked (table_of l.frames l.initial.state l.count)) l.count 0 ≡ first_from
     (tries l.asked (table_of l.frames l.initial.state l.count)) (l.count - l.i) l.i)
-
-abbrev pub decreases-loop-i : goal.decreases-loop-i
-decreases-loop-i l = l.count - l.i

@@ -10,14 +10,6 @@ use Rattle.optimize.proofs.Tries.{tried_first, tried_second, tried_missed, still
 use Rattle.optimize.proofs.Shorter.{jump_for, br_alone, jmp_alone}
 use Rattle.optimize.proofs.shrinking.try_br_then_jmp.Goals as goal
 
-abbrev here : (c : goal.Then-try_form) → Slots
-here c =
-    table_of c.args.frames.now c.args.state.now c.args.count
-
-abbrev here_2 : (c : goal.After-try_form-2) → Slots
-here_2 c =
-    table_of c.args.frames.now c.args.state.now c.args.count
-
 pub try_form-requires : goal.try_form-requires
 try_form-requires c = (
   c.requires.0,
@@ -33,10 +25,10 @@ try_form-requires c = (
 
 pub returns-then-try_form : goal.returns-then-try_form
 returns-then-try_form c =
-    tried_first (shrunk (here c) c.args.at.0 br) (shrunk (here c) c.args.at.0 jmp) c.try_form.ensures c.if-try_form.true
+    tried_first (shrunk (table_of c.args.frames.now c.args.state.now c.args.count) c.args.at.0 br) (shrunk (table_of c.args.frames.now c.args.state.now c.args.count) c.args.at.0 jmp) c.try_form.ensures c.if-try_form.true
 
-pub try_form-requires-2 : goal.try_form-requires-2
-try_form-requires-2 c =
+pub try_form-requires-else-try_form : goal.try_form-requires-else-try_form
+try_form-requires-else-try_form c =
     let e = c.try_form.ensures in
     let same = e.kept c.if-try_form.false in (
       e.stands,
@@ -50,9 +42,9 @@ try_form-requires-2 c =
       jmp_alone.1,
     )
 
-pub returns : goal.returns
-returns c =
+pub returns-else-try_form : goal.returns-else-try_form
+returns-else-try_form c =
     let e = c.try_form.ensures in
-    let x = shrunk (here_2 c) c.args.at.0 br in
+    let x = shrunk (table_of c.args.frames.now c.args.state.now c.args.count) c.args.at.0 br in
     tried_second x (λ t. shrunk t c.args.at.0 jmp) (tried_missed x e c.if-try_form.false)
-    (e.kept c.if-try_form.false) c.try_form-2.ensures
+    (e.kept c.if-try_form.false) c.try_form-else-try_form.ensures
