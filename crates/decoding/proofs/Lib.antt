@@ -12,5 +12,3 @@ pub mod Again
 -- ---- the code
 pub mod Arms
 pub mod Held
-pub mod Joined
-pub mod Numbered

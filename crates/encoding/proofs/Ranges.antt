@@ -1,21 +1,20 @@
 -- Signed numbers of 32 bits against the ranges of document 01: one law over the bit width, and the numbers of a relative target.
 -- Assumes nothing.
-use mathlib.Core.Path.{◌≡◌, refl, ◌∙◌, sym, ap}
-use mathlib.Core.Bool.{Bool, true, false}
-use Prim.Native.Nat.{ℕ, zero, suc, ◌-◌, ◌/◌, ◌%◌, ◌^◌, ◌≤◌, ◌<◌}
-use native.Mathlib.Nat.{mod-lt, div-eq_of_lt, div-le_self, div-lt_iff_lt-mul, one-mul}
+use mathlib.Core.Path.{◌≡◌, ◌∙◌, sym, ap}
+use mathlib.Core.Bool.{Bool, true}
+use Prim.Native.Nat.{ℕ, zero, suc, ◌-◌, ◌/◌, ◌^◌, ◌≤◌, ◌<◌}
+use native.Mathlib.Nat.{div-eq_of_lt, div-le_self, div-lt_iff_lt-mul, one-mul}
 use native.Mathlib.Omega.{arith}
-use lib.Dec.{T, eqb, ltb, lit<, leb-suc-suc}
-use lib.IntN.{ℤ, pos, negsuc, nat_abs, ◌-ℤ◌}
-use lib.Signed.{mag, le_z, non_neg, shr_z}
-use lib.Bits.{bit_and, and_mask}
+use lib.Dec.{eqb, ltb}
+use lib.IntN.{ℤ, pos, negsuc, ◌-ℤ◌}
+use lib.Signed.{mag, shr_z}
 use lib.Pow.{pow_pos}
-use mir.Syntax.{w16, w32}
-use mir.Val.{Fits, SFits, to_z, of_z}
-use mir.Facts.{to_z-of_z, to_z_pos}
+use mir.Syntax.{w32}
+use mir.Val.{SFits, to_z, of_z}
+use mir.Facts.{to_z-of_z}
 use borrow.Author.Tests.{eqb-true, ltb-true, lt-ltb, eq-eqb, ne_eqb}
-use Rattle.laws.proofs.Tests.{false_true, true_false, same_test, cond_both}
-use Rattle.rules.specs.Values.{below, nat, mod256, signed_byte}
+use Rattle.laws.proofs.Tests.{false_true, same_test, cond_both}
+use Rattle.rules.specs.Values.{below, nat}
 
 -- a signed value that is passed on is read back from its bits
 abbrev pub S : ℤ → ℤ
@@ -47,14 +46,6 @@ pub below_more : (m n : ℕ) (z : ℤ) → m ≤ n → below m z ≡ true → be
 below_more m n (pos a) l e = lt-ltb a n (omega (arith, ltb-true a m e))
 below_more m n (negsuc a) l e = false_true e
 
-pub nat_fits : (z : ℤ) → below 65536 z ≡ true → T (non_neg z) × Fits w16 (nat_abs z)
-nat_fits (pos a) e = (tt, record { fits = ltb-true a 65536 e })
-nat_fits (negsuc a) e = false_true e
-
-pub nat_is : (z : ℤ) → below 65536 z ≡ true → nat_abs z ≡ nat z
-nat_is (pos a) e = refl
-nat_is (negsuc a) e = false_true e
-
 -- ---- a relative target
 
 pub distance_fits : (z : ℤ) (n : ℕ) → below 65536 z ≡ true → n ≤ 65536 → SFits w32 (z -ℤ pos n)
@@ -69,25 +60,3 @@ distance_fits (negsuc a) n e l = false_true e
 
 pub distance_is : (n : ℕ) {d v : ℤ} → SFits w32 v → below 65536 v ≡ true → n ≤ 65536 → d ≡ S v -ℤ pos n → S d ≡ v -ℤ pos n
 distance_is n {v} f b l e = ap S (e ∙ ap (λ (z : ℤ). z -ℤ pos n) (to_z-of_z f)) ∙ to_z-of_z (distance_fits v n b l)
-
--- -128 .. 127, tested at both ends
-pub byte_top : (z : ℤ) → le_z (negsuc 127) z ≡ true → le_z z (pos 127) ≡ signed_byte z
-byte_top (pos a) e = refl
-byte_top (negsuc a) e = sym (leb-suc-suc a 127 ∙ e)
-
-pub byte_bottom : (z : ℤ) → le_z (negsuc 127) z ≡ false → le_z (negsuc 127) z ≡ signed_byte z
-byte_bottom (pos a) e = true_false e
-byte_bottom (negsuc a) e = sym (leb-suc-suc a 127)
-
-mod256_lt : (z : ℤ) → mod256 z < 256
-mod256_lt (pos n) = mod-lt n {m = 256} (lit< tt)
-mod256_lt (negsuc n) = omega arith
-
-pub mask_low : (z : ℤ) → SFits w32 z → to_z w32 (bit_and (of_z w32 z) 255) ≡ pos (mod256 z)
-mask_low (pos n) f = ap (to_z w32) (and_mask n 8) ∙ to_z_pos w32 (omega (arith, mod256_lt (pos n)))
-mask_low (negsuc n) f =
-    let e : (2 ^ 32 - suc n) % 256 ≡ 255 - n % 256 = omega (arith, f.sfits) in
-    ap (to_z w32) (and_mask (2 ^ 32 - suc n) 8 ∙ e) ∙ to_z_pos w32 (omega arith)
-
-pub mask_fits : (z : ℤ) → T (non_neg (pos (mod256 z))) × Fits w16 (nat_abs (pos (mod256 z)))
-mask_fits z = (tt, record { fits = omega (arith, mod256_lt z) })

@@ -142,10 +142,6 @@ mark_lines t = on t (is_marked t) refl
         at false e = sym (lines_are (c ∷ t) (omega arith))
 
 -- ---- a frame without its source line
-pub kept_later : (b k : ℕ) → (k ≡ 0 → ⊥) → kept_at b k ≡ k + b
-kept_later b zero h = absurd (h refl)
-kept_later b (suc k) h = refl
-
 pub without_at : (b : ℕ) (s : List ℕ) (k : ℕ) → get_or (without b s) k 0 ≡ get_or s (kept_at b k) 0
 without_at b [] zero = refl
 without_at b [] (suc k) = refl
