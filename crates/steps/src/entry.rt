@@ -59,7 +59,7 @@ pub fn steps(asked: Settings, listing: &[u8], out: &mut [u8]) -> Answer
             write_all(asked, listing, out);
             Answer::Done(Sizes {
                 listing: 21 * rewrites,
-                rewrites: rewrites,
+                rewrites,
                 image: 0,
             })
         }
