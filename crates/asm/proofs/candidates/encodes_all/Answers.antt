@@ -4,7 +4,7 @@ use Rattle.image.proofs.Passes.{slot_fails, passes_is, refused_is}
 use Rattle.asm.proofs.candidates.encodes_all.Goals as goal
 
 pub returns-in-Passes : goal.returns-in-Passes
-returns-in-Passes c = passes_is _ (sym c.in-Passes.is ∙ c.encode_all.ensures)
+returns-in-Passes c = passes_is _ (cc)
 
 pub returns-in_default : goal.returns-in_default
 returns-in_default c = refused_is _ c.in_default.field-0 (sym c.in_default.is ∙ c.encode_all.ensures)
