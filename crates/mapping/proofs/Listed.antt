@@ -1,11 +1,15 @@
 -- The rows of the first places, one place more, and a room filled with their lines.
-use mathlib.Core.Path.{◌≡◌, refl, sym, ap, ◌∙◌}
+use mathlib.Core.Path.{◌≡◌, refl, sym, ap, ◌∙◌, subst}
 use mathlib.Core.List.{List, [], ◌∷◌, ◌++◌, append-nil}
-use mathlib.Core.Bool.{true, false}
-use Prim.Native.Nat.{ℕ, suc, ◌+◌, ◌*◌, ◌≤◌, ◌<◌}
+use mathlib.Core.Bool.{Bool, true, false, cond}
+use Prim.Native.Nat.{ℕ, zero, suc, ◌+◌, ◌*◌, ◌≤◌, ◌<◌}
 use native.Mathlib.Numerals.{add-one}
 use native.Mathlib.Omega.{arith}
 use lib.ListN.{length, length-append}
+use Rattle.std.specs.List.{count_by, range_with_len}
+use Rattle.std.proofs.lemmas.List.{map-id}
+use Rattle.std.proofs.lemmas.List.FromFn.{map-range_with_len_more}
+use Rattle.std.proofs.lemmas.List.Sums.{sum_by-append}
 use Rattle.laws.specs.Lists.{each}
 use Rattle.laws.specs.Counts.{tab}
 use Rattle.laws.proofs.Lists.{each_append, each_one}
@@ -49,6 +53,28 @@ module _ (p e : Program) where
 
   pub to_within : (i n : ℕ) → i ≤ n → length (rows_to p e i) ≤ length (rows_to p e n)
   to_within = rises (λ k. length (rows_to p e k)) (λ k. to_rises k)
+
+-- ---- the places that pass a count
+count_more : (test : ℕ → Bool) (n : ℕ)
+    → count_by test (range_with_len 0 (n + 1)) ≡ count_by test (range_with_len 0 n) + (0 + cond (test n) 1 0)
+count_more test n =
+    let more : range_with_len 0 (n + 1) ≡ range_with_len 0 n ++ (n ∷ []) =
+    sym (map-id (range_with_len 0 (n + 1))) ∙ map-range_with_len_more (λ x. x) 0 n n (omega arith)
+    ∙ ap (λ l. l ++ (n ∷ [])) (map-id (range_with_len 0 n)) in
+    ap (count_by test) more ∙ sum_by-append (λ x. cond (test x) 1 0) (range_with_len 0 n) (n ∷ [])
+
+pub count_rows_to : (p e : Program) (test : ℕ → Bool) (n : ℕ) → ((i : ℕ) → i < n → test i ≡ has_row (at p i))
+    → count_by test (range_with_len 0 n) ≡ length (rows_to p e n)
+count_rows_to p e test zero same = sym (ap length (to_none p e))
+count_rows_to p e test (suc n) same =
+    let before = count_rows_to p e test n (λ i h. same i (omega arith)) in
+    let one : (b : Bool) → has_row (at p n) ≡ b → count_by test (range_with_len 0 n) + (0 + cond b 1 0) ≡ length (rows_to p e (n + 1)) =
+    λ b. elim b as (λ b. has_row (at p n) ≡ b → count_by test (range_with_len 0 n) + (0 + cond b 1 0) ≡ length (rows_to p e (n + 1))) [
+      | true ↦ λ h. count_one p e n _ before h
+      | false ↦ λ h. omega (arith, count_other p e n _ before h)
+    ] in
+    subst (λ m. count_by test (range_with_len 0 m) ≡ length (rows_to p e m)) (add-one n)
+    (count_more test n ∙ one (test n) (sym (same n (omega arith))))
 
 -- ---- lines, 37 characters each
 pub length_row : (r : Row) → length (row_bytes r) ≡ 18

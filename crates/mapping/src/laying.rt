@@ -7,7 +7,7 @@ ghost use Rattle.slots.specs.Links.{Beside};
 ghost use Rattle.attempts.specs.Standing.{Standing};
 ghost use Rattle.mapping.specs.Entry.{Addressed};
 
-use asm::{Verdict, judge_linked};
+use asm::judge_linked;
 use slots::State;
 
 pub fn find_positions(
@@ -23,8 +23,5 @@ pub fn find_positions(
     ensures { Addressed (program_of (table_of frames.now state.now count)) count positions.new }
 {
     let mut values = [0i64; 1024];
-    match judge_linked(frames, state, count, links, positions, &mut values) {
-        Verdict::Refused(_) => {}
-        Verdict::Good => {}
-    }
+    let _ = judge_linked(frames, state, count, links, positions, &mut values);
 }

@@ -1,5 +1,5 @@
 // A row: whether the statement is kept, whether it is data, and where its bytes begin and end in the long image and in the short one.
-ghost use Rattle.std.specs.Prelude.{◌≡◌, ◌∷◌, ◌++◌, [], not, ◌%◌, ◌<◌};
+ghost use Rattle.std.specs.Prelude.{◌≡◌, ◌∷◌, ◌++◌, [], not, ◌<◌};
 ghost use Rattle.laws.specs.Lists.{is_one_of};
 ghost use Rattle.rules.specs.Expressions.{four};
 ghost use Rattle.rules.specs.Programs.{Program, kind_of};
@@ -12,12 +12,6 @@ ghost use Rattle.mapping.specs.Entry.{Addressed};
 use rules::Place;
 use slots::{State, frame_at, is_gone};
 
-fn low_byte(x: u32) -> u8
-    ensures { result ≡ x % 256 }
-{
-    (x % 256) as u8
-}
-
 // The kind of the statement at a place, as it was read: its frame's first byte.
 fn kind_read(frames: &[u8], state: &State, count: usize, i: Place) -> u8
     requires { Held frames.now (starts_in state.now) count × (i.0 < count) }
@@ -28,22 +22,11 @@ fn kind_read(frames: &[u8], state: &State, count: usize, i: Place) -> u8
 }
 
 // An instruction or data: what has a row.
-fn is_row_kind(kind: u8) -> bool
-    ensures { result ≡ is_one_of (1 ∷ 6 ∷ 7 ∷ []) kind }
-{
-    match kind {
-        1 => true,
-        6 => true,
-        7 => true,
-        _ => false,
-    }
-}
-
 pub fn has_row(frames: &[u8], state: &State, count: usize, i: Place) -> bool
     requires { Held frames.now (starts_in state.now) count × (i.0 < count) }
     ensures { result ≡ is_one_of (1 ∷ 6 ∷ 7 ∷ []) (kind_of (input_at frames.now (starts_in state.now) i.0)) }
 {
-    is_row_kind(kind_read(frames, state, count, i))
+    matches!(kind_read(frames, state, count, i), 1 | 6 | 7)
 }
 
 // 78 for what is kept, 79 for what was dropped.
@@ -58,8 +41,7 @@ fn data_byte(kind: u8) -> u8
     ensures { result ≡ data_byte (is_one_of (6 ∷ 7 ∷ []) kind) }
 {
     match kind {
-        6 => 1,
-        7 => 1,
+        6 | 7 => 1,
         _ => 0,
     }
 }
@@ -68,25 +50,12 @@ fn data_byte(kind: u8) -> u8
 fn row_bytes(head: u8, sort: u8, a: u32, b: u32, c: u32, d: u32) -> [u8; 18]
     ensures { result ≡ head ∷ sort ∷ (four a ++ (four b ++ (four c ++ four d))) }
 {
+    let [a3, a2, a1, a0] = a.to_be_bytes();
+    let [b3, b2, b1, b0] = b.to_be_bytes();
+    let [c3, c2, c1, c0] = c.to_be_bytes();
+    let [d3, d2, d1, d0] = d.to_be_bytes();
     [
-        head,
-        sort,
-        low_byte(a / 16777216),
-        low_byte(a / 65536),
-        low_byte(a / 256),
-        low_byte(a),
-        low_byte(b / 16777216),
-        low_byte(b / 65536),
-        low_byte(b / 256),
-        low_byte(b),
-        low_byte(c / 16777216),
-        low_byte(c / 65536),
-        low_byte(c / 256),
-        low_byte(c),
-        low_byte(d / 16777216),
-        low_byte(d / 65536),
-        low_byte(d / 256),
-        low_byte(d),
+        head, sort, a3, a2, a1, a0, b3, b2, b1, b0, c3, c2, c1, c0, d3, d2, d1, d0,
     ]
 }
 

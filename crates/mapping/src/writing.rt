@@ -19,15 +19,9 @@ pub fn count_rows(frames: &[u8], state: &State, count: usize) -> usize
     ensures { let p : Program = input_of frames.now (starts_in state.now) count in
         ((e : Program) → result ≡ length (rows_to p e count)) × (result ≤ count) }
 {
-    let mut n = 0;
-    let mut i = 0;
-    while i < count {
-        if has_row(frames, state, count, Place(i)) {
-            n += 1;
-        }
-        i += 1;
-    }
-    n
+    (0..count)
+        .filter(|&i| has_row(frames, state, count, Place(i)))
+        .count()
 }
 
 // The line of each.
@@ -48,15 +42,11 @@ pub fn write_rows(
         out.new ≡ laid out.old 0 (row_lines (rows_to p (program_of t) count)) }
 {
     let mut n = 0;
-    let mut i = 0;
-    while i < count {
-        if !has_row(frames, state, count, Place(i)) {
-            i += 1;
-            continue;
+    for i in 0..count {
+        if has_row(frames, state, count, Place(i)) {
+            let row = row_at(frames, state, count, before, after, Place(i));
+            put_line(out, 37 * n, &row);
+            n += 1;
         }
-        let row = row_at(frames, state, count, before, after, Place(i));
-        put_line(out, 37 * n, &row);
-        n += 1;
-        i += 1;
     }
 }

@@ -1,5 +1,9 @@
 -- `mapping::laying::find_positions` meets its contract: the program assembles.
+use mathlib.Core.Path.{◌≡◌, refl}
 use borrow.Author.Rules.{rules}
+use Rattle.rules.specs.declared.Refusal.{Refusal}
+use Rattle.asm.specs.declared.Verdict.{Verdict}
+use Rattle.asm.specs.declared.Verdict.TheVariants.{Good, Refused}
 use Rattle.slots.specs.State.{starts_in, forms_in, carry_in, owners_in, offsets_in}
 use Rattle.slots.specs.Links.{contexts_read}
 use Rattle.asm.proofs.Carrying.{placed_any}
@@ -19,6 +23,12 @@ judge_linked-requires c =
           (contexts_read c.args.frames.now (starts_in z) c.args.count) c.requires.0.context,
     )
 
-pub returns-in-Refused : goal.returns-in-Refused
-returns-in-Refused c =
-    not_refused _ _ _ c.in-Refused.is c.judge_linked.ensures c.requires.1
+is_good : (v : Verdict) → ((q : Refusal) → v ≡ Refused q → v ≡ Good) → v ≡ Good
+is_good Good h = refl
+is_good (Refused q) h = h q refl
+
+pub returns : goal.returns
+returns c =
+    let good = is_good c.judge_linked.result (λ q e. not_refused _ _ q e c.judge_linked.ensures c.requires.1) in
+    let ready = c.judge_linked.ensures.ready good in
+    search rules
