@@ -22,12 +22,8 @@ fn end_page(answer: Answer, page: &mut [u8])
     requires { Printable answer (length page.old) }
     ensures { page.new ≡ last_after answer page.old }
 {
-    match answer {
-        Answer::Done(sizes) => {
-            let at = sizes.listing;
-            done_line(sizes.rewrites, sizes.image, &mut page[at..]);
-        }
-        Answer::Refused(_) => {}
+    if let Answer::Done(sizes) = answer {
+        done_line(sizes.rewrites, sizes.image, &mut page[sizes.listing..]);
     }
 }
 
@@ -51,10 +47,7 @@ pub fn page_length(answer: Answer) -> usize
     ensures { (result ≡ page_length answer) × (result ≤ 62482) }
 {
     match answer {
-        Answer::Done(sizes) => {
-            let n = sizes.listing;
-            if n <= 62469 { n + 13 } else { 62482 }
-        }
+        Answer::Done(sizes) => sizes.listing.min(62469) + 13,
         Answer::Refused(_) => 0,
     }
 }
