@@ -1,14 +1,16 @@
 -- Bytes laid behind those that stand in the room. Assumes nothing.
 use mathlib.Core.Path.{◌≡◌, refl, sym, ap, ◌∙◌, subst}
-use mathlib.Core.List.{List, [], ◌∷◌, ◌++◌, append_assoc, append-nil}
+use mathlib.Core.List.{List, [], ◌∷◌, ◌++◌}
 use mathlib.Core.Bool.{Bool, true, false, cond}
-use Prim.Native.Nat.{ℕ, suc, ◌+◌, ◌≤◌, ◌<◌}
+use Prim.Native.Nat.{ℕ, ◌+◌, ◌-◌, ◌≤◌, ◌<◌}
 use native.Mathlib.Numerals.{add-one}
 use native.Mathlib.Omega.{arith}
 use lib.Dec.{leb}
-use lib.ListN.{length, take, drop, get_or, set, length-append, length-set, length-drop}
-use lib.Seq.{take-suc, take-suc-set, drop-drop}
+use lib.ListN.{length, take, drop, set, length-append, length-set, length-drop}
+use lib.Seq.{take-suc-set, drop-drop, length-take-le}
 use borrow.Author.Tests.{le-leb, lt-leb, leb-true, leb-false}
+use borrow.Rule.Slice.PartMut.{put_mid, same_len_mid}
+use Rattle.std.proofs.lemmas.Slice.{take-put_mid}
 use Rattle.rules.specs.Expressions.{Expr, bytes_of}
 use Rattle.grammar.specs.Going.{got, stuck, whole, Goes}
 use Rattle.leaves.specs.declared.Found.{Found}
@@ -100,24 +102,6 @@ pub record Copying (b a : List ℕ) (at : ℕ) (room : List ℕ) (i : ℕ) : Typ
   pub size : length a ≡ 120
   pub front : take (at + i) a ≡ take at b ++ take i room
 
-pub copy_none : (b : List ℕ) (at : ℕ) (room : List ℕ) → length b ≡ 120 → Copying b b at room 0
-copy_none b at room e = let z : at + 0 ≡ at = omega arith in record {
-  size = e;
-  front = ap (λ n. take n b) z
-      ∙ sym (append-nil (take at b));
-}
-
-pub copy_more : (b a : List ℕ) (at : ℕ) (room : List ℕ) (i : ℕ) → Copying b a at room i → at + i < 120 → i < length room
-    → Copying b (set a (at + i) (get_or room i 0)) at room (i + 1)
-copy_more b a at room i w h k =
-    let n : at + (i + 1) ≡ suc (at + i) = omega arith in
-    record {
-      size = length-set a (at + i) (get_or room i 0) ∙ w.size;
-      front = ap (λ m. take m (set a (at + i) (get_or room i 0))) n ∙ take-suc-set a (at + i) (get_or room i 0) (omega (arith, w.size))
-          ∙ ap (λ y. y ++ (get_or room i 0 ∷ [])) w.front ∙ append_assoc (take at b) (take i room) (get_or room i 0 ∷ [])
-          ∙ ap (λ y. take at b ++ y) (sym (take-suc room i 0 k)) ∙ ap (λ m. take at b ++ take m room) (sym (add-one i));
-    }
-
 pub copied_so : (b a : List ℕ) (at : ℕ) (room : List ℕ) (n : ℕ) → Copying b a at room n → n ≤ 32 → at + n ≤ 120
     → Copied b a at (at + n) room n
 copied_so b a at room n w h k = record { size = w.size; within = omega arith; adds = adds }
@@ -129,6 +113,19 @@ copied_so b a at room n w h k = record { size = w.size; within = omega arith; ad
         (subst (λ m. Added b a at (at + m) (bytes_of e) 0) f.1.0
         (laid_so b a at (bytes_of e) w.size (omega (arith, f.1.0))
         (ap (λ m. take (at + m) a) f.1.0 ∙ w.front ∙ ap (λ y. take at b ++ y) f.1.1)))
+
+-- the bytes copied into their part of the room
+pub copying_all : (b room y : List ℕ) (at n : ℕ) → length b ≡ 120 → y ≡ take n room → n ≤ length room → at + n ≤ 120
+    → Copying b (put_mid at (at + n - at) b y) at room n
+copying_all b room y at n e q h k =
+    let z : at + n - at ≡ n = omega arith in
+    let l : length y ≡ n = ap (λ (t : List ℕ). length t) q ∙ length-take-le n room h in
+    let m : length (take (at + n - at) (drop at b)) ≡ n =
+    length-take-le (at + n - at) (drop at b) (omega (arith, length-drop at b)) ∙ z in
+    record {
+      size = same_len_mid at (at + n - at) b y (l ∙ sym m) ∙ e;
+      front = take-put_mid at (at + n - at) b y (at + n) (omega arith) (omega arith) ∙ ap (λ t. take at b ++ t) q;
+    }
 
 -- ---- from the part of a line to the line
 

@@ -31,17 +31,10 @@ fn put_term(out: &mut [u8; 120], at: usize, from: &[u8; 32], n: usize) -> usize
     requires { (length out.old ≡ 120) × (length from.now ≡ 32) × (at ≤ 121) }
     ensures { Copied out.old out.new at result from.now n }
 {
-    if n > 32 {
+    if n > 32 || at + n > 120 {
         return 121;
     }
-    if at + n > 120 {
-        return 121;
-    }
-    let mut i = 0;
-    while i < n {
-        out[at + i] = from[i];
-        i += 1;
-    }
+    out[at..at + n].copy_from_slice(&from[..n]);
     at + n
 }
 
