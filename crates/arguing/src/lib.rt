@@ -37,18 +37,15 @@ fn register(s: &[u8], k: usize, form: u8, out: &mut [u8; 120], at: usize) -> Arg
     requires { (k ≤ length s.now) × (length out.old ≡ 120) × (at ≤ 121) }
     ensures { Registered s.now k form out.old out.new at result }
 {
-    if look(&s[k..]) != 82 {
+    if look(&s[k..]) != b'R' {
         return Arg::Not(k);
     }
     let i = k + 1;
     let d = look(&s[i..]);
-    if d < 48 {
+    if d < b'0' || d > b'3' {
         return Arg::Not(i);
     }
-    if d > 51 {
-        return Arg::Not(i);
-    }
-    let to = put(out, at, d - 48);
+    let to = put(out, at, d - b'0');
     Arg::Ends(form, i + 1, to)
 }
 
@@ -92,14 +89,13 @@ pub fn arguments(s: &[u8], k: usize, form: u8, out: &mut [u8; 120]) -> Told
     let mut at = put(out, a, 0);
     let mut i = k;
     let mut f = form;
-    let mut j: usize = 0;
-    while j < 3 {
+    for j in 0..3 {
         match argument(s, i, f, j, out, at) {
             Arg::Ends(g, n, to) => {
                 if operand_count(g) == j + 1 {
                     return form_end(s, n, g, out, to);
                 }
-                if look(&s[n..]) != 44 {
+                if look(&s[n..]) != b',' {
                     return Told::Wrong(n);
                 }
                 i = n + 1;
@@ -110,7 +106,6 @@ pub fn arguments(s: &[u8], k: usize, form: u8, out: &mut [u8; 120]) -> Told
                 return Told::Wrong(n);
             }
         }
-        j += 1;
     }
     Told::Wrong(k)
 }

@@ -83,7 +83,7 @@ pub fn narrowed(form: u8, j: usize, mark: usize) -> u8
     requires { (form < 70) × (j < 3) × (mark < 3) }
     ensures { result ≡ chosen form j mark }
 {
-    let row = NEXT[form as usize];
+    let row = NEXT[usize::from(form)];
     row[3 * j + mark]
 }
 
@@ -91,11 +91,9 @@ pub fn narrowed(form: u8, j: usize, mark: usize) -> u8
 pub fn mark_of(c: u8) -> usize
     ensures { (result ≡ mark_number c) × (result < 3) }
 {
-    if c == 35 {
-        return 0;
+    match c {
+        b'#' => 0,
+        b'@' => 1,
+        _ => 2,
     }
-    if c == 64 {
-        return 1;
-    }
-    2
 }

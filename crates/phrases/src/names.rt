@@ -31,11 +31,11 @@ fn after_global(s: &[u8], k: usize, name: usize, out: &mut [u8; 120]) -> Told
     ensures { Spoken (fork none (λ c. eqb c 58 || eqb c 61) (after_global name)) s.now k out.new result }
 {
     let c = look(&s[k..]);
-    if c == 58 {
+    if c == b':' {
         let at = put_head(out, 2, name);
         return ended(s, k + 1, at);
     }
-    if c == 61 {
+    if c == b'=' {
         let at = put_head(out, 3, name);
         return bound(s, k + 1, out, at);
     }
@@ -47,7 +47,7 @@ fn after_local(s: &[u8], k: usize, name: usize, out: &mut [u8; 120]) -> Told
     requires { (k ≤ length s.now) × (length out.old ≡ 120) × (name ≤ 32767) }
     ensures { Spoken (fork none (λ c. eqb c 58) (λ c. done (label (0x8000 + name)))) s.now k out.new result }
 {
-    if look(&s[k..]) == 58 {
+    if look(&s[k..]) == b':' {
         let at = put_head(out, 2, 0x8000 + name);
         return ended(s, k + 1, at);
     }

@@ -63,7 +63,7 @@ pub fn align_line(s: &[u8], k: usize, out: &mut [u8; 120]) -> Told
 {
     match number(s, k, 255) {
         Value::Is(n, v) => {
-            if look(&s[n..]) == 44 {
+            if look(&s[n..]) == b',' {
                 return multiple_line(s, n + 1, v, out);
             }
             Told::Wrong(n)

@@ -10,20 +10,14 @@ use laying::{Told, put};
 fn is_hex(c: u8) -> bool
     ensures { result ≡ is_digit c }
 {
-    if c < 48 {
-        return false;
-    }
-    if c < 58 {
-        return true;
-    }
-    65 <= c && c <= 70
+    matches!(c, b'0'..=b'9' | b'A'..=b'F')
 }
 
 fn hex(c: u8) -> u8
     requires { is_digit c ≡ true }
     ensures { (result ≡ digit c) × (result ≤ 15) }
 {
-    if c < 58 { c - 48 } else { c - 55 }
+    if c <= b'9' { c - b'0' } else { c - b'A' + 10 }
 }
 
 // The pairs from k on, of which there is at least one.

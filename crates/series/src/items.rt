@@ -26,14 +26,13 @@ fn items(s: &[u8], k: usize, kind: u8, out: &mut [u8; 120]) -> Told
     let a = put(out, 0, kind);
     let mut at = put(out, a, 0);
     let mut i = k;
-    let mut n: u8 = 1;
-    while n < 17 {
+    for n in 1..17 {
         match term(s, i, out, at) {
             Found::Ends(e, to) => {
                 if e >= s.len() {
                     return count(out, n, to);
                 }
-                if look(&s[e..]) != 44 {
+                if look(&s[e..]) != b',' {
                     return Told::Wrong(e);
                 }
                 if n == 16 {
@@ -46,7 +45,6 @@ fn items(s: &[u8], k: usize, kind: u8, out: &mut [u8; 120]) -> Told
                 return Told::Wrong(e);
             }
         }
-        n += 1;
     }
     Told::Wrong(k)
 }

@@ -7,6 +7,7 @@ use Rattle.leaves.proofs.Leafs.{rest_is}
 use Rattle.laying.proofs.Speaking.{byte_there}
 use Rattle.arguing.proofs.Arguing.{no_letter, no_digit, is_register, low_digit, high_digit, byte_past}
 use Rattle.arguing.proofs.register.Goals as goal
+use Rattle.arguing.proofs.register.Goals.{then-d-lt48-via-then-d-lt48, then-d-lt48-via-else-d-lt48+then-d-gt51}
 
 pub returns-then-look-ne82 : goal.returns-then-look-ne82
 returns-then-look-ne82 c =
@@ -21,17 +22,14 @@ returns-then-d-lt48 c =
     let s = a.s.now in
     let e = c.look.ensures ∙ ap look (rest_is a.k s) in
     let q = sym e ∙ c.if-look-ne82.false in
-    no_digit s a.k a.form a.out.now a.out.now a.at q (byte_there s a.k 81 q)
-    (low_digit (look (drop (a.k + 1) s)) c.look-d.result (c.look-d.ensures ∙ ap look (rest_is (a.k + 1) s)) c.if-d-lt48.true)
-
-pub returns-then-d-gt51 : goal.returns-then-d-gt51
-returns-then-d-gt51 c =
-    let a = c.args in
-    let s = a.s.now in
-    let e = c.look.ensures ∙ ap look (rest_is a.k s) in
-    let q = sym e ∙ c.if-look-ne82.false in
-    no_digit s a.k a.form a.out.now a.out.now a.at q (byte_there s a.k 81 q)
-    (high_digit (look (drop (a.k + 1) s)) c.look-d.result (c.look-d.ensures ∙ ap look (rest_is (a.k + 1) s)) c.if-d-gt51.true)
+    let d = c.look-d.ensures ∙ ap look (rest_is (a.k + 1) s) in
+    elim c.then-d-lt48.branch [
+      | then-d-lt48-via-then-d-lt48 w ↦
+          no_digit s a.k a.form a.out.now a.out.now a.at q (byte_there s a.k 81 q) (low_digit (look (drop (a.k + 1) s)) c.look-d.result d w.if-d-lt48.true)
+      | then-d-lt48-via-else-d-lt48+then-d-gt51 w ↦
+          no_digit s a.k a.form a.out.now a.out.now a.at q (byte_there s a.k 81 q)
+          (high_digit (look (drop (a.k + 1) s)) c.look-d.result d w.if-d-gt51.true)
+    ]
 
 pub returns : goal.returns
 returns c =

@@ -1,10 +1,13 @@
+use mathlib.Core.Path.{ap, ◌∙◌}
 use mathlib.Core.List.{List, [], ◌∷◌}
 use Prim.Native.Nat.{ℕ}
+use native.Mathlib.Omega.{arith}
 use Rattle.laws.specs.Counts.{all_to}
 use Rattle.laws.specs.Lists.{same}
 use Rattle.rules.specs.Forms.{form_at}
 use Rattle.text.specs.Text.{mnemonic}
 use Rattle.plans.specs.Families.{narrow, family}
+use Rattle.marks.specs.Narrowing.{chosen}
 use Rattle.marks.proofs.Narrowing.{down, near, near_agree, near_chosen, row_law}
 use Rattle.marks.proofs.narrowed.Goals as goal
 
@@ -84,4 +87,7 @@ rows =
 
 pub returns : goal.returns
 unfolding rows all_to near_chosen near_agree near down narrow family same mnemonic form_at
-returns c = let a = c.args in row_law rows tt a.form a.j a.mark c.requires.0 c.requires.1 c.requires.2
+returns c =
+    let a = c.args in
+    row_law rows tt c.from.result a.j a.mark (omega (arith, c.requires.0, c.from.ensures)) c.requires.1 c.requires.2
+    ∙ ap (λ f. chosen f a.j a.mark) c.from.ensures
