@@ -18,14 +18,7 @@ pub enum Turn {
 pub fn line_length(text: &[u8]) -> usize
     ensures { result ≡ line_length text.now }
 {
-    let mut i = 0;
-    while i < text.len() {
-        if text[i] == 10 {
-            return i;
-        }
-        i += 1;
-    }
-    i
+    text.iter().position(|c| *c == b'\n').unwrap_or(text.len())
 }
 
 // The line at place i, with `sum` characters of the listing before it. Its frame is left in the room.

@@ -1,15 +1,16 @@
--- `line_length` meets its contract: what is passed holds no line feed, so the line is i and what the search finds from i on. Assumes
--- nothing.
-use native.Mathlib.Omega.{arith}
-use Rattle.listing.proofs.FirstLine.{feed_here, feed_later, feed_missing}
+-- `line_length` meets its contract: the position of the first line feed, or the length. Assumes nothing.
+use mathlib.Core.Path.{sym, ◌∙◌}
+use borrow.Author.Tests.{tests}
+use lib.Dec.{eqb}
+use Rattle.std.proofs.Common.{rules}
+use Rattle.std.proofs.lemmas.Iterator.{YieldsList-from_slice}
+use Rattle.std.proofs.lemmas.Iterator.Search.{position_from_yields_List}
+use Rattle.listing.proofs.Chains.{position_or, feed_found}
 use Rattle.intake.proofs.lines.line_length.Goals as goal
 
-pub returns-then-text-i-eq10 : goal.returns-then-text-i-eq10
-returns-then-text-i-eq10 c = omega (arith, c.loop-i.invariant.1, feed_here c.args.text.now c.loop-i.i (omega arith) c.if-text-i-eq10.true)
-
-pub loop-i-preserved : goal.loop-i-preserved
-loop-i-preserved c =
-    (omega arith, omega (arith, c.loop-i.invariant.1, feed_later c.args.text.now c.loop-i.i (omega arith) c.if-text-i-eq10.false))
-
 pub returns : goal.returns
-returns c = omega (arith, c.loop-i.invariant.1, feed_missing c.args.text.now c.loop-i.i (omega arith))
+returns c =
+    c.unwrap_or.ensures
+    ∙ position_or (λ n. eqb n 10) c.args.text.now c.position.result
+    (position_from_yields_List (λ n. eqb n 10) _ _ _ c.position.ensures.ran (YieldsList-from_slice c.args.text.now cc) (λ x b q k. search (rules, tests)))
+    ∙ sym (feed_found c.args.text.now)
