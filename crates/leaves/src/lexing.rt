@@ -53,6 +53,7 @@ pub fn digits(s: &[u8], most: usize) -> Value
     Value::Is(s.len(), v)
 }
 
+// A match: `pow` would take k as a u32.
 fn tens(k: usize) -> usize
     requires { k < 5 }
     ensures { result ≡ tens k }

@@ -45,10 +45,7 @@ fn multiple_line(s: &[u8], k: usize, add: usize, out: &mut [u8; 120]) -> Told
 {
     match number(s, k, 256) {
         Value::Is(n, v) => {
-            if n < s.len() {
-                return Told::Wrong(n);
-            }
-            if v < 1 {
+            if n < s.len() || v == 0 {
                 return Told::Wrong(n);
             }
             Told::Frame(put_pad(out, add, v))
