@@ -11,10 +11,10 @@ use lib.ListN.{length, get_or}
 use mir.Syntax.{w32}
 use mir.Val.{SFits, of_z}
 use borrow.Author.Tests.{eq-eqb, ne_eqb}
+use Rattle.rules.specs.declared.Unvalued.{Unvalued}
+use Rattle.std.specs.Prelude.{Result, None, Ok, Some}
 use Rattle.laws.proofs.Tests.{clash, none_some, first_false}
 use Rattle.rules.specs.declared.Place.{Place}
-use Rattle.rules.specs.declared.Outcome.{Outcome}
-use Rattle.rules.specs.declared.Outcome.TheVariants.{Is}
 use Rattle.rules.specs.Values.{is_number}
 use Rattle.rules.specs.Forms.{form_at, operands_at, jmpf, not1}
 use Rattle.rules.specs.Programs.{Operand, register, Stmt, gone, instr, label, variable, comment, org, bytes, words, pad, Program, at, is_form, args_of, kind_of}
@@ -29,7 +29,6 @@ use Rattle.image.proofs.Placed.{position_after}
 use Rattle.image.proofs.Worths.{count_program, at_program, worth_at_lem}
 use Rattle.patterns.specs.Targets.{stands_at, form_in}
 use Rattle.patterns.proofs.Instructions.{form_kind, slot_form}
-use Rattle.anchors.specs.declared.Nearest.TheVariants.{At, Nothing}
 use Rattle.anchors.specs.Changes.{nearest_as}
 
 -- ---- what is skipped
@@ -63,7 +62,7 @@ module _ (p : Program) where
 -- ---- values and forms
 
 -- a value compared by its bits
-pub number_bits : (z : ℤ) (n : ℕ) → SFits w32 z → n < 65536 → eqb (of_z w32 z) n ≡ is_number n (Is z)
+pub number_bits : (z : ℤ) (n : ℕ) → SFits w32 z → n < 65536 → eqb (of_z w32 z) n ≡ is_number n (Ok z)
 number_bits (pos a) n f l = refl
 number_bits (negsuc a) n f l = ne_eqb (2 ^ 32 - suc a) n (λ e. omega (arith, f.sfits))
 
@@ -84,7 +83,7 @@ form_yes f l s e = is_form_lem f l s ∙ eq-eqb (form_in s) f e
 pub form_no : (f : ℕ) → f < gone_form → (s : Stmt) → (form_in s ≡ f → ⊥) → is_form f s ≡ false
 form_no f l s n = is_form_lem f l s ∙ ne_eqb (form_in s) f n
 
-valued_two : (w : Operand → Outcome) (xs : List Operand) → length xs ≡ 2
+valued_two : (w : Operand → Result ℤ Unvalued) (xs : List Operand) → length xs ≡ 2
     → valued_10d_and_0 w xs ≡ is_number 0x10D (w (get_or xs 0 (register 0))) && is_number 0 (w (get_or xs 1 (register 0)))
 valued_two w [] e = absurd (omega arith)
 valued_two w (x ∷ []) e = absurd (omega arith)
@@ -98,7 +97,7 @@ two_operands = refl
 -- ---- the Not1 at j: what its operands are worth, by the tables
 
 module _ (d : Tables) (h : Ready d) (j : ℕ) (m : j < d.slots.count) (e : form_in (stands_at d.slots j) ≡ not1) where
-  abbrev pub worth_at : (n : ℕ) → Outcome
+  abbrev pub worth_at : (n : ℕ) → Result ℤ Unvalued
   worth_at n = worth_in d.entries d.positions (get_or d.contexts j 0) (operand_at d.slots j n)
 
   pub not1_kind : kind_of (slot_at d.slots j) ≡ 1
@@ -120,7 +119,7 @@ module _ (d : Tables) (h : Ready d) (j : ℕ) (m : j < d.slots.count) (e : form_
   valued_is =
       ap (λ s. valued_10d_and_0 (worth_of d.entries (program d) (context_at (program d) j)) (args_of s)) (at_program d.slots j m)
       ∙ valued_two (worth_of d.entries (program d) (context_at (program d) j)) (args_of (slot_at d.slots j)) not1_args
-      ∙ ap₂ (λ (a b : Outcome). is_number 0x10D a && is_number 0 b) (worth_is 0 (omega arith)) (worth_is 1 (omega arith))
+      ∙ ap₂ (λ (a b : Result ℤ Unvalued). is_number 0x10D a && is_number 0 b) (worth_is 0 (omega arith)) (worth_is 1 (omega arith))
 
 -- ---- the statement at j, and a jump at i
 
@@ -155,10 +154,10 @@ module _ (names : List Entry) (p : Program) (i : ℕ) where
   jump_is e = ap (λ b. b && changes_at names p i (nearest p i)) (form_yes jmpf (omega arith) (at p i) e)
 
 -- as the code answers
-pub found_at : (o : Option ℕ) (j : Place) → nearest_as o ≡ At j → o ≡ some j.0
+pub found_at : (o : Option ℕ) (j : Place) → nearest_as o ≡ Some j → o ≡ some j.0
 found_at none j e = clash (cc)
 found_at (some k) j e = cc
 
-pub found_none : (o : Option ℕ) → nearest_as o ≡ Nothing → o ≡ none
+pub found_none : (o : Option ℕ) → nearest_as o ≡ None → o ≡ none
 found_none none e = refl
 found_none (some k) e = clash (cc)

@@ -8,11 +8,12 @@ use Prim.Native.Nat.{ℕ, ◌≤◌, ◌<◌}
 use native.Mathlib.Omega.{arith}
 use lib.IntN.{pos, negsuc}
 use lib.ListN.{length, get_or, length-map}
+use Rattle.rules.specs.declared.Unvalued.TheVariants.{Unknown, Nothing}
+use Rattle.rules.specs.declared.Unvalued.{Unvalued}
+use Rattle.std.specs.Prelude.{ℤ, Result, Err, Ok}
 use Rattle.laws.proofs.Tests.{none_some, eq_or_not, lt_or_le, cond_true, cond_false}
 use Rattle.laws.proofs.Lists.{get_or_map_in}
 use Rattle.laws.proofs.Counts.{tab_is}
-use Rattle.rules.specs.declared.Outcome.{Outcome}
-use Rattle.rules.specs.declared.Outcome.TheVariants.{Is, Unknown, Nothing}
 use Rattle.rules.specs.Forms.{is_transfer}
 use Rattle.rules.specs.Programs.{Operand, register, value, inner, Stmt, gone, instr, label, variable, comment, org, bytes, words, pad, args_of, last_of, on_last, retarget, Program, at, kind_of}
 use Rattle.rules.specs.Layout.{Origin, origin}
@@ -46,7 +47,7 @@ anchor_target_lem names moving p k (value e) = on (holds_label moving k e) (wort
     found none = refl
     found (some o) = refl
 
-    on : (b : Bool) (x : Outcome) → cond b (value e) (inner_at e (origin p x)) ≡ inner_or (value e) (origin p (cond b Unknown x))
+    on : (b : Bool) (x : Result ℤ Unvalued) → cond b (value e) (inner_at e (origin p x)) ≡ inner_or (value e) (origin p (cond b (Err Unknown) x))
     on true x = refl
     on false x = found (origin p x)
 anchor_target_lem names moving p k (inner i o) = refl
@@ -59,12 +60,12 @@ aimed_twice g x (y ∷ z ∷ []) = refl
 aimed_twice g x (y ∷ z ∷ w ∷ xs) = ap (λ (l : List Operand). y ∷ l) (aimed_twice g x (z ∷ w ∷ xs))
 
 -- an origin's statement is one of the program
-origin_inside : (p : Program) (x : Outcome) (o : Origin) → origin p x ≡ some o → o.place < length p
+origin_inside : (p : Program) (x : Result ℤ Unvalued) (o : Origin) → origin p x ≡ some o → o.place < length p
 unfolding origin
-origin_inside p (Is (pos a)) o e = (origin_stems p a o e).inside
-origin_inside p (Is (negsuc a)) o e = none_some o e
-origin_inside p Unknown o e = none_some o e
-origin_inside p Nothing o e = none_some o e
+origin_inside p (Ok (pos a)) o e = (origin_stems p a o e).inside
+origin_inside p (Ok (negsuc a)) o e = none_some o e
+origin_inside p (Err Unknown) o e = none_some o e
+origin_inside p (Err Nothing) o e = none_some o e
 
 pub label_inside : (names : List Entry) (moving : List Key) (p : Program) (i : ℕ) (o : Origin) → origin_at names moving p i ≡ some o → o.place < length p
 unfolding origin_at

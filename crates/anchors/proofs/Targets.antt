@@ -13,9 +13,9 @@ use mir.Syntax.{w32, w64}
 use mir.Val.{Fits, SFits}
 use mir.Facts.{Fits-nat_abs}
 use borrow.Author.Tests.{ltb-true}
+use Rattle.rules.specs.declared.Unvalued.{Unvalued}
+use Rattle.std.specs.Prelude.{Result, Ok}
 use Rattle.laws.proofs.Tests.{clash, true_false, first_false, second_false, and_both}
-use Rattle.rules.specs.declared.Outcome.{Outcome}
-use Rattle.rules.specs.declared.Outcome.TheVariants.{Is}
 use Rattle.rules.specs.Values.{nat}
 use Rattle.rules.specs.Forms.{form_at, is_transfer, operands_at}
 use Rattle.rules.specs.Programs.{Stmt, gone, instr, label, variable, comment, org, bytes, words, pad, args_of, last_of, Program, at}
@@ -46,19 +46,19 @@ address_is (pos a) e = refl
 address_is (negsuc a) e = clash (cc)
 
 module _ (p : Program) where
-  pub origin_negative : (z : ℤ) → lt_z z (pos 0) ≡ true → origin p (Is z) ≡ none
+  pub origin_negative : (z : ℤ) → lt_z z (pos 0) ≡ true → origin p (Ok z) ≡ none
   unfolding origin
   origin_negative (pos a) e = absurd (omega (arith, ltb-true a 0 e))
   origin_negative (negsuc a) e = refl
 
-  pub origin_address : (z : ℤ) → z ≡ pos (nat z) → origin p (Is z) ≡ origin_from 0 0 p (nat z)
+  pub origin_address : (z : ℤ) → z ≡ pos (nat z) → origin p (Ok z) ≡ origin_from 0 0 p (nat z)
   unfolding origin
   origin_address (pos a) e = refl
   origin_address (negsuc a) e = clash (cc)
 
 -- ---- a target by the links beside it
 
-pub last_linked : (env : ℕ → Outcome) (s links : List ℕ) (values : List ℤ) (limit : ℕ) → Linked env s links values limit
+pub last_linked : (env : ℕ → Result ℤ Unvalued) (s links : List ℕ) (values : List ℤ) (limit : ℕ) → Linked env s links values limit
     → Linked env (last_bytes s) (last_links s links) values limit
 unfolding last_bytes last_links
 last_linked env s links values limit h =

@@ -19,12 +19,12 @@ ghost use Rattle.slots.specs.State.{starts_in, forms_in, owners_in, offsets_in, 
 
 use crate::Label;
 use crate::changing::is_change_jump;
-use asm::{Origin, origin_of};
+use asm::origin_of;
 use env::fill_moving;
 use expression::{holds_label, linked_worth};
 use instruction::tables::is_transfer;
 use patterns::targets::{form_at, target_in, target_links};
-use rules::{Address, Outcome, Place};
+use rules::{Address, Place, Unvalued};
 use slots::{NO_OWNER, State, put_label};
 
 // What the target that was written at a place is worth. "Any target holding a name stays as written": since C-15 one that holds a label, and
@@ -38,7 +38,7 @@ fn target_value(
     values: &[i64; 1024],
     moving: &[u32; 1024],
     at: Place,
-) -> Outcome
+) -> Result<i32, Unvalued>
     requires { Held frames.now (starts_in state.now) count × TargetIn frames.now (starts_in state.now) count at.0 × (length
         links.now ≡ 28672) }
     ensures { let k : ℕ = get_or contexts.now at.0 0 in
@@ -51,7 +51,7 @@ fn target_value(
     let context = contexts[at.0];
     let target = target_in(frames, state, count, at);
     if holds_label(target, moving, contexts, count, context) {
-        return Outcome::Unknown;
+        return Err(Unvalued::Unknown);
     }
     let beside = target_links(frames, state, count, links, at);
     linked_worth(target, beside, values, count)
@@ -71,23 +71,20 @@ pub fn value_origin(
     state: &State,
     count: usize,
     positions: &[u32; 1025],
-    x: Outcome,
-) -> Origin
+    x: Result<i32, Unvalued>,
+) -> Option<(Place, usize)>
     requires { Held frames.now (starts_in state.now) count
         × Any frames.now (starts_in state.now) count (forms_in state.now) (λ t. Positioned t positions.now) }
     ensures { Any frames.now (starts_in state.now) count (forms_in state.now)
         (λ t. Found t (origin (program_of t) x) result) }
 {
-    match x {
-        Outcome::Is(v) => {
-            if v < 0 {
-                return Origin::Nothing;
-            }
-            origin_of(frames, state, count, positions, address(v))
-        }
-        Outcome::Unknown => Origin::Nothing,
-        Outcome::Nothing => Origin::Nothing,
+    let Ok(v) = x else {
+        return None;
+    };
+    if v < 0 {
+        return None;
     }
+    origin_of(frames, state, count, positions, address(v))
 }
 
 // The origin that the target at a place becomes an inner label of: "for each of the twenty transfers of `control_flow_target`, unless a change
@@ -102,7 +99,7 @@ fn origin_at(
     positions: &[u32; 1025],
     moving: &[u32; 1024],
     at: Place,
-) -> Origin
+) -> Option<(Place, usize)>
     requires { let d : Tables = tables_of frames.now state.now count
         links.now values.now positions.now in
         Ready d × AsRead d.slots × Placed d.slots contexts.now × (at.0 < count) }
@@ -114,23 +111,23 @@ fn origin_at(
     if !is_transfer(form_at(frames, state, count, at))
         || is_change_jump(frames, state, count, links, values, positions, at)
     {
-        return Origin::Nothing;
+        return None;
     }
     let x = target_value(frames, state, count, contexts, links, values, moving, at);
     value_origin(frames, state, count, positions, x)
 }
 
 // An origin's inner label, as the tables hold it.
-fn label_of(o: Origin) -> Label
+fn label_of(o: Option<(Place, usize)>) -> Label
     requires { Small o }
     ensures { (result.owner ≡ owner_in o) × (result.offset ≡ offset_in o) }
 {
     match o {
-        Origin::At(place, offset) => Label {
+        Some((place, offset)) => Label {
             owner: place.0 as u16,
             offset: offset as u16,
         },
-        Origin::Nothing => Label {
+        None => Label {
             owner: NO_OWNER as u16,
             offset: 0,
         },

@@ -16,11 +16,10 @@ ghost use Rattle.patterns.specs.Targets.{stands_at, form_in};
 ghost use Rattle.anchors.specs.Changes.{nearest_as};
 ghost use Rattle.slots.specs.State.{starts_in, forms_in};
 
-use crate::Nearest;
 use image::argument_worth;
 use instruction::tables::{JMPF, NOT1};
 use patterns::targets::form_at;
-use rules::{Outcome, Place, Statement};
+use rules::{Place, Statement, Unvalued};
 use slots::{Slot, State, slot_at};
 
 // "labels (inner ones too), variables and comments skipped". A slot that is gone holds no statement.
@@ -36,25 +35,25 @@ fn skipped_at(frames: &[u8], state: &State, count: usize, at: Place) -> bool
     )
 }
 
-// The last place below whose statement is not skipped.
-fn nearest(frames: &[u8], state: &State, count: usize, at: Place) -> Nearest
+// The last place below whose statement is not skipped: the one that a change jump is judged by.
+fn nearest(frames: &[u8], state: &State, count: usize, at: Place) -> Option<Place>
     requires { Held frames.now (starts_in state.now) count × (at.0 ≤ count) }
     ensures { Any frames.now (starts_in state.now) count (forms_in state.now)
         (λ t. result ≡ nearest_as (nearest_place (program_of t) at.0)) }
 {
     for j in (0..at.0).rev() {
         if !skipped_at(frames, state, count, Place(j)) {
-            return Nearest::At(Place(j));
+            return Some(Place(j));
         }
     }
-    Nearest::Nothing
+    None
 }
 
 // A value, and equal to n.
-fn is_number(x: Outcome, n: u16) -> bool
+fn is_number(x: Result<i32, Unvalued>, n: u16) -> bool
     ensures { result ≡ is_number n x }
 {
-    matches!(x, Outcome::Is(v) if v == i32::from(n))
+    matches!(x, Ok(v) if v == i32::from(n))
 }
 
 // The statement at j ends where the one at `at` begins.
@@ -135,7 +134,7 @@ pub fn is_change_jump(
         return false;
     }
     match nearest(frames, state, count, at) {
-        Nearest::At(j) => changes_at(frames, state, count, links, values, positions, at, j),
-        Nearest::Nothing => false,
+        Some(j) => changes_at(frames, state, count, links, values, positions, at, j),
+        None => false,
     }
 }

@@ -9,6 +9,7 @@ use lib.Dec.{eqb, leb}
 use lib.ListN.{length, drop, length-drop}
 use lib.Seq.{drop-drop}
 use borrow.Author.Tests.{eqb-true, eqb-false, ne_eqb, le-leb, lt-leb}
+use Rattle.std.specs.Prelude.{Result, Ok, Err}
 use Rattle.laws.proofs.Tests.{and_both, first_false, second_false, true_false}
 use Rattle.rules.specs.Expressions.{Expr, bytes_of}
 use Rattle.rules.specs.Forms.{operands_at}
@@ -16,16 +17,12 @@ use Rattle.rules.specs.Programs.{Operand, register, value, Stmt}
 use Rattle.grammar.specs.Reading.{look}
 use Rattle.grammar.specs.Going as going
 use Rattle.grammar.specs.Going.{Read, got, stuck, whole, alone, Goes, class_of, other, start, start_by}
-use Rattle.leaves.specs.declared.Found.{Found}
-use Rattle.leaves.specs.declared.Found.TheVariants as found
 use Rattle.plans.specs.Plans as plans
 use Rattle.plans.specs.Plans.{Plan, done, fork, expression, either, Walks}
 use Rattle.plans.specs.Words.{some?}
 use Rattle.plans.specs.Families.{Mark, hash, at, plain, narrow, register_plan, marks, mark_plan, argument, behind, args_plan}
 use Rattle.laying.specs.Laying.{long, Added, Termed}
 use Rattle.laying.proofs.Speaking.{first_byte, fork_byte, fork_wrong}
-use Rattle.arguing.specs.declared.Arg.{Arg}
-use Rattle.arguing.specs.declared.Arg.TheVariants.{Ends, Not}
 use Rattle.marks.specs.Narrowing.{mark_by, mark_number, agree, chosen}
 use Rattle.arguing.specs.Answers.{Argued, Valued, Registered}
 use Rattle.marks.proofs.Narrowing.{step_law, none_law, some_law}
@@ -121,7 +118,7 @@ module _ (s : List ℕ) (k f j : ℕ) (b a : List ℕ) (at : ℕ) (lf : f < 70) 
   Can m = some? (narrow m (agree f j))
 
   -- none of them goes on with the mark
-  pub not_so : (m : ℕ) → Marked (look (drop k s)) m → m < 3 → 69 < chosen f j m → Argued s k f j b a at (Not k)
+  pub not_so : (m : ℕ) → Marked (look (drop k s)) m → m < 3 → 69 < chosen f j m → Argued s k f j b a at (Err k)
   unfolding args_plan class_of
   not_so m w l g = (
     λ n xs. none_walk Can (λ m x. behind (args_plan n) (narrow m (agree f j)) (xs ++ (x ∷ []))) s k (Can plain)
@@ -163,7 +160,7 @@ module _ (s : List ℕ) (k f j : ℕ) (b a : List ℕ) (at : ℕ) (lf : f < 70) 
         → Added b a at to (bytes_of x) (long x)
         → ((i : ℕ) (xs : List Operand) (o : Read Stmt) → Walks (Next i xs (mark_by m) (value x)) (drop n s) o
         → Walks (args_plan (suc i) (agree f j) xs) (drop k s) o)
-        → Argued s k f j b a at (Ends g n to)
+        → Argued s k f j b a at (Ok (g, n, to))
     valued_ends k' x n to q l d w =
         record {
           x = value x;
@@ -175,33 +172,33 @@ module _ (s : List ℕ) (k f j : ℕ) (b a : List ℕ) (at : ℕ) (lf : f < 70) 
               λ i xs o v. w i xs o (next_walk i xs (value x) (drop n s) o v);
         }
 
-  pub hash_argued : (g : ℕ) (r : Found) → g ≡ chosen f j 0 → g < 70 → look (drop k s) ≡ 35 → Termed s (k + 1) b a at r
+  pub hash_argued : (g : ℕ) (r : Result (ℕ × ℕ) ℕ) → g ≡ chosen f j 0 → g < 70 → look (drop k s) ≡ 35 → Termed s (k + 1) b a at r
       → Argued s k f j b a at (Valued g r)
   unfolding args_plan
-  hash_argued g (found.Ends n to) e l c (x, (q, (z, d))) =
+  hash_argued g (Ok (n, to)) e l c (x, (q, (z, d))) =
       valued_ends g 0 e (omega arith) l (k + 1) x n to q z d
       (λ i xs o v.
       hash_walk Can (Next g 0 e (omega arith) l i xs) s k (Can plain) o c (can g 0 e (omega arith) l) (plans.Walks.tree q v))
-  hash_argued g (found.Stuck n) e l c (q, z) = (
+  hash_argued g (Err n) e l c (q, z) = (
     λ i xs. hash_walk Can (Next g 0 e (omega arith) l i xs) s k (Can plain) (stuck (drop n s)) c (can g 0 e (omega arith) l)
         (plans.Walks.treeless q),
     z,
   )
 
-  pub plain_argued : (g : ℕ) (r : Found) → g ≡ chosen f j 2 → g < 70 → (look (drop k s) ≡ 35 → ⊥) → (look (drop k s) ≡ 64 → ⊥)
+  pub plain_argued : (g : ℕ) (r : Result (ℕ × ℕ) ℕ) → g ≡ chosen f j 2 → g < 70 → (look (drop k s) ≡ 35 → ⊥) → (look (drop k s) ≡ 64 → ⊥)
       → Termed s k b a at r → Argued s k f j b a at (Valued g r)
   unfolding args_plan
-  plain_argued g (found.Ends n to) e l p q (x, (y, (z, d))) =
+  plain_argued g (Ok (n, to)) e l p q (x, (y, (z, d))) =
       valued_ends g 2 e (omega arith) l k x n to y z d
       (λ i xs o v. plain_walk Can (Next g 2 e (omega arith) l i xs) s k x (drop n s) o p q (can g 2 e (omega arith) l) y v)
-  plain_argued g (found.Stuck n) e l p q (y, z) =
+  plain_argued g (Err n) e l p q (y, z) =
       (λ i xs. plain_stuck Can (Next g 2 e (omega arith) l i xs) s k (drop n s) p q (can g 2 e (omega arith) l) y, z)
 
-  pub at_argued : (g : ℕ) (r : Arg) → g ≡ chosen f j 1 → g < 70 → look (drop k s) ≡ 64 → Registered s (k + 1) g b a at r
+  pub at_argued : (g : ℕ) (r : Result (ℕ × ℕ × ℕ) ℕ) → g ≡ chosen f j 1 → g < 70 → look (drop k s) ≡ 64 → Registered s (k + 1) g b a at r
       → Argued s k f j b a at r
   unfolding args_plan
-  at_argued g (Ends i n to) e l c (q, (r, (z, (d, w)))) =
-      subst (λ y. Argued s k f j b a at (Ends y n to)) (sym q)
+  at_argued g (Ok (i, n, to)) e l c (q, (r, (z, (d, w)))) =
+      subst (λ y. Argued s k f j b a at (Ok (y, n, to))) (sym q)
       (record {
         x = register r;
         form = l;
@@ -213,7 +210,7 @@ module _ (s : List ℕ) (k f j : ℕ) (b a : List ℕ) (at : ℕ) (lf : f < 70) 
             (w (λ r. Next g 1 e (omega arith) l i xs (mark_by 1) (register r)) o
             (next_walk g 1 e (omega arith) l i xs (register r) (drop n s) o v));
       })
-  at_argued g (Not n) e l c (w, z) = (
+  at_argued g (Err n) e l c (w, z) = (
     λ i xs. at_walk Can (Next g 1 e (omega arith) l i xs) s k (Can plain) (stuck (drop n s)) c (can g 1 e (omega arith) l)
         (w (λ r. Next g 1 e (omega arith) l i xs (mark_by 1) (register r))),
     z,
@@ -235,7 +232,7 @@ byte_past s k d e h = omega (arith, some (drop k s) (omega arith), length-drop k
     some (c ∷ t) l = omega arith
 
 module _ (s : List ℕ) (k f : ℕ) (b a : List ℕ) (at : ℕ) where
-  pub no_letter : k ≤ length s → (look (drop k s) ≡ 82 → ⊥) → Registered s k f b a at (Not k)
+  pub no_letter : k ≤ length s → (look (drop k s) ≡ 82 → ⊥) → Registered s k f b a at (Err k)
   no_letter h n = (
     λ next. fork_wrong (λ c. eqb c 82) (λ c. fork none (λ d. leb 48 d && leb d 51) (λ d. next (d - 48))) (drop k s)
         (ne_eqb (look (drop k s)) 82 n),
@@ -244,7 +241,7 @@ module _ (s : List ℕ) (k f : ℕ) (b a : List ℕ) (at : ℕ) where
 
   module _ (e : look (drop k s) ≡ 82) where
     pub no_digit : k + 1 ≤ length s → leb 48 (look (drop (k + 1) s)) && leb (look (drop (k + 1) s)) 51 ≡ false
-        → Registered s k f b a at (Not (k + 1))
+        → Registered s k f b a at (Err (k + 1))
     no_digit h q = (
       λ next.
           fork_byte none (λ c. eqb c 82) (λ c. fork none (λ d. leb 48 d && leb d 51) (λ d. next (d - 48))) s k 81 (stuck (drop (k + 1) s)) e
@@ -254,7 +251,7 @@ module _ (s : List ℕ) (k f : ℕ) (b a : List ℕ) (at : ℕ) where
     )
 
     pub is_register : (d to : ℕ) → d ≡ look (drop (k + 1) s) → 48 ≤ d → d ≤ 51 → k + 1 + 1 ≤ length s → Added b a at to ((d - 48) ∷ []) 0
-        → Registered s k f b a at (Ends f (k + 1 + 1) to)
+        → Registered s k f b a at (Ok (f, (k + 1 + 1), to))
     is_register zero to q l u h w = absurd (omega arith)
     is_register (suc d) to q l u h w = (
       refl,

@@ -9,6 +9,7 @@ use lib.Dec.{eqb}
 use lib.ListN.{length, drop, set, length-set, length-drop, drop_of_length-le}
 use lib.Seq.{take-set-lt}
 use borrow.Author.Tests.{ne_eqb}
+use Rattle.std.specs.Prelude.{Ok, Err, Result}
 use Rattle.laws.specs.Lists.{each, total}
 use Rattle.laws.proofs.Lists.{each_append, total_append}
 use Rattle.rules.specs.Forms.{operands_at}
@@ -21,12 +22,8 @@ use Rattle.plans.specs.Plans.{Plan, done, fork, expression, either, Walks}
 use Rattle.plans.specs.Families.{behind, args_plan, family_of}
 use Rattle.laying.specs.Laying.{long, Stands, Added}
 use Rattle.laying.proofs.Laying.{nothing_stands}
-use Rattle.laying.specs.declared.Told.{Told}
-use Rattle.laying.specs.declared.Told.TheVariants.{Frame, Wrong}
 use Rattle.laying.specs.Speaking.{Spoken}
 use Rattle.laying.proofs.Speaking.{fork_byte, fork_wrong}
-use Rattle.arguing.specs.declared.Arg.{Arg}
-use Rattle.arguing.specs.declared.Arg.TheVariants.{Ends, Not}
 use Rattle.marks.specs.Narrowing.{agree}
 use Rattle.arguing.specs.Answers.{ArgEnds, Argued, form_bytes, longs, FormEnd}
 use Rattle.marks.proofs.Narrowing.{done_law, more_law, at_most_three}
@@ -61,7 +58,7 @@ unfolding each total agree
 none_yet form s k b₀ b₁ b₂ p q h e x y =
     record { xs = []; known = h; few = omega arith; stands = y.adds (1 ∷ []) 0 (x.adds [] 0 (nothing_stands b₀ e)); leads = λ o w. w }
 
-module _ (form : ℕ) (s : List ℕ) (k : ℕ) (b a : List ℕ) (at i f j : ℕ) (w : SoFar form s k b at i f j) (r : Arg)
+module _ (form : ℕ) (s : List ℕ) (k : ℕ) (b a : List ℕ) (at i f j : ℕ) (w : SoFar form s k b at i f j) (r : Result (ℕ × ℕ × ℕ) ℕ)
     (x : Argued s i f j b a at r) where
   size : 3 - j ≡ suc (2 - j)
   size = omega (arith, w.few)
@@ -70,11 +67,11 @@ module _ (form : ℕ) (s : List ℕ) (k : ℕ) (b a : List ℕ) (at i f j : ℕ)
       → Walks (args_plan 3 (family_of form) []) (drop k s) o
   step o v = w.leads o (subst (λ n. Walks (args_plan n (agree f j) w.xs) (drop i s) o) (sym size) v)
 
-  pub arg_wrong : (n : ℕ) → r ≡ Not n → Spoken (args_plan 3 (family_of form) []) s k a (Wrong n)
+  pub arg_wrong : (n : ℕ) → r ≡ Err n → Spoken (args_plan 3 (family_of form) []) s k a (Err n)
   arg_wrong n q =
       let y = subst (λ z. Argued s i f j b a at z) q x in (step (stuck (drop n s)) (y.0 (2 - j) w.xs), y.1)
 
-  module _ (g n to : ℕ) (q : r ≡ Ends g n to) where
+  module _ (g n to : ℕ) (q : r ≡ Ok (g, n, to)) where
     ends : ArgEnds s i f j b a at g n to
     ends = subst (λ z. Argued s i f j b a at z) q x
 
@@ -112,10 +109,10 @@ module _ (form : ℕ) (s : List ℕ) (k : ℕ) (b a : List ℕ) (at i f j : ℕ)
     behind_walk o v = step o (ends.leads (2 - j) w.xs o v)
 
     -- the last argument
-    pub arg_last : (c : List ℕ) (z : Told) → length (operands_at g) ≡ j + 1 → FormEnd (length s) n g a c to z
+    pub arg_last : (c : List ℕ) (z : Result ℕ ℕ) → length (operands_at g) ≡ j + 1 → FormEnd (length s) n g a c to z
         → Spoken (args_plan 3 (family_of form) []) s k c z
     unfolding frame_of
-    arg_last c (Frame m) e (l, (u, v)) =
+    arg_last c (Ok m) e (l, (u, v)) =
         let d = done_law (args_plan (2 - j)) g j more ends.form w.few (e ∙ add-one j) in (
           instr g more 0,
           (
@@ -124,9 +121,9 @@ module _ (form : ℕ) (s : List ℕ) (k : ℕ) (b a : List ℕ) (at i f j : ℕ)
             subst (λ y. Stands c y (form_bytes g more) (longs more)) (sym u) (v more (longs more) more_stands),
           ),
         )
-    arg_last c (Wrong m) e (l, u) =
+    arg_last c (Err m) e (l, u) =
         let d = done_law (args_plan (2 - j)) g j more ends.form w.few (e ∙ add-one j) in
-        subst (λ y. Spoken (args_plan 3 (family_of form) []) s k c (Wrong y)) (sym u) (
+        subst (λ y. Spoken (args_plan 3 (family_of form) []) s k c (Err y)) (sym u) (
           behind_walk (stuck (drop n s)) (subst (λ p. Walks p (drop n s) (stuck (drop n s))) (sym d)
               (over (instr g more 0) (drop n s) (omega (arith, length-drop n s)))),
           ends.within,
@@ -140,7 +137,7 @@ module _ (form : ℕ) (s : List ℕ) (k : ℕ) (b a : List ℕ) (at i f j : ℕ)
       comma : behind (args_plan (2 - j)) (agree g (suc j)) more ≡ fork none (λ c. eqb c 44) (λ c. args_plan (2 - j) (agree g (suc j)) more)
       comma = more_law (args_plan (2 - j)) g j more ends.form w.few ends.more (λ z. e (z ∙ sym (add-one j)))
 
-      pub arg_other : (look (drop n s) ≡ 44 → ⊥) → Spoken (args_plan 3 (family_of form) []) s k a (Wrong n)
+      pub arg_other : (look (drop n s) ≡ 44 → ⊥) → Spoken (args_plan 3 (family_of form) []) s k a (Err n)
       arg_other d = (
         behind_walk (stuck (drop n s)) (subst (λ p. Walks p (drop n s) (stuck (drop n s))) (sym comma)
             (fork_wrong (λ c. eqb c 44) (λ c. args_plan (2 - j) (agree g (suc j)) more) (drop n s) (ne_eqb (look (drop n s)) 44 d))),

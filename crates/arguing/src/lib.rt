@@ -4,7 +4,6 @@
 
 ghost use Rattle.std.specs.Prelude.{◌≡◌, [], ℕ, ◌+◌, ◌≤◌, ◌<◌, length, drop};
 ghost use Rattle.plans.specs.Families.{args_plan, family_of};
-ghost use Rattle.leaves.specs.declared.Found.{Found};
 ghost use Rattle.laying.specs.Laying.{Termed};
 ghost use Rattle.laying.specs.Speaking.{Spoken};
 ghost use Rattle.arguing.specs.Answers.{Argued, Registered, FormEnd, Valued};
@@ -16,20 +15,13 @@ use leaves::lexing::look;
 use marks::{mark_of, narrowed};
 
 // An argument: the first form that it leaves, where it ends, where its bytes end; or the byte that no good line could have there.
-#[derive(Clone, Copy)]
-pub enum Arg {
-    Ends(u8, usize, usize),
-    Not(usize),
-}
+type Arg = Result<(u8, usize, usize), usize>;
 
 // An expression as an argument.
 fn valued(form: u8, r: Found) -> Arg
     ensures { result ≡ Valued form r }
 {
-    match r {
-        Found::Ends(n, to) => Arg::Ends(form, n, to),
-        Found::Stuck(n) => Arg::Not(n),
-    }
+    r.map(|(n, to)| (form, n, to))
 }
 
 // `R` and a digit, at k.
@@ -38,15 +30,15 @@ fn register(s: &[u8], k: usize, form: u8, out: &mut [u8; 120], at: usize) -> Arg
     ensures { Registered s.now k form out.old out.new at result }
 {
     if look(&s[k..]) != b'R' {
-        return Arg::Not(k);
+        return Err(k);
     }
     let i = k + 1;
     let d = look(&s[i..]);
     if d < b'0' || d > b'3' {
-        return Arg::Not(i);
+        return Err(i);
     }
     let to = put(out, at, d - b'0');
-    Arg::Ends(form, i + 1, to)
+    Ok((form, i + 1, to))
 }
 
 // Argument j at k.
@@ -57,7 +49,7 @@ fn argument(s: &[u8], k: usize, form: u8, j: usize, out: &mut [u8; 120], at: usi
     let mark = mark_of(look(&s[k..]));
     let f = narrowed(form, j, mark);
     if f > 69 {
-        return Arg::Not(k);
+        return Err(k);
     }
     if mark == 1 {
         return register(s, k + 1, f, out, at);
@@ -74,10 +66,10 @@ fn form_end(s: &[u8], k: usize, form: u8, out: &mut [u8; 120], to: usize) -> Tol
     ensures { FormEnd (length s.now) k form out.old out.new to result }
 {
     if k < s.len() {
-        return Told::Wrong(k);
+        return Err(k);
     }
     out[1] = form;
-    Told::Frame(to)
+    Ok(to)
 }
 
 // The arguments of a form or of another of its mnemonic, the first at k.
@@ -90,22 +82,16 @@ pub fn arguments(s: &[u8], k: usize, form: u8, out: &mut [u8; 120]) -> Told
     let mut i = k;
     let mut f = form;
     for j in 0..3 {
-        match argument(s, i, f, j, out, at) {
-            Arg::Ends(g, n, to) => {
-                if operand_count(g) == j + 1 {
-                    return form_end(s, n, g, out, to);
-                }
-                if look(&s[n..]) != b',' {
-                    return Told::Wrong(n);
-                }
-                i = n + 1;
-                f = g;
-                at = to;
-            }
-            Arg::Not(n) => {
-                return Told::Wrong(n);
-            }
+        let (g, n, to) = argument(s, i, f, j, out, at)?;
+        if operand_count(g) == j + 1 {
+            return form_end(s, n, g, out, to);
         }
+        if look(&s[n..]) != b',' {
+            return Err(n);
+        }
+        i = n + 1;
+        f = g;
+        at = to;
     }
-    Told::Wrong(k)
+    Err(k)
 }

@@ -5,6 +5,7 @@ use mathlib.Core.Bool.{Bool, true, false, ◌&&◌}
 use Prim.Native.Nat.{ℕ, suc}
 use native.Mathlib.Omega.{arith}
 use lib.IntN.{ℤ}
+use Rattle.std.specs.Prelude.{Err, Result}
 use Rattle.laws.proofs.Tests.{false_true}
 use Rattle.rules.specs.declared.Refusal.{Refusal}
 use Rattle.rules.specs.Answers.{Judged, ok, no, Check, ◌>>=◌, ◌>>◌, is_ok}
@@ -13,38 +14,19 @@ use Rattle.rules.specs.Names.{Entry, placed}
 use Rattle.rules.specs.Judging.{no_name_twice, positions_fit, define_all, encode_all, names_of, judge, assembles}
 use Rattle.slots.specs.Slots.{Slots, program_of, Sound}
 use Rattle.slots.specs.Links.{contexts_read, Beside, Together}
-use Rattle.slots.specs.declared.Checked.{Checked}
-use Rattle.slots.specs.declared.Checked.TheVariants.{Refused}
 use Rattle.env.specs.Answers.{checked_as as env_checked_as}
 use Rattle.env.specs.Settling.{Settled}
 use Rattle.env.proofs.Programs.{length_program}
-use Rattle.slots.specs.declared.Checked.{Checked as Encoded}
-use Rattle.slots.specs.declared.Checked.TheVariants.{Passes as Encodes, Refused as Encoded-as-Refused}
 use Rattle.image.specs.Tables.{Tables, Ready}
 use Rattle.image.specs.Encoding.{checked_as, encode_slots}
-use Rattle.asm.specs.declared.Verdict.{Verdict}
-use Rattle.asm.specs.declared.Verdict.TheVariants.{Good, Refused as Bad}
 use Rattle.asm.specs.Assembling.{names_judged, InPlace, Once, Filled, Prepared}
 use Rattle.asm.specs.Verdicts.{verdict_as, JudgedAs}
 use Rattle.asm.proofs.Passing.{refused_is, defined_last, names_are, positions_rise, says_of}
 
 -- an answer of the encoding pass, as a verdict
-verdict_of : Encoded → Verdict
-verdict_of Encodes = Good
-verdict_of (Encoded-as-Refused r) = Bad r
-
-same_verdict : {A : Type 0} (x : Judged A) → verdict_of (checked_as x) ≡ verdict_as x
-unfolding verdict_of
-same_verdict (ok a) = refl
-same_verdict (no r) = refl
-
-pub passes_verdict : {A : Type 0} (x : Judged A) {r : Encoded} → r ≡ checked_as x → r ≡ Encodes → Good ≡ verdict_as x
-unfolding verdict_of
-passes_verdict x e f = ap verdict_of (sym f ∙ e) ∙ same_verdict x
-
-pub refused_verdict : {A : Type 0} (x : Judged A) {r : Encoded} {q : Refusal} → r ≡ checked_as x → r ≡ Encoded-as-Refused q → Bad q ≡ verdict_as x
-unfolding verdict_of
-refused_verdict x e f = ap verdict_of (sym f ∙ e) ∙ same_verdict x
+pub as_verdict : {A : Type 0} (x : Judged A) → checked_as x ≡ verdict_as x
+as_verdict (ok a) = refl
+as_verdict (no r) = refl
 
 -- ---- judging is naming, then encoding
 
@@ -91,7 +73,7 @@ module _ (t : Slots) (links : List ℕ) (values : List ℤ) (positions : List �
         low = λ i l. rw (f.place i l) (f.low i l);
       }
 
-  pub judged_refused : (r : Checked) (q : Refusal) → Prepared t links values positions r → r ≡ Refused q → JudgedAs held (Bad q)
+  pub judged_refused : (r : Result (Unit {0}) Refusal) (q : Refusal) → Prepared t links values positions r → r ≡ Err q → JudgedAs held (Err q)
   judged_refused r q h e =
       let n = judge_refused (program_of t) q (refused_is (names_judged (program_of t)) q (sym e ∙ h.answer)) in
       record {
@@ -100,7 +82,7 @@ module _ (t : Slots) (links : List ℕ) (values : List ℤ) (positions : List �
         encodes = λ z. absurd (let w : ◌≡◌ {A = ℕ} 0 1 = cc in omega arith);
       }
 
-  pub judged_last : (v : Verdict) → Sound t → Together t → InPlace t → Filled t links values positions → v ≡ verdict_as (encode_slots held) → JudgedAs held v
+  pub judged_last : (v : Result (Unit {0}) Refusal) → Sound t → Together t → InPlace t → Filled t links values positions → v ≡ verdict_as (encode_slots held) → JudgedAs held v
   unfolding encode_slots
   judged_last v s g c f e =
       let n = judge_encodes (program_of t) (names_of (program_of t)) f.entries in

@@ -11,6 +11,7 @@ use lib.Dec.{leb, ltb}
 use lib.ListN.{length, get_or, drop, drop_of_length-le}
 use lib.Seq.{drop-cons}
 use borrow.Author.Tests.{leb-true, ltb-true, le-leb, lt-leb, lt-ltb}
+use Rattle.std.specs.Prelude.{None, Some}
 use Rattle.laws.proofs.Tests.{eq_or_not, lt_or_le, cond_true, cond_false, first_false, and_true, and_left, same_test}
 use Rattle.rules.specs.Answers.{at_place}
 use Rattle.rules.specs.Programs.{Placeℕ, Addressℕ, gone, bytes, words, Program, at, up_to, byte_count, kind_of}
@@ -24,7 +25,6 @@ use Rattle.slots.proofs.Slots.{size_instr, size_none, slot_data, written_frame, 
 use Rattle.slots.proofs.Tables.{bytes_frame}
 use Rattle.env.proofs.Programs.{length_program, at_program}
 use Rattle.env.proofs.Positions.{position_first, position_more}
-use Rattle.asm.specs.declared.Origin.TheVariants.{At, Nothing}
 use Rattle.asm.specs.Belonging.{origin_as, OriginIn, FoundAs}
 use Rattle.asm.proofs.OriginsBack.{origin_stems}
 
@@ -118,14 +118,14 @@ module _ (t : Slots) (h : Held t.frames t.starts t.count) (v : AreBytes t.frames
   found : (o : Option Source) → origin_from 0 0 p a ≡ o → FoundAs t a (origin_as o)
   found o e = record { answer = sym (ap origin_as e); inside = inside_of o e }
 
-  pub found_none : (i : Placeℕ) → t.count ≤ i → origin_from 0 0 p a ≡ from_place p a i → FoundAs t a Nothing
+  pub found_none : (i : Placeℕ) → t.count ≤ i → origin_from 0 0 p a ≡ from_place p a i → FoundAs t a None
   found_none i l e = found none (e ∙ from_end p a i (omega (arith, length_program t)))
 
   module _ (i : Placeℕ) (l : i < t.count) (q : Addressℕ) (n : ℕ) (at_q : q ≡ position p i) (size : n ≡ byte_count q (slot_at t i)) where
     tested : (b : Bool) → has q n a ≡ b → has (position p i) (size_in p i) a ≡ b
     tested b e = rw (← at_q, at_program t i l, ← size) e
 
-    pub found_here : origin_from 0 0 p a ≡ from_place p a i → has q n a ≡ true → FoundAs t a (At (at_place i) (a - q))
+    pub found_here : origin_from 0 0 p a ≡ from_place p a i → has q n a ≡ true → FoundAs t a (Some ((at_place i), (a - q)))
     found_here e b =
         let o : origin_from 0 0 p a ≡ some (record { place = i; offset = a - q }) =
         e ∙ from_here p a i (omega (arith, length_program t)) (tested true b) ∙ rw (← at_q) in

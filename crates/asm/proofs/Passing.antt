@@ -7,6 +7,7 @@ use lib.Dec.{leb}
 use lib.ListN.{length, get_or, drop}
 use lib.IntN.{ℤ}
 use borrow.Author.Tests.{leb-true}
+use Rattle.std.specs.Prelude.{Result, Err, Ok}
 use Rattle.rules.specs.declared.Refusal.{Refusal}
 use Rattle.rules.specs.declared.Refusal.TheVariants.{Back}
 use Rattle.rules.specs.Answers.{at_place, Judged, ok, no, ◌>>◌, check_each, judged_or}
@@ -16,8 +17,6 @@ use Rattle.rules.specs.Names.{Entry, placed, placed_from, enter}
 use Rattle.rules.specs.Judging.{settles, no_name_twice, positions_fit, define_all, names_of}
 use Rattle.rules.proofs.Laws.{next_ok, require_ok}
 use Rattle.slots.specs.Slots.{Slots, program_of, slot_at}
-use Rattle.slots.specs.declared.Checked.{Checked}
-use Rattle.slots.specs.declared.Checked.TheVariants.{Passes, Refused}
 use Rattle.env.specs.Answers.{checked_as}
 use Rattle.expression.specs.Environment.{entries_of}
 use Rattle.expression.proofs.Links.{links_say}
@@ -30,11 +29,11 @@ use Rattle.asm.specs.Assembling.{names_judged, Placed, InPlace, Once, Prepared}
 
 -- ---- what an answer says of its check
 
-pub refused_is : {A : Type 0} (x : Judged A) (q : Refusal) → Refused q ≡ checked_as x → x ≡ no q
+pub refused_is : {A : Type 0} (x : Judged A) (q : Refusal) → Err q ≡ checked_as x → x ≡ no q
 refused_is (ok a) q e = absurd (let z : ◌≡◌ {A = ℕ} 0 1 = cc in omega arith)
 refused_is (no r) q e = cc
 
-pub passed_is : {A : Type 0} (x : Judged A) → Passes ≡ checked_as x → (a : A) × (x ≡ ok a)
+pub passed_is : {A : Type 0} (x : Judged A) → (Ok tt) ≡ checked_as x → (a : A) × (x ≡ ok a)
 passed_is (ok a) e = (a, refl)
 passed_is (no r) e = absurd (let z : ◌≡◌ {A = ℕ} 0 1 = cc in omega arith)
 
@@ -74,19 +73,19 @@ positions_rise p u e j l = rises_from 0 0 0 p u e j l
 -- ---- the passes in their order
 
 module _ (p : Program) where
-  pub twice_refused : (q : Refusal) → Refused q ≡ checked_as (no_name_twice [] (placed p)) → names_judged p ≡ no q
+  pub twice_refused : (q : Refusal) → Err q ≡ checked_as (no_name_twice [] (placed p)) → names_judged p ≡ no q
   unfolding names_judged ◌>>◌
   twice_refused q e = rw (refused_is (no_name_twice [] (placed p)) q e)
 
-  pub once_passes : Passes ≡ checked_as (no_name_twice [] (placed p)) → no_name_twice [] (placed p) ≡ ok tt
+  pub once_passes : (Ok tt) ≡ checked_as (no_name_twice [] (placed p)) → no_name_twice [] (placed p) ≡ ok tt
   once_passes e = (passed_is (no_name_twice [] (placed p)) e).1
 
   module _ (once : no_name_twice [] (placed p) ≡ ok tt) where
-    pub fit_refused : (q : Refusal) → Refused q ≡ checked_as (positions_fit (placed p)) → names_judged p ≡ no q
+    pub fit_refused : (q : Refusal) → Err q ≡ checked_as (positions_fit (placed p)) → names_judged p ≡ no q
     unfolding names_judged ◌>>◌
     fit_refused q e = rw (once, refused_is (positions_fit (placed p)) q e)
 
-    pub defined_last : Passes ≡ checked_as (positions_fit (placed p)) → names_judged p ≡ define_all [] (placed p)
+    pub defined_last : (Ok tt) ≡ checked_as (positions_fit (placed p)) → names_judged p ≡ define_all [] (placed p)
     unfolding names_judged ◌>>◌
     defined_last e = rw (once, (passed_is (positions_fit (placed p)) e).1)
 
@@ -120,15 +119,15 @@ unfolding names_of judged_or
 names_are p names e = rw e
 
 module _ (t : Slots) (links : List ℕ) (values : List ℤ) (positions : List ℕ) where
-  pub prepared_refused : (q : Refusal) → names_judged (program_of t) ≡ no q → Prepared t links values positions (Refused q)
+  pub prepared_refused : (q : Refusal) → names_judged (program_of t) ≡ no q → Prepared t links values positions (Err q)
   prepared_refused q e = record { answer = sym (ap checked_as e); filled = λ z. absurd (let w : ◌≡◌ {A = ℕ} 0 1 = cc in omega arith) }
 
-  pub prepared_last : (r s : Checked) (old : List ℕ) (before : List ℤ) → Beside t.frames t.starts t.count links → InPlace t
-      → Once t → s ≡ Passes → LaidOut t s old positions
-      → Defined t (names_now t) (contexts_read t.frames t.starts t.count) r before values → (r ≡ Passes → ShownTo t values t.count) → Prepared t links values positions r
+  pub prepared_last : (r s : Result (Unit {0}) Refusal) (old : List ℕ) (before : List ℤ) → Beside t.frames t.starts t.count links → InPlace t
+      → Once t → s ≡ Ok tt → LaidOut t s old positions
+      → Defined t (names_now t) (contexts_read t.frames t.starts t.count) r before values → (r ≡ Ok tt → ShownTo t values t.count) → Prepared t links values positions r
   prepared_last r s old before b c once fits laid defined shown =
       let p = program_of t in
-      let good : LaidOut t Passes old positions = rw fits at laid in
+      let good : LaidOut t (Ok tt) old positions = rw fits at laid in
       let last = defined_last p once good.answer in
       record {
         answer = defined.answer ∙ ap checked_as (sym last);

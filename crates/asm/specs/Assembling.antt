@@ -1,5 +1,6 @@
 -- The passes of document 01 over a program, up to the variables, and what they leave in the tables.
-use Rattle.std.specs.Prelude.{◌≡◌, List, [], ℕ, suc, ◌≤◌, ◌<◌, get_or, ℤ}
+use Rattle.rules.specs.declared.Refusal.{Refusal}
+use Rattle.std.specs.Prelude.{◌≡◌, List, [], ℕ, suc, ◌≤◌, ◌<◌, get_or, ℤ, Result, Ok}
 use Rattle.rules.specs.Answers.{Judged, ok, ◌>>◌}
 use Rattle.rules.specs.Programs.{Placeℕ, Program}
 use Rattle.rules.specs.Layout.{position}
@@ -7,8 +8,6 @@ use Rattle.rules.specs.Names.{Entry, context_at, placed}
 use Rattle.rules.specs.Judging.{no_name_twice, positions_fit, define_all, names_of}
 use Rattle.slots.specs.Slots.{Slots, gone_form, program_of}
 use Rattle.slots.specs.Links.{contexts_read, Says}
-use Rattle.slots.specs.declared.Checked.{Checked}
-use Rattle.slots.specs.declared.Checked.TheVariants.{Passes}
 use Rattle.env.specs.Answers.{checked_as}
 
 -- "then 3, then 5 and 6, then variables (4, 7)": the names of a program, or the first refusal
@@ -42,6 +41,6 @@ pub record Filled (t : Slots) (links : List ℕ) (values : List ℤ) (positions 
   pub low : (i : Placeℕ) → i ≤ t.count → position (program_of t) i ≤ 65536
   pub rises : (i : Placeℕ) → i < t.count → position (program_of t) i ≤ position (program_of t) (suc i)
 
-pub record Prepared (t : Slots) (links : List ℕ) (values : List ℤ) (positions : List ℕ) (r : Checked) : Type 0 where
+pub record Prepared (t : Slots) (links : List ℕ) (values : List ℤ) (positions : List ℕ) (r : Result (Unit {0}) Refusal) : Type 0 where
   pub answer : r ≡ checked_as (names_judged (program_of t))
-  pub filled : r ≡ Passes → Filled t links values positions
+  pub filled : r ≡ Ok tt → Filled t links values positions

@@ -12,7 +12,7 @@ ghost use Rattle.slots.specs.State.{starts_in, table_of};
 use env::settle_all;
 use image::{encode_all, encodes_at};
 use rules::Place;
-use slots::{Checked, State};
+use slots::State;
 
 // Whether all statements encode. The one at the hint is looked at first.
 fn encodes_all(
@@ -32,10 +32,7 @@ fn encodes_all(
         result ≡ is_ok (encode_slots d) }
 {
     encodes_at(frames, state, count, links, values, positions, hint)
-        && matches!(
-            encode_all(frames, state, count, links, values, positions),
-            Checked::Passes
-        )
+        && encode_all(frames, state, count, links, values, positions).is_ok()
 }
 
 // Whether the program assembles, and where it does, its positions. It looks first where it is likely to fail: at the statement that a

@@ -11,19 +11,4 @@ pub use candidates::assembles;
 pub use judging::{judge, judge_linked};
 pub use names::lay_and_define;
 pub use origins::{address_of, origin_of};
-use rules::{Place, Refusal};
 pub use start::start_state;
-
-// The program assembles, or the first refusal.
-#[derive(Clone, Copy)]
-pub enum Verdict {
-    Good,
-    Refused(Refusal),
-}
-
-// Where a byte stems from: an offset of the statement at a place; or no statement has it.
-#[derive(Clone, Copy)]
-pub enum Origin {
-    At(Place, usize),
-    Nothing,
-}

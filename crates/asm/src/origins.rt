@@ -6,7 +6,6 @@ ghost use Rattle.env.specs.Tables.{Any};
 ghost use Rattle.asm.specs.Belonging.{FoundAs};
 ghost use Rattle.slots.specs.State.{starts_in, forms_in};
 
-use crate::Origin;
 use rules::{Address, Place};
 use slots::{State, size_at};
 
@@ -17,14 +16,14 @@ fn has_byte(from: Address, size: usize, address: Address) -> bool
     from.0 <= address.0 && address.0 - from.0 < size
 }
 
-// The statement that has the byte at an address, and the byte's place in it. `positions` are those of the slots.
+// The statement that has the byte at an address, and the byte's place in it; or no statement has it. `positions` are those of the slots.
 pub fn origin_of(
     frames: &[u8],
     state: &State,
     count: usize,
     positions: &[u32; 1025],
     address: Address,
-) -> Origin
+) -> Option<(Place, usize)>
     requires { Held frames.now (starts_in state.now) count
         × Any frames.now (starts_in state.now) count (forms_in state.now) (λ t. Positioned t positions.now) }
     ensures { Any frames.now (starts_in state.now) count (forms_in state.now) (λ t. FoundAs t
@@ -34,10 +33,10 @@ pub fn origin_of(
         let from = Address(positions[i] as usize);
         let size = size_at(frames, state, count, Place(i), from);
         if has_byte(from, size, address) {
-            return Origin::At(Place(i), address.0 - from.0);
+            return Some((Place(i), address.0 - from.0));
         }
     }
-    Origin::Nothing
+    None
 }
 
 // The address of the byte at an offset of the statement at a place, in the program that has these positions.

@@ -9,6 +9,7 @@ use native.Mathlib.Omega.{arith}
 use lib.Dec.{eqb, leb, ltb}
 use lib.ListN.{length, get_or, set, replicate}
 use borrow.Author.Tests.{lt-ltb, le-ltb, le-leb, lt-leb, eq-eqb, ne_eqb}
+use Rattle.std.specs.Prelude.{Option, None, Some}
 use Rattle.laws.specs.Counts.{all_to}
 use Rattle.laws.proofs.Tests.{eq_or_not, lt_or_le}
 use Rattle.laws.proofs.Stores.{Set, here, there, set_view}
@@ -16,8 +17,6 @@ use Rattle.rules.specs.declared.Place.{Place}
 use Rattle.rules.specs.Programs.{Placeℕ}
 use Rattle.rules.specs.Rewriting.{no_interior_label_at}
 use Rattle.slots.specs.Slots.{Slots, program_of, Sound}
-use Rattle.patterns.specs.declared.InnerLabel.{InnerLabel}
-use Rattle.patterns.specs.declared.InnerLabel.TheVariants.{Of, Nothing}
 use Rattle.patterns.specs.Labels.{label_at, of_label, OwnerIn}
 use Rattle.patterns.proofs.InnerLabels.{labels_by}
 use Rattle.attempts.specs.Deepest.{depth_of, wanted_of, deepest_to, Deepest}
@@ -25,7 +24,7 @@ use Rattle.attempts.specs.Deepest.{depth_of, wanted_of, deepest_to, Deepest}
 -- ---- the test
 
 -- not of offset 1 or more in the run right before place i
-abbrev passes : (i : Placeℕ) → InnerLabel → Bool
+abbrev passes : (i : Placeℕ) → Option (Place × ℕ) → Bool
 passes i l = of_label (λ owner o. not (eqb owner i && leb 1 o)) l
 
 shallow : (o : ℕ) → ltb (depth_of o) 2 ≡ not (leb 1 o)
@@ -35,13 +34,13 @@ shallow o = on (lt_or_le o 1)
     on (inl l) = lt-ltb (depth_of o) 2 (omega arith) ∙ sym (ap not (lt-leb 1 o l))
     on (inr l) = le-ltb (depth_of o) 2 (omega arith) ∙ sym (ap not (le-leb 1 o l))
 
-label_passes : (i : Placeℕ) (l : InnerLabel) → ltb (wanted_of i l) 2 ≡ passes i l
-label_passes i (Of w o) = on (eqb w.0 i)
+label_passes : (i : Placeℕ) (l : Option (Place × ℕ)) → ltb (wanted_of i l) 2 ≡ passes i l
+label_passes i (Some (w, o)) = on (eqb w.0 i)
   where
     on : (b : Bool) → ltb (cond b (depth_of o) 0) 2 ≡ not (b && leb 1 o)
     on true = shallow o
     on false = refl
-label_passes i Nothing = refl
+label_passes i None = refl
 
 max_below : (a b k : ℕ) → ltb (max a b) k ≡ cond (ltb a k) (ltb b k) false
 max_below a b k = on (lt_or_le a k) (lt_or_le b k)
@@ -91,7 +90,7 @@ module _ (l : List ℕ) (w v : ℕ) where
       on (inr n) = rw (ne_eqb w i n) (omega arith)
 
 -- the same, by the label
-module _ (l : List ℕ) {x : InnerLabel} {w : Place} {o : ℕ} (v : ℕ) (e : x ≡ Of w o) (d : v ≡ depth_of o) where
+module _ (l : List ℕ) {x : Option (Place × ℕ)} {w : Place} {o : ℕ} (v : ℕ) (e : x ≡ Some (w, o)) (d : v ≡ depth_of o) where
   wants : (i : ℕ) → max (get_or l i 0) (cond (eqb w.0 i) v 0) ≡ max (get_or l i 0) (wanted_of i x)
   wants i = ap (λ (n : ℕ). max (get_or l i 0) n) (ap (λ (n : ℕ). cond (eqb w.0 i) n 0) d ∙ sym (ap (wanted_of i) e))
 
@@ -101,9 +100,9 @@ module _ (l : List ℕ) {x : InnerLabel} {w : Place} {o : ℕ} (v : ℕ) (e : x 
   pub not_stored : v ≤ get_or l w.0 0 → (i : ℕ) → get_or l i 0 ≡ max (get_or l i 0) (wanted_of i x)
   not_stored m i = not_deeper l w.0 v m i ∙ wants i
 
-pub no_label : (l : List ℕ) (x : InnerLabel) → x ≡ Nothing → (i : ℕ) → get_or l i 0 ≡ max (get_or l i 0) (wanted_of i x)
+pub no_label : (l : List ℕ) (x : Option (Place × ℕ)) → x ≡ None → (i : ℕ) → get_or l i 0 ≡ max (get_or l i 0) (wanted_of i x)
 no_label l x e i = let z : get_or l i 0 ≡ max (get_or l i 0) 0 = omega arith in z ∙ ap (λ (n : ℕ). max (get_or l i 0) n) (sym (ap (wanted_of i) e))
 
-pub owner_within : (n : ℕ) (l : InnerLabel) → n ≤ 1024 → OwnerIn n l → OwnerIn 1024 l
-owner_within n (Of w o) h m = omega arith
-owner_within n Nothing h m = tt
+pub owner_within : (n : ℕ) (l : Option (Place × ℕ)) → n ≤ 1024 → OwnerIn n l → OwnerIn 1024 l
+owner_within n (Some (w, o)) h m = omega arith
+owner_within n None h m = tt

@@ -2,29 +2,26 @@
 use mathlib.Core.Path.{◌≡◌, sym, subst}
 use mathlib.Core.Option.{none}
 use Prim.Native.Nat.{ℕ}
+use Rattle.std.specs.Prelude.{None, Some, Option}
 use Rattle.rules.specs.declared.Place.{Place}
 use Rattle.rules.specs.Rewriting.{candidate, inverted_at, trampoline_at}
 use Rattle.slots.specs.Slots.{Slots, program_of, Agree}
-use Rattle.patterns.specs.declared.Inverted.{Inverted}
-use Rattle.patterns.specs.declared.Inverted.TheVariants.{At as Inverted-as-At, Nothing as Inverted-as-Nothing}
-use Rattle.patterns.specs.declared.Trampoline.{Trampoline}
-use Rattle.patterns.specs.declared.Trampoline.TheVariants.{At as Trampoline-as-At, Nothing as Trampoline-as-Nothing}
 use Rattle.patterns.specs.Matches.{InvertedFound, InvertedIs, TrampolineFound, TrampolineIs}
 use Rattle.attempts.specs.Folds.{inverted, bounced, Inverts, Bounces}
 
 module _ (t : Slots) (f i : ℕ) where
   -- ---- the code's answers, by the case that they are
 
-  pub inverted_found : {r : Inverted} {j m : Place} → r ≡ Inverted-as-At j m → InvertedIs t f i r → InvertedFound t f i j.0 m.0
+  pub inverted_found : {r : Option (Place × Place)} {j m : Place} → r ≡ Some (j, m) → InvertedIs t f i r → InvertedFound t f i j.0 m.0
   inverted_found e h = subst (InvertedIs t f i) e h
 
-  pub inverted_none : {r : Inverted} → r ≡ Inverted-as-Nothing → InvertedIs t f i r → (to : ℕ) → inverted_at f to (program_of t) i ≡ none
+  pub inverted_none : {r : Option (Place × Place)} → r ≡ None → InvertedIs t f i r → (to : ℕ) → inverted_at f to (program_of t) i ≡ none
   inverted_none e h = subst (InvertedIs t f i) e h
 
-  pub trampoline_found : {r : Trampoline} {a b c d : Place} → r ≡ Trampoline-as-At a b c d → TrampolineIs t f i r → TrampolineFound t f i a.0 b.0 c.0 d.0
+  pub trampoline_found : {r : Option (Place × Place × Place × Place)} {a b c d : Place} → r ≡ Some (a, b, c, d) → TrampolineIs t f i r → TrampolineFound t f i a.0 b.0 c.0 d.0
   trampoline_found e h = subst (TrampolineIs t f i) e h
 
-  pub trampoline_none : {r : Trampoline} → r ≡ Trampoline-as-Nothing → TrampolineIs t f i r → trampoline_at f (program_of t) i ≡ none
+  pub trampoline_none : {r : Option (Place × Place × Place × Place)} → r ≡ None → TrampolineIs t f i r → trampoline_at f (program_of t) i ≡ none
   trampoline_none e h = subst (TrampolineIs t f i) e h
 
   -- ---- inverted

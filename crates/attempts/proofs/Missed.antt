@@ -10,6 +10,9 @@ use lib.IntN.{ℤ, pos}
 use lib.ListN.{length, get_or, set}
 use lib.Seq.{get_or-set_same}
 use borrow.Author.Tests.{le-ltb}
+use Rattle.rules.specs.declared.Unvalued.TheVariants.{Unknown, Nothing}
+use Rattle.rules.specs.declared.Unvalued.{Unvalued}
+use Rattle.std.specs.Prelude.{Result, Err, Ok}
 use Rattle.laws.specs.Options.{given}
 use Rattle.laws.proofs.Tests.{clash, true_false, and_both}
 use Rattle.laws.proofs.Options.{given_false}
@@ -17,9 +20,7 @@ use Rattle.rules.specs.declared.Kind.{Kind}
 use Rattle.rules.specs.declared.Kind.TheVariants.{Reg, I8, D9, Bit, Rel8, A12, A16, Rel16}
 use Rattle.rules.specs.declared.Op1.{Op1}
 use Rattle.rules.specs.declared.Op2.{Op2}
-use Rattle.rules.specs.declared.Outcome.{Outcome}
 use Rattle.rules.specs.declared.Refusal.{Refusal}
-use Rattle.rules.specs.declared.Outcome.TheVariants.{Is, Unknown, Nothing}
 use Rattle.rules.specs.Answers.{Judged, ok, no, is_ok, judged_or}
 use Rattle.rules.specs.Expressions.{Expr, num, name, two, one, with1, with2, eval_tree}
 use Rattle.rules.specs.Values.{in_range}
@@ -48,31 +49,31 @@ use Rattle.attempts.proofs.Attempts.{Holding, formed_holds, counts_not}
 
 -- ---- a value that needs no name
 
-one_fixed : (o : Op1) (x y : Outcome) (z : ℤ) → ((a : ℤ) → x ≡ Is a → y ≡ Is a) → with1 o x ≡ Is z → with1 o y ≡ Is z
-one_fixed o (Is a) y z f h = rw (f a refl) h
-one_fixed o Unknown y z f h = clash (cc)
-one_fixed o Nothing y z f h = clash (cc)
+one_fixed : (o : Op1) (x y : Result ℤ Unvalued) (z : ℤ) → ((a : ℤ) → x ≡ Ok a → y ≡ Ok a) → with1 o x ≡ Ok z → with1 o y ≡ Ok z
+one_fixed o (Ok a) y z f h = rw (f a refl) h
+one_fixed o (Err Unknown) y z f h = clash (cc)
+one_fixed o (Err Nothing) y z f h = clash (cc)
 
-two_fixed : (o : Op2) (x y x' y' : Outcome) (z : ℤ) → ((a : ℤ) → x ≡ Is a → x' ≡ Is a) → ((b : ℤ) → y ≡ Is b → y' ≡ Is b)
-    → with2 o x y ≡ Is z → with2 o x' y' ≡ Is z
-two_fixed o (Is a) (Is b) x' y' z f g h = rw (f a refl, g b refl) h
-two_fixed o (Is a) Unknown x' y' z f g h = clash (cc)
-two_fixed o (Is a) Nothing x' y' z f g h = clash (cc)
-two_fixed o Unknown y x' y' z f g h = clash (cc)
-two_fixed o Nothing y x' y' z f g h = clash (cc)
+two_fixed : (o : Op2) (x y x' y' : Result ℤ Unvalued) (z : ℤ) → ((a : ℤ) → x ≡ Ok a → x' ≡ Ok a) → ((b : ℤ) → y ≡ Ok b → y' ≡ Ok b)
+    → with2 o x y ≡ Ok z → with2 o x' y' ≡ Ok z
+two_fixed o (Ok a) (Ok b) x' y' z f g h = rw (f a refl, g b refl) h
+two_fixed o (Ok a) (Err Unknown) x' y' z f g h = clash (cc)
+two_fixed o (Ok a) (Err Nothing) x' y' z f g h = clash (cc)
+two_fixed o (Err Unknown) y x' y' z f g h = clash (cc)
+two_fixed o (Err Nothing) y x' y' z f g h = clash (cc)
 
-pub tree_fixed : (env : ℕ → Outcome) (e : Expr) (z : ℤ) → eval_tree (λ n. Unknown) e ≡ Is z → eval_tree env e ≡ Is z
+pub tree_fixed : (env : ℕ → Result ℤ Unvalued) (e : Expr) (z : ℤ) → eval_tree (λ n. (Err Unknown)) e ≡ Ok z → eval_tree env e ≡ Ok z
 unfolding eval_tree
 tree_fixed env (num a) z h = h
 tree_fixed env (name n) z h = clash (cc)
 tree_fixed env (two o e d) z h =
-    two_fixed o (eval_tree (λ n. Unknown) e) (eval_tree (λ n. Unknown) d) (eval_tree env e) (eval_tree env d) z (tree_fixed env e) (tree_fixed env d) h
-tree_fixed env (one o e) z h = one_fixed o (eval_tree (λ n. Unknown) e) (eval_tree env e) z (tree_fixed env e) h
+    two_fixed o (eval_tree (λ n. (Err Unknown)) e) (eval_tree (λ n. (Err Unknown)) d) (eval_tree env e) (eval_tree env d) z (tree_fixed env e) (tree_fixed env d) h
+tree_fixed env (one o e) z h = one_fixed o (eval_tree (λ n. (Err Unknown)) e) (eval_tree env e) z (tree_fixed env e) h
 
 -- by no place below 0 is any name known
-pub none_linked : (s links : List ℕ) (values : List ℤ) → Linked (λ m. Unknown) s links values 0
+pub none_linked : (s links : List ℕ) (values : List ℤ) → Linked (λ m. (Err Unknown)) s links values 0
 none_linked s links values =
-    record { name = λ j l q. ap (λ (b : Bool). cond b (unless_gone (in_range (get_or values (get_or links j 0) (pos 0)))) Unknown) (le-ltb (get_or links j 0) 0 (omega arith)) }
+    record { name = λ j l q. ap (λ (b : Bool). cond b (unless_gone (in_range (get_or values (get_or links j 0) (pos 0)))) (Err Unknown)) (le-ltb (get_or links j 0) 0 (omega arith)) }
 
 -- ---- a field that is refused
 

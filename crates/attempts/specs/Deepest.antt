@@ -1,9 +1,8 @@
 -- How deep the inner labels reach into each slot: one more than the largest offset that is wanted there.
-use Rattle.std.specs.Prelude.{◌≡◌, List, cond, ℕ, zero, suc, ◌+◌, ◌<◌, min, max, eqb, get_or}
+use Rattle.rules.specs.declared.Place.{Place}
+use Rattle.std.specs.Prelude.{◌≡◌, List, cond, ℕ, zero, suc, ◌+◌, ◌<◌, min, max, eqb, get_or, Option, None, Some}
 use Rattle.rules.specs.Programs.{Placeℕ}
 use Rattle.slots.specs.Slots.{Slots}
-use Rattle.patterns.specs.declared.InnerLabel.{InnerLabel}
-use Rattle.patterns.specs.declared.InnerLabel.TheVariants.{Of, Nothing}
 use Rattle.patterns.specs.Labels.{label_at}
 
 -- one more than an offset. An offset has 16 bits, so the limit cuts none
@@ -11,9 +10,9 @@ abbrev pub depth_of : (o : ℕ) → ℕ
 depth_of o = min (o + 1) 65536
 
 -- what a label wants of slot i: nothing, where another slot is its owner
-abbrev pub wanted_of : (i : Placeℕ) → InnerLabel → ℕ
-wanted_of i (Of owner o) = cond (eqb owner.0 i) (depth_of o) 0
-wanted_of i Nothing = 0
+abbrev pub wanted_of : (i : Placeℕ) → Option (Place × ℕ) → ℕ
+wanted_of i (Some (owner, o)) = cond (eqb owner.0 i) (depth_of o) 0
+wanted_of i None = 0
 
 -- the most that the labels of the first n slots want of slot i; 0 where none wants it
 unfoldable pub deepest_to : Slots → (i : Placeℕ) (n : ℕ) → ℕ

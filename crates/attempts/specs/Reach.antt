@@ -1,7 +1,6 @@
 -- A target that is worth the same in every candidate, and a form that cannot have it.
-use Rattle.std.specs.Prelude.{◌≡◌, false, List, ℕ, ◌+◌, ℤ, get_or}
+use Rattle.std.specs.Prelude.{◌≡◌, false, List, ℕ, ◌+◌, ℤ, get_or, Ok}
 use Rattle.rules.specs.declared.Kind.TheVariants.{Reg}
-use Rattle.rules.specs.declared.Outcome.TheVariants.{Is}
 use Rattle.rules.specs.Answers.{is_ok}
 use Rattle.rules.specs.Forms.{operands_at, size_at}
 use Rattle.rules.specs.Programs.{Placeℕ, Addressℕ, Program}
@@ -12,7 +11,7 @@ use Rattle.image.specs.Encoding.{field_of}
 
 -- the target that was written at place c is worth z, whatever names stand for and wherever statements lie
 abbrev pub FixedAt : Slots → (c : Placeℕ) (z : ℤ) → Type 0
-FixedAt t c z = (names : List Entry) (p : Program) (k : ℕ) → worth_of names p k (target_of t c) ≡ Is z
+FixedAt t c z = (names : List Entry) (p : Program) (k : ℕ) → worth_of names p k (target_of t c) ≡ Ok z
 
 -- form f at q refuses the target that slot i carries, in every program
 abbrev pub OutOfReach : Slots → (q : Addressℕ) (f : ℕ) (i : Placeℕ) → Type 0

@@ -5,7 +5,6 @@ ghost use Rattle.patterns.specs.Labels.{OwnerIn};
 ghost use Rattle.attempts.specs.Deepest.{depth_of, wanted_of, Deepest};
 ghost use Rattle.slots.specs.State.{table_of};
 
-use patterns::InnerLabel;
 use patterns::labels::inner_label_at;
 use rules::Place;
 use slots::State;
@@ -18,12 +17,12 @@ fn depth(offset: usize) -> u32
 }
 
 // What a label wants of its owner's slot, if that is more than what is wanted there.
-fn store_deeper(deepest: &mut [u32; 1024], label: InnerLabel)
+fn store_deeper(deepest: &mut [u32; 1024], label: Option<(Place, usize)>)
     requires { (length deepest.old ≡ 1024) × OwnerIn 1024 label }
     ensures room { length deepest.new ≡ 1024 }
     ensures stored { (i : ℕ) → get_or deepest.new i 0 ≡ max (get_or deepest.old i 0) (wanted_of i label) }
 {
-    if let InnerLabel::Of(owner, offset) = label {
+    if let Some((owner, offset)) = label {
         deepest[owner.0] = deepest[owner.0].max(depth(offset));
     }
 }

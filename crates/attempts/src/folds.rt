@@ -11,7 +11,6 @@ ghost use Rattle.slots.specs.State.{starts_in, forms_in, carry_in, table_of, Kep
 
 use crate::accepting::acceptable;
 use patterns::shapes::{inverted_at, trampoline_at};
-use patterns::{Inverted, Trampoline};
 use rules::Place;
 use slots::{CARRY, GONE, State, form_in, put_carry, put_form};
 
@@ -120,7 +119,7 @@ pub fn try_inverted(
         let u : Slots = table_of frames.now state.new count in
         Tried (inverted_at from to (program_of t) at.0) t u result }
 {
-    let Inverted::At(jump, _) = inverted_at(frames, state, count, links, from, at) else {
+    let Some((jump, _)) = inverted_at(frames, state, count, links, from, at) else {
         return false;
     };
     attempt_inverted(frames, state, count, links, to, at, jump)
@@ -141,8 +140,7 @@ pub fn try_trampoline(
         let u : Slots = table_of frames.now state.new count in
         Tried (trampoline_at form (program_of t) at.0) t u result }
 {
-    let Trampoline::At(skip, target, last, _) = trampoline_at(frames, state, count, links, form, at)
-    else {
+    let Some((skip, target, last, _)) = trampoline_at(frames, state, count, links, form, at) else {
         return false;
     };
     attempt_trampoline(frames, state, count, links, at, skip, target, last)

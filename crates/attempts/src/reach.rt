@@ -1,6 +1,6 @@
 // Shorter forms that cannot reach their target, told before anything is laid out: a target that holds no name is worth the same in every candidate, and
 // what stands before a changed place keeps its position.
-ghost use Rattle.std.specs.Prelude.{◌≡◌, true, false, List, [], ℕ, ◌+◌, ◌<◌, ℤ, length, get_or};
+ghost use Rattle.std.specs.Prelude.{◌≡◌, true, false, List, [], ℕ, ◌+◌, ◌<◌, ℤ, length, get_or, Ok};
 ghost use Rattle.rules.specs.declared.Kind.TheVariants.{Reg};
 ghost use Rattle.rules.specs.Answers.{is_ok};
 ghost use Rattle.rules.specs.Encoding.{field};
@@ -10,11 +10,11 @@ ghost use Rattle.slots.specs.Slots.{slots, WroteTarget};
 ghost use Rattle.attempts.specs.Reach.{FixedAt, OutOfReach};
 ghost use Rattle.slots.specs.State.{starts_in, carry_in, owners_in};
 
-use encoding::operands::{Field, field_of};
+use encoding::operands::field_of;
 use expression::linked_worth;
-use instruction::tables::{Operand, operand_kind, size};
+use instruction::tables::{operand_kind, size};
 use patterns::targets::{target_in, target_links};
-use rules::{Address, Outcome, Place};
+use rules::{Address, Place, Unvalued};
 use slots::{CARRY, NO_OWNER, State, owner_at};
 
 // The value of the target that was written at place c, where it is the same whatever names stand for and wherever statements lie: by no place below 0
@@ -26,16 +26,16 @@ fn fixed_target(
     links: &[u16; 28672],
     values: &[i64; 1024],
     c: Place,
-) -> Outcome
+) -> Result<i32, Unvalued>
     requires { Held frames.now (starts_in state.now) count × WroteTarget (slots frames.now (starts_in state.now) count [] []
         (owners_in state.now) []) c.0
         × (length links.now ≡ 28672) }
-    ensures { (z : ℤ) → result ≡ Outcome.Is z → (forms carry offsets : List ℕ)
+    ensures { (z : ℤ) → result ≡ Ok z → (forms carry offsets : List ℕ)
         → FixedAt (slots frames.now (starts_in state.now) count forms carry (owners_in
         state.now) offsets) c.0 z }
 {
     if owner_at(state, c) < NO_OWNER {
-        return Outcome::Unknown;
+        return Err(Unvalued::Unknown);
     }
     linked_worth(
         target_in(frames, state, count, c),
@@ -55,8 +55,8 @@ fn refuses(at: Place, position: u32, form: u8, v: i32) -> bool
         return false;
     }
     match operand_kind(form, 0) {
-        Operand::Is(kind) => matches!(field_of(at, 0, Address(n), kind, v), Field::Refused(_)),
-        Operand::Nothing => false,
+        Some(kind) => field_of(at, 0, Address(n), kind, v).is_err(),
+        None => false,
     }
 }
 
@@ -82,8 +82,7 @@ pub fn misses(
 {
     let written = Place(usize::from(state[CARRY][at.0]));
     match fixed_target(frames, state, count, links, values, written) {
-        Outcome::Is(v) => refuses(at, positions[at.0], form, v),
-        Outcome::Unknown => false,
-        Outcome::Nothing => false,
+        Ok(v) => refuses(at, positions[at.0], form, v),
+        Err(_) => false,
     }
 }

@@ -1,5 +1,8 @@
 -- A finding as the code holds it.
-use Rattle.std.specs.Prelude.{List, [], ℕ}
+use Rattle.rules.specs.declared.Refusal.{Refusal}
+use Rattle.audit.specs.declared.Finding.{Finding as Found}
+use Rattle.audit.specs.declared.Finding.TheVariants.{Differs, Short, Same, Long}
+use Rattle.std.specs.Prelude.{List, [], ℕ, Ok, Err, Result}
 use Rattle.laws.specs.Lists.{total}
 use Rattle.rules.specs.declared.Address.{Address}
 use Rattle.rules.specs.declared.Settings.{Settings}
@@ -9,8 +12,6 @@ use Rattle.rules.specs.Layout.{origin_from}
 use Rattle.rules.specs.Judging.{judge}
 use Rattle.rules.specs.Rewriting.{chain, instr_bytes}
 use Rattle.asm.specs.Belonging.{origin_as}
-use Rattle.audit.specs.declared.Found.{Found}
-use Rattle.audit.specs.declared.Found.TheVariants.{Same, Differs, Short, Long, Refused}
 use Rattle.audit.specs.Audit.{Finding, same, differs, short, long, held}
 
 abbrev pub at_address : ℕ → Address
@@ -22,9 +23,9 @@ finding_as (differs a x y o) = Differs (at_address a) x y (origin_as o)
 finding_as (short a o) = Short (at_address a) (origin_as o)
 finding_as (long a) = Long (at_address a)
 
-abbrev pub audit_as : Judged Finding → Found
-audit_as (ok f) = finding_as f
-audit_as (no r) = Refused r
+abbrev pub audit_as : Judged Finding → Result Found Refusal
+audit_as (ok f) = Ok (finding_as f)
+audit_as (no r) = Err r
 
 -- the image of an end form, which assembles
 unfoldable pub end_image : Program → List ℕ

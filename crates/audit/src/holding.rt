@@ -1,5 +1,5 @@
 // An end form is assembled, and its image is held against the shipped one.
-ghost use Rattle.std.specs.Prelude.{◌≡◌, true};
+ghost use Rattle.std.specs.Prelude.{◌≡◌, true, Ok};
 ghost use Rattle.rules.specs.Judging.{assembles};
 ghost use Rattle.rules.specs.Layout.{origin_from};
 ghost use Rattle.listing.specs.Tables.{Held};
@@ -14,11 +14,11 @@ ghost use Rattle.finishing.specs.Ending.{Assembled};
 ghost use Rattle.audit.specs.Audit.{held};
 ghost use Rattle.audit.specs.Held.{finding_as, end_image};
 
-use crate::Found;
+use crate::Finding;
 use crate::comparing::count_alike;
-use asm::{Verdict, judge_linked, origin_of};
+use asm::{judge_linked, origin_of};
 use image::{image_length, write_image};
-use rules::Address;
+use rules::{Address, Refusal};
 use slots::State;
 
 // The finding on two images. `positions` are those of the slots, in which the wanted one's bytes have their origins.
@@ -29,7 +29,7 @@ fn hold(
     positions: &[u32; 1025],
     wanted: &[u8],
     shipped: &[u8],
-) -> Found
+) -> Finding
     requires { Held frames.now (starts_in state.now) count
         × Any frames.now (starts_in state.now) count (forms_in state.now) (λ t. Positioned t positions.now) }
     ensures { Any frames.now (starts_in state.now) count (forms_in state.now)
@@ -39,14 +39,14 @@ fn hold(
     if a < wanted.len() {
         let origin = origin_of(frames, state, count, positions, Address(a));
         if a < shipped.len() {
-            return Found::Differs(Address(a), wanted[a], shipped[a], origin);
+            return Finding::Differs(Address(a), wanted[a], shipped[a], origin);
         }
-        return Found::Short(Address(a), origin);
+        return Finding::Short(Address(a), origin);
     }
     if a < shipped.len() {
-        return Found::Long(Address(a));
+        return Finding::Long(Address(a));
     }
-    Found::Same
+    Finding::Same
 }
 
 // Writes the image of slots that were judged good.
@@ -58,7 +58,7 @@ fn hold_judged(
     values: &[i64; 1024],
     positions: &[u32; 1025],
     shipped: &[u8],
-) -> Found
+) -> Finding
     requires { let d : Tables = tables_of frames.now state.now count
         links.now values.now positions.now in
         Assembled d }
@@ -79,16 +79,14 @@ pub fn hold_end(
     count: usize,
     links: &[u16; 28672],
     shipped: &[u8],
-) -> Found
+) -> Result<Finding, Refusal>
     requires { let t : Slots = table_of frames.now state.now count in
         Standing t × (assembles (program_of t) ≡ true) × Beside frames.now (starts_in state.now) count links.now }
     ensures { let t : Slots = table_of frames.now state.now count in
-        result ≡ finding_as (held (origin_from 0 0 (program_of t)) (end_image (program_of t)) shipped.now) }
+        result ≡ Ok (finding_as (held (origin_from 0 0 (program_of t)) (end_image (program_of t)) shipped.now)) }
 {
     let mut positions = [0u32; 1025];
     let mut values = [0i64; 1024];
-    match judge_linked(frames, state, count, links, &mut positions, &mut values) {
-        Verdict::Refused(r) => Found::Refused(r),
-        Verdict::Good => hold_judged(frames, state, count, links, &values, &positions, shipped),
-    }
+    judge_linked(frames, state, count, links, &mut positions, &mut values)?;
+    Ok(hold_judged(frames, state, count, links, &values, &positions, shipped))
 }

@@ -4,8 +4,8 @@ use mathlib.Core.Path.{◌≡◌, sym, ◌∙◌, ap, subst}
 use mathlib.Core.List.{List}
 use Prim.Native.Nat.{ℕ}
 use lib.ListN.{length, take}
+use Rattle.std.specs.Prelude.{Err, Ok}
 use Rattle.rules.specs.declared.Settings.{Settings}
-use Rattle.rules.specs.declared.Answer.TheVariants.{Done, Refused}
 use Rattle.rules.specs.declared.Refusal.{Refusal}
 use Rattle.rules.specs.declared.Sizes.{Sizes}
 use Rattle.rules.specs.Run.{Output, output_of, rewritten}
@@ -19,8 +19,8 @@ use Rattle.believed.proofs.Named.{names_alike}
 use Rattle.believed.proofs.OwnCauses.{by_number}
 
 module _ (asked : Settings) (text listing image : List ℕ) where
-  -- read-back: `Done sizes` says that the front of the image room is read back so
-  pub read_back : (sizes : Sizes) (listing' image' : List ℕ) → Answered asked text listing image (Done sizes) listing' image'
+  -- read-back: `Ok sizes` says that the front of the image room is read back so
+  pub read_back : (sizes : Sizes) (listing' image' : List ℕ) → Answered asked text listing image (Ok sizes) listing' image'
       → ReadBack asked text (take sizes.image image')
   unfolding output_of
   read_back sizes listing' image' x =
@@ -42,8 +42,8 @@ module _ (asked : Settings) (text listing image : List ℕ) where
         named = names_alike asked a.program h;
       })
 
-  -- refused-by-number: `Refused r` says that r has the cause of its number, and that nothing else has one
-  pub refused_by_number : (r : Refusal) (listing' image' : List ℕ) → Answered asked text listing image (Refused r) listing' image'
+  -- refused-by-number: `Err r` says that r has the cause of its number, and that nothing else has one
+  pub refused_by_number : (r : Refusal) (listing' image' : List ℕ) → Answered asked text listing image (Err r) listing' image'
       → ByNumber text (RunShort asked text (length listing) (length image)) r
   refused_by_number r listing' image' x =
       by_number asked text (length listing) (length image) r (refused_by asked text listing image r listing' image' x)

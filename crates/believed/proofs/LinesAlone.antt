@@ -6,12 +6,13 @@ use Prim.Native.Nat.{ℕ, zero, suc, ◌+◌, ◌<◌, ◌^◌}
 use native.Mathlib.Omega.{arith}
 use lib.Dec.{T, leb}
 use lib.ListN.{length, get_or, length-append}
+use Rattle.rules.specs.declared.Refusal.{Refusal}
+use Rattle.rules.specs.declared.Sizes.{Sizes}
+use Rattle.std.specs.Prelude.{Err, Result, Ok}
 use Rattle.laws.specs.Lists.{each}
 use Rattle.laws.proofs.Tests.{true_false, false_true}
 use Rattle.rules.specs.declared.Settings.{Settings}
 use Rattle.rules.specs.declared.Refusal.TheVariants.{Room}
-use Rattle.rules.specs.declared.Answer.{Answer}
-use Rattle.rules.specs.declared.Answer.TheVariants.{Done, Refused}
 use Rattle.rules.specs.Answers.{Judged, ok, no, ◌>>=◌, ◌>>◌, require}
 use Rattle.rules.specs.Programs.{Placeℕ, instr, Program}
 use Rattle.rules.specs.Listing.{lines_of, ListingForm, old_form, new_form, form_in, read_listing, Beside, beside_of}
@@ -112,15 +113,15 @@ module _ (asked : Settings) (text text' : List ℕ) (h : LinesAlone text text') 
 -- ---- the answers
 
 answers_alike : (x x' : Judged Output) → RunsAlone x x' → answer_of x ≡ answer_of x'
-answers_alike (no r) (no r') e = ap Refused e
+answers_alike (no r) (no r') e = ap Err e
 answers_alike (no r) (ok o') k = absurd k
 answers_alike (ok o) (no r') k = absurd k
 answers_alike (ok o) (ok o') k =
     ap₂ (λ (l c : ℕ). sized l c (length o.image)) k.as_long k.count
     ∙ ap (λ (x : List ℕ). sized (length o'.listing) o'.count (length x)) k.image
   where
-    sized : (l c i : ℕ) → Answer
-    sized l c i = Done (record { listing = l; rewrites = c; image = i })
+    sized : (l c i : ℕ) → Result Sizes Refusal
+    sized l c i = Ok (record { listing = l; rewrites = c; image = i })
 
 images_alike : (room : List ℕ) (x x' : Judged Output) → RunsAlone x x' → image_after x room ≡ image_after x' room
 images_alike room (no r) (no r') e = refl

@@ -8,10 +8,11 @@ use lib.Dec.{leb}
 use lib.IntN.{ℤ}
 use lib.ListN.{length}
 use borrow.Author.Tests.{leb-false, lt-leb}
+use Rattle.rules.specs.declared.Unvalued.TheVariants.{Unknown, Nothing}
+use Rattle.rules.specs.declared.Unvalued.{Unvalued}
+use Rattle.std.specs.Prelude.{Result, Err, Ok}
 use Rattle.laws.proofs.Tests.{clash, and_false, first_false, second_false}
 use Rattle.rules.specs.declared.Kind.TheVariants.{Rel8, A12}
-use Rattle.rules.specs.declared.Outcome.{Outcome}
-use Rattle.rules.specs.declared.Outcome.TheVariants.{Is, Unknown, Nothing}
 use Rattle.rules.specs.declared.Refusal.{Refusal}
 use Rattle.rules.specs.declared.Refusal.TheVariants.{Broken, Limit, Again, NoName, Back, Beyond, NoValue, Room}
 use Rattle.rules.specs.declared.Settings.{Settings}
@@ -62,14 +63,14 @@ module _ (text : List ℕ) (Short : Program → List ℕ → Type 0) (r : Refusa
       on w d f (inr h) = given_by (Limit (at_place i)) h.0 (of_2 i c (in_frame w d h.1))
 
   -- 4 and 7 of a variable
-  variable_valued : (p : Program) (i : Placeℕ) → ComesToVariable text p i → (n : ℕ) (t : Expr) → at p i ≡ variable n t → (o : Outcome)
+  variable_valued : (p : Program) (i : Placeℕ) → ComesToVariable text p i → (n : ℕ) (t : Expr) → at p i ≡ variable n t → (o : Result ℤ Unvalued)
       → eval_tree (amongst (names_above p i) p i) t ≡ o
       → {B : Type 0} (f : ℤ → B) → value_at i o >>= (λ z. ok (f z)) ≡ no r → OwnCause text Short r
   unfolding ◌>>=◌
-  variable_valued p i c n t d (Is v) w f h = clash (cc)
-  variable_valued p i c n t d Unknown w f h =
+  variable_valued p i c n t d (Ok v) w f h = clash (cc)
+  variable_valued p i c n t d (Err Unknown) w f h =
       given_by (NoName (at_place i)) (cc) (of_4 p i (amongst (names_above p i) p i) t (of_variable n t c d) (unknown (amongst (names_above p i) p i) t w))
-  variable_valued p i c n t d Nothing w f h =
+  variable_valued p i c n t d (Err Nothing) w f h =
       given_by (NoValue (at_place i)) (cc)
       (of_7 p i (amongst (names_above p i) p i) t (of_variable n t c d) (nothing (amongst (names_above p i) p i) (entries_valued (names_above p i) (key_of (context_at p i))) t w))
 
@@ -147,8 +148,8 @@ part_refused text p names i j r c l e =
     ((statements_refuse p r names).1 (record { place = i; within = c.within; refused = (parts_refuse names p i r).1 (record { place = j; within = l; refused = e; earlier = c.parts }); earlier = c.statements }))
 
 -- an expression that has no value
-expr_refused : (text : List ℕ) (p : Program) (i : Placeℕ) (o : Outcome) (r : Refusal) → value_at i o ≡ no r
-    → {env : ℕ → Outcome} {e : Expr} → ComesToExpr text p i env e → eval_tree env e ≡ o
+expr_refused : (text : List ℕ) (p : Program) (i : Placeℕ) (o : Result ℤ Unvalued) (r : Refusal) → value_at i o ≡ no r
+    → {env : ℕ → Result ℤ Unvalued} {e : Expr} → ComesToExpr text p i env e → eval_tree env e ≡ o
     → (read_listing text ≡ ok p) × (judge p ≡ no r)
 unfolding ◌>>=◌
 expr_refused text p i o r d (of_variable n e c s) w =
@@ -236,7 +237,7 @@ module _ {B : Type 0} (text : List ℕ) (rest : Program → List ℕ → Judged 
       refused_whole (Again (at_place i))
       (unjudged p c.reads (by_naming p (Again (at_place i)) ((names_refuse p (Again (at_place i))).1 (record { place = i; within = c.within; refused = row_name p i c.within h; earlier = c.names }))))
   cause_whole (of_4 p i env e c h) =
-      let k = expr_refused text p i Unknown (NoName (at_place i)) refl c (not_found env h) in
+      let k = expr_refused text p i (Err Unknown) (NoName (at_place i)) refl c (not_found env h) in
       refused_whole (NoName (at_place i)) (unjudged p k.0 k.1)
   cause_whole (of_5 p i c h) =
       refused_whole (Back (at_place i))
@@ -245,7 +246,7 @@ module _ {B : Type 0} (text : List ℕ) (rest : Program → List ℕ → Judged 
       refused_whole (Beyond (at_place i))
       (unjudged p c.reads (by_laying p (Beyond (at_place i)) c.once ((positions_refuse p (Beyond (at_place i))).1 (record { place = i; within = c.within; refused = row_beyond p i h; earlier = c.positions }))))
   cause_whole (of_7 p i env e c h) =
-      let k = expr_refused text p i Nothing (NoValue (at_place i)) refl c (node_without env h) in
+      let k = expr_refused text p i (Err Nothing) (NoValue (at_place i)) refl c (node_without env h) in
       refused_whole (NoValue (at_place i)) (unjudged p k.0 k.1)
   cause_whole (of_8 p names i j v c h) =
       refused_whole _ (unjudged p c.reads (part_refused text p names i j _ c (range_below p names i j v h) (row_8 p names i j v h)))

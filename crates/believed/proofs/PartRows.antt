@@ -8,11 +8,12 @@ use Prim.Native.Nat.{ℕ, ◌+◌, ◌<◌}
 use lib.Dec.{eqb}
 use lib.IntN.{ℤ, pos, negsuc, ◌-ℤ◌}
 use borrow.Author.Tests.{ltb-true, lt-ltb, eqb-false, ne_eqb}
+use Rattle.rules.specs.declared.Unvalued.TheVariants.{Unknown, Nothing}
+use Rattle.rules.specs.declared.Unvalued.{Unvalued}
+use Rattle.std.specs.Prelude.{Result, Err, Ok}
 use Rattle.laws.proofs.Tests.{clash, none_some}
 use Rattle.rules.specs.declared.Kind.{Kind}
 use Rattle.rules.specs.declared.Kind.TheVariants.{Reg, I8, D9, Bit, Rel8, A12, A16, Rel16}
-use Rattle.rules.specs.declared.Outcome.{Outcome}
-use Rattle.rules.specs.declared.Outcome.TheVariants.{Is, Unknown, Nothing}
 use Rattle.rules.specs.declared.Refusal.{Refusal}
 use Rattle.rules.specs.declared.Refusal.TheVariants.{NoName, NoValue, Range, Outside, Far, Page}
 use Rattle.rules.specs.Answers.{at_place, Judged, ok, no, ◌>>=◌, require}
@@ -38,7 +39,7 @@ module _ (text : List ℕ) (Short : Program → List ℕ → Type 0) (p : Progra
   given_by s e h = subst (OwnCause text Short) (sym e) h
 
   -- ---- a value that is there
-  module _ (x : Operand) (v : ℤ) (w : worth_of names p (context_at p i) x ≡ Is v) where
+  module _ (x : Operand) (v : ℤ) (w : worth_of names p (context_at p i) x ≡ Ok v) where
     bounded : (d : Kind) → Argument p i j d x → (bound : ℕ) → bound_of d ≡ some bound
         → require (below bound v) (Range (at_place i) j v) (ok (nat v)) ≡ no r → OwnCause text Short r
     bounded d a bound b e =
@@ -74,7 +75,7 @@ module _ (text : List ℕ) (Short : Program → List ℕ → Type 0) (p : Progra
           operand = x;
           argument = a;
           address = z.0;
-          valued = w ∙ ap Is z.1;
+          valued = w ∙ ap Ok z.1;
           is_address = z.2;
           difference_is = ap (λ (u : ℤ). u -ℤ pos (after_at p i)) z.1;
           outside = h;
@@ -100,37 +101,37 @@ module _ (text : List ℕ) (Short : Program → List ℕ → Type 0) (p : Progra
         ⊎_elim (λ h. outside Rel16 a refl h.0 h.1) (λ h. clash (cc h.1)) (require_no (below 65536 v) (Outside (at_place i) j v) (ok _) r e)
 
   -- ---- an expression that has none
-  name_missing : (env : ℕ → Outcome) (e : Expr) → ComesToExpr text p i env e → eval_tree env e ≡ Unknown → r ≡ NoName (at_place i)
+  name_missing : (env : ℕ → Result ℤ Unvalued) (e : Expr) → ComesToExpr text p i env e → eval_tree env e ≡ Err Unknown → r ≡ NoName (at_place i)
       → OwnCause text Short r
   name_missing env e k h d = given_by (NoName (at_place i)) d (of_4 p i env e k (unknown env e h))
 
-  value_missing : (env : ℕ → Outcome) (e : Expr) → ((n : ℕ) → env n ≡ Nothing → ⊥) → ComesToExpr text p i env e
-      → eval_tree env e ≡ Nothing → r ≡ NoValue (at_place i) → OwnCause text Short r
+  value_missing : (env : ℕ → Result ℤ Unvalued) (e : Expr) → ((n : ℕ) → env n ≡ Err Nothing → ⊥) → ComesToExpr text p i env e
+      → eval_tree env e ≡ Err Nothing → r ≡ NoValue (at_place i) → OwnCause text Short r
   value_missing env e valued k h d = given_by (NoValue (at_place i)) d (of_7 p i env e k (nothing env valued e h))
 
-  among_valued : (n : ℕ) → amongst names p i n ≡ Nothing → ⊥
+  among_valued : (n : ℕ) → amongst names p i n ≡ Err Nothing → ⊥
   among_valued = entries_valued names (key_of (context_at p i))
 
   -- ---- an argument, an item
-  argument_row : (d : Kind) (x : Operand) → Argument p i j d x → (o : Outcome) → worth_of names p (context_at p i) x ≡ o
+  argument_row : (d : Kind) (x : Operand) → Argument p i j d x → (o : Result ℤ Unvalued) → worth_of names p (context_at p i) x ≡ o
       → value_at i o >>= field i j (after_at p i) d ≡ no r → OwnCause text Short r
   unfolding ◌>>=◌
-  argument_row d x a (Is v) w e = field_row x v w d a e
-  argument_row d (register n) a Unknown w e = clash (cc)
-  argument_row d (value t) a Unknown w e = name_missing (amongst names p i) t (of_argument names j d t c a) w (cc)
-  argument_row d (inner s o) a Unknown w e = clash (cc)
-  argument_row d (register n) a Nothing w e = clash (cc)
-  argument_row d (value t) a Nothing w e = value_missing (amongst names p i) t among_valued (of_argument names j d t c a) w (cc)
-  argument_row d (inner s o) a Nothing w e = clash (cc)
+  argument_row d x a (Ok v) w e = field_row x v w d a e
+  argument_row d (register n) a (Err Unknown) w e = clash (cc)
+  argument_row d (value t) a (Err Unknown) w e = name_missing (amongst names p i) t (of_argument names j d t c a) w (cc)
+  argument_row d (inner s o) a (Err Unknown) w e = clash (cc)
+  argument_row d (register n) a (Err Nothing) w e = clash (cc)
+  argument_row d (value t) a (Err Nothing) w e = value_missing (amongst names p i) t among_valued (of_argument names j d t c a) w (cc)
+  argument_row d (inner s o) a (Err Nothing) w e = clash (cc)
 
-  item_row : (bound : ℕ) (t : Expr) → Item p i j bound t → (o : Outcome) → worth names (context_at p i) t ≡ o
+  item_row : (bound : ℕ) (t : Expr) → Item p i j bound t → (o : Result ℤ Unvalued) → worth names (context_at p i) t ≡ o
       → value_at i o >>= (λ v. require (below bound v) (Range (at_place i) j v) (ok (nat v))) ≡ no r → OwnCause text Short r
   unfolding ◌>>=◌
-  item_row bound t a (Is v) w e =
+  item_row bound t a (Ok v) w e =
       ⊎_elim (λ h. given_by (Range (at_place i) j v) h.1 (of_8 p names i j v c (item_out bound t a w h.0))) (λ h. clash (cc h.1))
       (require_no (below bound v) (Range (at_place i) j v) (ok (nat v)) r e)
-  item_row bound t a Unknown w e = name_missing (amongst names p i) t (of_item names j bound t c a) w (cc)
-  item_row bound t a Nothing w e = value_missing (amongst names p i) t among_valued (of_item names j bound t c a) w (cc)
+  item_row bound t a (Err Unknown) w e = name_missing (amongst names p i) t (of_item names j bound t c a) w (cc)
+  item_row bound t a (Err Nothing) w e = value_missing (amongst names p i) t among_valued (of_item names j bound t c a) w (cc)
 
   of_items : (bound : ℕ) (es : List Expr) → ((at p i ≡ bytes es) × (bound ≡ 256)) ⊎ ((at p i ≡ words es) × (bound ≡ 65536))
       → (o : Option Expr) → nth es j ≡ o
@@ -223,13 +224,13 @@ module _ (p : Program) (names : List Entry) (i : Placeℕ) (j : ℕ) where
   pub row_11 : (v : ℤ) → OtherPage names p i j v → part_at names p i j ≡ no (Page (at_place i) j v)
   unfolding ◌>>=◌ field require
   row_11 v h =
-      let w = h.valued ∙ ap Is h.address_is in
+      let w = h.valued ∙ ap Ok h.address_is in
       argument_is A12 h.operand h.argument
       ∙ rw (w, lt-ltb h.address 65536 h.is_address, ne_eqb (page h.address) (page (after_at p i)) h.differ)
       (ap (λ (d : ℤ). no (Page (at_place i) j d)) (sym h.address_is))
 
   -- a value that is missing
-  module _ (o : Outcome) (r : Refusal) (d : value_at i o ≡ no r) where
+  module _ (o : Result ℤ Unvalued) (r : Refusal) (d : value_at i o ≡ no r) where
     pub row_argument : (k : Kind) (e : Expr) → Argument p i j k (value e) → eval_tree (amongst names p i) e ≡ o → part_at names p i j ≡ no r
     row_argument k e a w = argument_is k (value e) a ∙ rw w (missing (field i j (after_at p i) k))
       where

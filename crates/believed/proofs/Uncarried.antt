@@ -6,10 +6,11 @@ use mathlib.Core.Bool.{Bool, true, false, ◌&&◌, not, cond}
 use Prim.Native.Nat.{ℕ, zero, suc}
 use lib.Dec.{eqb}
 use lib.ListN.{length, get_or, drop}
+use Rattle.rules.specs.declared.Unvalued.{Unvalued}
+use Rattle.std.specs.Prelude.{ℤ, Result}
 use Rattle.laws.specs.Options.{or_else}
 use Rattle.laws.specs.Lists.{total}
 use Rattle.laws.proofs.Tests.{cond_map}
-use Rattle.rules.specs.declared.Outcome.{Outcome}
 use Rattle.rules.specs.declared.Settings.{Settings}
 use Rattle.rules.specs.Answers.{judged_or}
 use Rattle.rules.specs.Forms.{is_transfer, jmpf, not1}
@@ -90,7 +91,7 @@ module _ (c : Placeℕ → Placeℕ) where
   nearest_re p zero = refl
   nearest_re p (suc i) = rw (at_re c p i, blind c skipped (λ g xs a b. refl) (at p i), nearest_re p i)
 
-  valued_ext : (w v : Operand → Outcome) → ((x : Operand) → w x ≡ v x) → (xs : List Operand) → valued_10d_and_0 w xs ≡ valued_10d_and_0 v xs
+  valued_ext : (w v : Operand → Result ℤ Unvalued) → ((x : Operand) → w x ≡ v x) → (xs : List Operand) → valued_10d_and_0 w xs ≡ valued_10d_and_0 v xs
   valued_ext w v h [] = refl
   valued_ext w v h (x ∷ []) = refl
   valued_ext w v h (x ∷ y ∷ []) = rw (h x, h y)

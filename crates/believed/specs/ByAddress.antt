@@ -1,10 +1,9 @@
 -- Document 01, "Values, names, places": the image by address. Each byte is looked up by its origin, on its own.
-use Rattle.std.specs.Prelude.{◌≡◌, List, [], cond, ℕ, zero, suc, length, get_or, pos}
+use Rattle.std.specs.Prelude.{◌≡◌, List, [], cond, ℕ, zero, suc, length, get_or, pos, Ok}
 use Rattle.std.proofs.Math.Option.{Option, none, some}
 use Rattle.laws.specs.Options.{is_some}
 use Rattle.laws.specs.Counts.{tab}
 use Rattle.rules.specs.declared.Settings.{Settings}
-use Rattle.rules.specs.declared.Outcome.TheVariants.{Is}
 use Rattle.rules.specs.Answers.{ok, judged_or}
 use Rattle.rules.specs.Programs.{Placeℕ, Addressℕ, Program}
 use Rattle.rules.specs.Layout.{Origin, origin}
@@ -15,7 +14,7 @@ use Rattle.promises.specs.Faults.{encode_at}
 
 -- the origin of an address: "a byte's origin is a statement place and an offset, never an address"
 abbrev pub origin_at : Program → (a : Addressℕ) → Option Origin
-origin_at p a = origin p (Is (pos a))
+origin_at p a = origin p (Ok (pos a))
 
 -- the bytes that the statement at place i is encoded to
 unfoldable pub encoding_of : Program → (i : Placeℕ) → List ℕ

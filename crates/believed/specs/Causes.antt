@@ -1,12 +1,12 @@
 -- Document 01, "Refusal numbers": the cause of each number, one line a row of the table. "No number is given without its cause."
-use Rattle.std.specs.Prelude.{◌≡◌, ◌⊎◌, List, [], ◌∷◌, Bool, true, false, ℕ, zero, suc, ◌+◌, ◌*◌, ◌≤◌, ◌<◌, leb, length, take, drop, ℤ, pos, ◌-ℤ◌}
+use Rattle.rules.specs.declared.Unvalued.TheVariants.{Unknown, Nothing}
+use Rattle.rules.specs.declared.Unvalued.{Unvalued}
+use Rattle.std.specs.Prelude.{◌≡◌, ◌⊎◌, List, [], ◌∷◌, Bool, true, false, ℕ, zero, suc, ◌+◌, ◌*◌, ◌≤◌, ◌<◌, leb, length, take, drop, ℤ, pos, ◌-ℤ◌, Result, Err, Ok}
 use Rattle.std.proofs.Math.Option.{Option, none, some}
 use Rattle.rules.specs.declared.Kind.{Kind}
 use Rattle.rules.specs.declared.Kind.TheVariants.{Reg, I8, D9, Bit, Rel8, A12, A16, Rel16}
 use Rattle.rules.specs.declared.Op1.{Op1}
 use Rattle.rules.specs.declared.Op2.{Op2}
-use Rattle.rules.specs.declared.Outcome.{Outcome}
-use Rattle.rules.specs.declared.Outcome.TheVariants.{Is, Unknown, Nothing}
 use Rattle.rules.specs.declared.Refusal.{Refusal}
 use Rattle.rules.specs.declared.Refusal.TheVariants.{Broken, Limit, Again, NoName, Back, Beyond, NoValue, Range, Outside, Far, Page, Room}
 use Rattle.rules.specs.declared.Settings.{Settings}
@@ -206,13 +206,13 @@ pub record DefinedAgain (p : Program) (i : Placeℕ) : Type 0 where
 
 -- 4 and 7: judging has come to the expression e of the statement at place i, in which `env` says what a name stands for: a variable sees
 -- the names above it, an argument or item all names
-abbrev pub amongst : (names : List Entry) → Program → (i : Placeℕ) → ℕ → Outcome
+abbrev pub amongst : (names : List Entry) → Program → (i : Placeℕ) → ℕ → Result ℤ Unvalued
 amongst names p i n = lookup names (key_of (context_at p i) n)
 
 abbrev pub names_above : Program → (i : Placeℕ) → List Entry
 names_above p i = judged_or (define_all [] (take i (placed p))) []
 
-pub data ComesToExpr (text : List ℕ) (p : Program) (i : Placeℕ) : (env : ℕ → Outcome) → Expr → Type 0 where
+pub data ComesToExpr (text : List ℕ) (p : Program) (i : Placeℕ) : (env : ℕ → Result ℤ Unvalued) → Expr → Type 0 where
   of_variable : (n : ℕ) (e : Expr) → ComesToVariable text p i → at p i ≡ variable n e
       → ComesToExpr text p i (amongst (names_above p i) p i) e
   of_argument : (names : List Entry) (j : ℕ) (d : Kind) (e : Expr) → ComesToPart text p names i j → Argument p i j d (value e)
@@ -222,19 +222,19 @@ pub data ComesToExpr (text : List ℕ) (p : Program) (i : Placeℕ) : (env : ℕ
 
 -- "In an expression the left operand is judged before the right, both before their node." 4: a name that is not found is the first to be
 -- judged ill
-pub data NotFound (env : ℕ → Outcome) : Expr → Type 0 where
-  here : (n : ℕ) → env n ≡ Unknown → NotFound env (name n)
+pub data NotFound (env : ℕ → Result ℤ Unvalued) : Expr → Type 0 where
+  here : (n : ℕ) → env n ≡ Err Unknown → NotFound env (name n)
   left : (o : Op2) (e d : Expr) → NotFound env e → NotFound env (two o e d)
-  right : (o : Op2) (e d : Expr) (a : ℤ) → eval_tree env e ≡ Is a → NotFound env d → NotFound env (two o e d)
+  right : (o : Op2) (e d : Expr) (a : ℤ) → eval_tree env e ≡ Ok a → NotFound env d → NotFound env (two o e d)
   under : (o : Op1) (e : Expr) → NotFound env e → NotFound env (one o e)
 
 -- 7: a node is, whose operands have values: "range, zero divisor"
-pub data NodeWithout (env : ℕ → Outcome) : Expr → Type 0 where
-  node_two : (o : Op2) (e d : Expr) (a b : ℤ) → eval_tree env e ≡ Is a → eval_tree env d ≡ Is b → apply2 o a b ≡ Nothing
+pub data NodeWithout (env : ℕ → Result ℤ Unvalued) : Expr → Type 0 where
+  node_two : (o : Op2) (e d : Expr) (a b : ℤ) → eval_tree env e ≡ Ok a → eval_tree env d ≡ Ok b → apply2 o a b ≡ Err Nothing
       → NodeWithout env (two o e d)
-  node_one : (o : Op1) (e : Expr) (a : ℤ) → eval_tree env e ≡ Is a → apply1 o a ≡ Nothing → NodeWithout env (one o e)
+  node_one : (o : Op1) (e : Expr) (a : ℤ) → eval_tree env e ≡ Ok a → apply1 o a ≡ Err Nothing → NodeWithout env (one o e)
   node_left : (o : Op2) (e d : Expr) → NodeWithout env e → NodeWithout env (two o e d)
-  node_right : (o : Op2) (e d : Expr) (a : ℤ) → eval_tree env e ≡ Is a → NodeWithout env d → NodeWithout env (two o e d)
+  node_right : (o : Op2) (e d : Expr) (a : ℤ) → eval_tree env e ≡ Ok a → NodeWithout env d → NodeWithout env (two o e d)
   node_under : (o : Op1) (e : Expr) → NodeWithout env e → NodeWithout env (one o e)
 
 -- 5: "an org below the position"
@@ -263,10 +263,10 @@ bound_of Rel16 = none
 
 -- "Negative values are refused there": v is not one of 0 .. bound - 1
 pub data OutOfRange (names : List Entry) (p : Program) (i : Placeℕ) (j : ℕ) (v : ℤ) : Type 0 where
-  argument_out : (d : Kind) (x : Operand) (bound : ℕ) → Argument p i j d x → worth_of names p (context_at p i) x ≡ Is v
+  argument_out : (d : Kind) (x : Operand) (bound : ℕ) → Argument p i j d x → worth_of names p (context_at p i) x ≡ Ok v
       → bound_of d ≡ some bound → below bound v ≡ false
       → OutOfRange names p i j v
-  item_out : (bound : ℕ) (e : Expr) → Item p i j bound e → worth names (context_at p i) e ≡ Is v → below bound v ≡ false
+  item_out : (bound : ℕ) (e : Expr) → Item p i j bound e → worth names (context_at p i) e ≡ Ok v → below bound v ≡ false
       → OutOfRange names p i j v
 
 -- 9: "rel8 .. address 0..65,535"; "Brf, Callr: address 0..65,535"
@@ -285,7 +285,7 @@ pub record NoAddress (names : List Entry) (p : Program) (i : Placeℕ) (j : ℕ)
   pub operand : Operand
   pub argument : Argument p i j kind operand
   pub relative : is_relative kind ≡ true
-  pub valued : worth_of names p (context_at p i) operand ≡ Is v
+  pub valued : worth_of names p (context_at p i) operand ≡ Ok v
   pub outside : below 65536 v ≡ false
 
 -- "With n the address after the instruction"
@@ -297,7 +297,7 @@ pub record TooFar (names : List Entry) (p : Program) (i : Placeℕ) (j : ℕ) (d
   pub operand : Operand
   pub argument : Argument p i j Rel8 operand
   pub address : Addressℕ
-  pub valued : worth_of names p (context_at p i) operand ≡ Is (pos address)
+  pub valued : worth_of names p (context_at p i) operand ≡ Ok (pos address)
   pub is_address : address < 65536
   pub difference_is : difference ≡ pos address -ℤ pos (after_at p i)
   pub outside : signed_byte difference ≡ false
@@ -308,7 +308,7 @@ pub record OtherPage (names : List Entry) (p : Program) (i : Placeℕ) (j : ℕ)
   pub argument : Argument p i j A12 operand
   pub address : Addressℕ
   pub address_is : v ≡ pos address
-  pub valued : worth_of names p (context_at p i) operand ≡ Is v
+  pub valued : worth_of names p (context_at p i) operand ≡ Ok v
   pub is_address : address < 65536
   pub differ : page address ≡ page (after_at p i) → ⊥
 
@@ -322,14 +322,14 @@ pub data OwnCause (text : List ℕ) (Short : Program → (image : List ℕ) → 
   -- 3 "a name is defined again"
   of_3 : (p : Program) (i : Placeℕ) → ComesToName text p i → DefinedAgain p i → OwnCause text Short (Again (at_place i))
   -- 4 "a name isn't found"
-  of_4 : (p : Program) (i : Placeℕ) (env : ℕ → Outcome) (e : Expr) → ComesToExpr text p i env e → NotFound env e
+  of_4 : (p : Program) (i : Placeℕ) (env : ℕ → Result ℤ Unvalued) (e : Expr) → ComesToExpr text p i env e → NotFound env e
       → OwnCause text Short (NoName (at_place i))
   -- 5 "org below the position"
   of_5 : (p : Program) (i : Placeℕ) → ComesToPosition text p i → OrgBelow p i → OwnCause text Short (Back (at_place i))
   -- 6 "position would pass 65,536"
   of_6 : (p : Program) (i : Placeℕ) → ComesToPosition text p i → WouldPass p i → OwnCause text Short (Beyond (at_place i))
   -- 7 "a node has no value (range, zero divisor)"
-  of_7 : (p : Program) (i : Placeℕ) (env : ℕ → Outcome) (e : Expr) → ComesToExpr text p i env e → NodeWithout env e
+  of_7 : (p : Program) (i : Placeℕ) (env : ℕ → Result ℤ Unvalued) (e : Expr) → ComesToExpr text p i env e → NodeWithout env e
       → OwnCause text Short (NoValue (at_place i))
   -- 8 "operand out of its range"
   of_8 : (p : Program) (names : List Entry) (i : Placeℕ) (j : ℕ) (v : ℤ) → ComesToPart text p names i j → OutOfRange names p i j v

@@ -1,9 +1,8 @@
 -- Demand 3 of the letter by bytes: what a kept target names in the input's image and in the output's is the same byte of the same
 -- statement's encoding.
-use Rattle.std.specs.Prelude.{◌≡◌, List, ℕ, ◌≤◌, ◌<◌, length, get_or, pos}
+use Rattle.std.specs.Prelude.{◌≡◌, List, ℕ, ◌≤◌, ◌<◌, length, get_or, pos, Ok}
 use Rattle.std.proofs.Math.Option.{some}
 use Rattle.rules.specs.declared.Settings.{Settings}
-use Rattle.rules.specs.declared.Outcome.TheVariants.{Is}
 use Rattle.rules.specs.Programs.{Placeℕ, Addressℕ, Operand, Stmt, Program, at, retarget}
 use Rattle.rules.specs.Names.{context_at}
 use Rattle.rules.specs.Judging.{worth, names_of}
@@ -27,7 +26,7 @@ pub record IsByte (p : Program) (image : List ℕ) (a : Addressℕ) (i : Place�
 pub record NamesAlike (asked : Settings) (p : Program) (image : List ℕ) (i s : Placeℕ) (o : ℕ)
     (aims : Aims p i s o) (kept : TargetKept asked p i s o) : Type 0 where
   pub address : Addressℕ
-  pub target_was : worth (names_of p) (context_at p i) aims.target ≡ Is (pos address)
+  pub target_was : worth (names_of p) (context_at p i) aims.target ≡ Ok (pos address)
   pub in_input : IsByte p image address s o
   pub in_output : IsByte (output_program asked p) (rewritten asked p).image kept.address kept.owner o
   pub stems_from_is : get_or (rewritten asked p).stems kept.owner 0 ≡ s

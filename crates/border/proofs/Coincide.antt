@@ -4,11 +4,12 @@ use mathlib.Core.Path.{◌≡◌, sym, ◌∙◌}
 use mathlib.Core.List.{List}
 use Prim.Native.Nat.{ℕ}
 use lib.ListN.{length}
+use Rattle.store.specs.declared.Setting.{Setting}
+use Rattle.store.specs.declared.Edition.{Edition}
+use Rattle.rules.specs.declared.Refusal.{Refusal}
+use Rattle.std.specs.Prelude.{Result, Option}
 use Rattle.readback.specs.ReadBack.{read_back}
 use Rattle.readback.specs.Entry.{answer_as as read_as, room_as as read_room}
-use Rattle.store.specs.declared.Found.{Found}
-use Rattle.store.specs.declared.Shown.{Shown}
-use Rattle.store.specs.declared.Numbered.{Numbered}
 use Rattle.store.specs.Rooms.{get_in, newest_in, place_in, add_in, drop_in, after_add, after_drop, found_as, shown_as, numbered_as}
 use Rattle.border_core.specs.declared.replies.Reply.{Reply}
 use Rattle.border_core.specs.Replies.{asked_by, Says, Ends}
@@ -20,11 +21,11 @@ use Rattle.border.specs.Exported.{run_under, SaysNumbered, SaysFound, SaysShown}
 
 -- ---- an answer is said by one struct
 
-one_numbered : (a : Numbered) (r s : NumberedReply) → SaysNumbered r a → SaysNumbered s a → r ≡ s
+one_numbered : (a : Result ℕ Refusal) (r s : NumberedReply) → SaysNumbered r a → SaysNumbered s a → r ≡ s
 one_numbered a r s h k =
     rw (h.number ∙ sym k.number, h.place ∙ sym k.place, h.argument ∙ sym k.argument, h.amount ∙ sym k.amount, h.edition ∙ sym k.edition)
 
-one_found : (a : Found) (r s : FoundReply) → SaysFound r a → SaysFound s a → r ≡ s
+one_found : (a : Result Edition Refusal) (r s : FoundReply) → SaysFound r a → SaysFound s a → r ≡ s
 one_found a r s h k =
     rw (
       h.number ∙ sym k.number,
@@ -37,7 +38,7 @@ one_found a r s h k =
       h.folds ∙ sym k.folds,
     )
 
-one_shown : (a : Shown) (r s : ShownReply) → SaysShown r a → SaysShown s a → r ≡ s
+one_shown : (a : Result (Option Setting) Refusal) (r s : ShownReply) → SaysShown r a → SaysShown s a → r ≡ s
 one_shown a r s h k =
     rw (
       h.number ∙ sym k.number,

@@ -3,17 +3,19 @@ use mathlib.Core.Path.{◌≡◌, sym, subst, ◌∙◌}
 use mathlib.Core.List.{List}
 use Prim.Native.Nat.{ℕ}
 use lib.ListN.{length}
+use Rattle.rules.specs.declared.Refusal.{Refusal}
+use Rattle.salvage.specs.declared.walks.Extent.{Extent}
+use Rattle.std.specs.Prelude.{Result}
 use Rattle.rules.specs.Answers.{Judged}
-use Rattle.salvage.specs.declared.Saved.{Saved}
 use Rattle.salvage.specs.Salvage.{Salvaged, salvage}
 use Rattle.salvage.specs.Entry.{answer_as, listing_as, report_as}
 use Rattle.border.specs.declared.salvaging.SavedReply.{SavedReply}
 use Rattle.border.specs.Salvaging.{SaysSaved}
 
-pub saved_same : (r : SavedReply) (a b : Saved) → a ≡ b → SaysSaved r a → SaysSaved r b
-saved_same r a b e h = subst (λ (x : Saved). SaysSaved r x) e h
+pub saved_same : (r : SavedReply) (a b : Result Extent Refusal) → a ≡ b → SaysSaved r a → SaysSaved r b
+saved_same r a b e h = subst (λ (x : Result Extent Refusal). SaysSaved r x) e h
 
-one_saved : (a : Saved) (r s : SavedReply) → SaysSaved r a → SaysSaved s a → r ≡ s
+one_saved : (a : Result Extent Refusal) (r s : SavedReply) → SaysSaved r a → SaysSaved s a → r ≡ s
 one_saved a r s h k =
     rw (
       h.number ∙ sym k.number,

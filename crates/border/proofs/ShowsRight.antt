@@ -4,12 +4,10 @@ use mathlib.Core.List.{List}
 use mathlib.Core.Bool.{Bool, true, false, cond}
 use Prim.Native.Nat.{ℕ}
 use native.Mathlib.Omega.{arith}
+use Rattle.std.specs.Prelude.{Ok, Some, None}
 use Rattle.rules.specs.Answers.{Judged, ok, no}
 use Rattle.store.specs.declared.Setting.{Setting}
 use Rattle.store.specs.declared.Edition.{Edition}
-use Rattle.store.specs.declared.Found.{Found}
-use Rattle.store.specs.declared.Shown.{Shown}
-use Rattle.store.specs.declared.Shown.TheVariants.{Is as IsShown, Free as IsFree}
 use Rattle.store.specs.Store.{is_free}
 use Rattle.store.specs.Rooms.{get_in, place_in, found_as, shown_as}
 use Rattle.store.specs.Switches.{settings_of}
@@ -23,7 +21,7 @@ module _ (room : List ℕ) where
   pub shows_right : ShowsRight room
   shows_right k r h held q g = judged (place_in room k) refl h
     where
-      same : (s : Setting) → SaysShown r (IsShown s) → get_in room s.family s.edition ≡ ok (record { number = s.edition; settings = settings_of s.switches })
+      same : (s : Setting) → SaysShown r (Ok (Some s)) → get_in room s.family s.edition ≡ ok (record { number = s.edition; settings = settings_of s.switches })
           → AsShown r q
       same s y e =
           let there = ap (λ (f : ℕ). get_in room f r.edition) y.family ∙ ap (get_in room s.family) y.edition ∙ e in
@@ -36,7 +34,7 @@ module _ (room : List ℕ) where
             folds = z.folds ∙ sym y.folds;
           }
 
-      on : (s : Setting) → place_in room k ≡ ok s → (b : Bool) → is_free s ≡ b → SaysShown r (cond b IsFree (IsShown s)) → AsShown r q
+      on : (s : Setting) → place_in room k ≡ ok s → (b : Bool) → is_free s ≡ b → SaysShown r (Ok (cond b None (Some s))) → AsShown r q
       on s e true f y = absurd (omega (arith, held, y.held))
       on s e false f y = same s y ((shows_all room).shown_found k s e f)
 

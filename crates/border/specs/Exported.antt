@@ -1,16 +1,11 @@
 -- What the functions for C answer of a store: structs of numbers, the first 0 where nothing is refused.
-use Rattle.std.specs.Prelude.{◌≡◌, List, Bool, cond, ℕ, eqb}
+use Rattle.rules.specs.declared.Refusal.{Refusal}
+use Rattle.std.specs.Prelude.{◌≡◌, List, Bool, cond, ℕ, eqb, Err, Ok, Result, Some, None, Option}
 use Rattle.rules.specs.Answers.{Judged}
 use Rattle.rules.specs.Run.{Output}
 use Rattle.rules.specs.Refusals.{Fault, fault_of}
 use Rattle.store.specs.declared.Edition.{Edition}
 use Rattle.store.specs.declared.Setting.{Setting}
-use Rattle.store.specs.declared.Found.{Found}
-use Rattle.store.specs.declared.Found.TheVariants.{Is as IsFound, Refused as NotFound}
-use Rattle.store.specs.declared.Shown.{Shown}
-use Rattle.store.specs.declared.Shown.TheVariants.{Is as IsShown, Free as IsFree, Refused as NotShown}
-use Rattle.store.specs.declared.Numbered.{Numbered}
-use Rattle.store.specs.declared.Numbered.TheVariants.{Is as IsNumbered, Refused as NotNumbered}
 use Rattle.store.specs.Rooms.{get_in, newest_in, place_in, found_as, shown_as}
 use Rattle.store.specs.Switches.{settings_of}
 use Rattle.editions.specs.Under.{under}
@@ -32,15 +27,15 @@ run_under store f e text listing_room image_room =
 
 -- ---- C-24, `add_edition` and `drop_old`
 
-abbrev pub numbered_fault : Numbered → Fault
-numbered_fault (IsNumbered n) = nothing
-numbered_fault (NotNumbered r) = fault_of r
+abbrev pub numbered_fault : Result ℕ Refusal → Fault
+numbered_fault (Ok n) = nothing
+numbered_fault (Err r) = fault_of r
 
-abbrev pub number_of : Numbered → ℕ
-number_of (IsNumbered n) = n
-number_of (NotNumbered r) = 0
+abbrev pub number_of : Result ℕ Refusal → ℕ
+number_of (Ok n) = n
+number_of (Err r) = 0
 
-pub record SaysNumbered (r : NumberedReply) (a : Numbered) : Type 0 where
+pub record SaysNumbered (r : NumberedReply) (a : Result ℕ Refusal) : Type 0 where
   pub number : r.number ≡ (numbered_fault a).number
   pub place : r.place ≡ (numbered_fault a).place
   pub argument : r.argument ≡ (numbered_fault a).argument
@@ -49,16 +44,16 @@ pub record SaysNumbered (r : NumberedReply) (a : Numbered) : Type 0 where
 
 -- ---- C-24, `get_edition` and `get_newest`
 
-abbrev pub found_fault : Found → Fault
-found_fault (IsFound e) = nothing
-found_fault (NotFound r) = fault_of r
+abbrev pub found_fault : Result Edition Refusal → Fault
+found_fault (Ok e) = nothing
+found_fault (Err r) = fault_of r
 
 -- a number of the edition that was found
-abbrev pub of_found : (Edition → ℕ) → Found → ℕ
-of_found f (IsFound e) = f e
-of_found f (NotFound r) = 0
+abbrev pub of_found : (Edition → ℕ) → Result Edition Refusal → ℕ
+of_found f (Ok e) = f e
+of_found f (Err r) = 0
 
-pub record SaysFound (r : FoundReply) (a : Found) : Type 0 where
+pub record SaysFound (r : FoundReply) (a : Result Edition Refusal) : Type 0 where
   pub number : r.number ≡ (found_fault a).number
   pub place : r.place ≡ (found_fault a).place
   pub argument : r.argument ≡ (found_fault a).argument
@@ -70,18 +65,18 @@ pub record SaysFound (r : FoundReply) (a : Found) : Type 0 where
 
 -- ---- C-24, `show_place`
 
-abbrev pub shown_fault : Shown → Fault
-shown_fault (IsShown s) = nothing
-shown_fault IsFree = nothing
-shown_fault (NotShown r) = fault_of r
+abbrev pub shown_fault : Result (Option Setting) Refusal → Fault
+shown_fault (Ok (Some s)) = nothing
+shown_fault (Ok None) = nothing
+shown_fault (Err r) = fault_of r
 
 -- a number of what the place holds
-abbrev pub of_shown : (Setting → ℕ) → Shown → ℕ
-of_shown f (IsShown s) = f s
-of_shown f IsFree = 0
-of_shown f (NotShown r) = 0
+abbrev pub of_shown : (Setting → ℕ) → Result (Option Setting) Refusal → ℕ
+of_shown f (Ok (Some s)) = f s
+of_shown f (Ok None) = 0
+of_shown f (Err r) = 0
 
-pub record SaysShown (r : ShownReply) (a : Shown) : Type 0 where
+pub record SaysShown (r : ShownReply) (a : Result (Option Setting) Refusal) : Type 0 where
   pub number : r.number ≡ (shown_fault a).number
   pub place : r.place ≡ (shown_fault a).place
   pub argument : r.argument ≡ (shown_fault a).argument

@@ -13,7 +13,7 @@ use crate::replies::{
 use border_core::{Reply, reply_of, settings_of};
 use editions::{optimize_under, optimize_under_newest};
 use readback::entry::read_back;
-use rules::Answer;
+use rules::{Refusal, Sizes};
 use store::{add_edition, drop_old, get_edition, get_newest, show_place};
 
 // `add_edition`, for C.
@@ -72,7 +72,7 @@ fn run_under(
     listing: &[u8],
     out: &mut [u8],
     image: &mut [u8],
-) -> Answer
+) -> Result<Sizes, Refusal>
     ensures { let text = listing.now in
         let x = run_under store.now family edition text (length out.old) (length image.old) in
         Delivers x result out.old image.old out.new image.new }

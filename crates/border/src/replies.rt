@@ -1,13 +1,10 @@
 // Answers of the store as structs of numbers: number 0 and what was asked for, or a refusal's four numbers and zeros.
-ghost use Rattle.std.specs.Prelude.{◌≡◌};
-ghost use Rattle.store.specs.declared.Numbered.TheVariants.{Refused as NotNumbered};
-ghost use Rattle.store.specs.declared.Found.TheVariants.{Is as IsFound, Refused as NotFound};
-ghost use Rattle.store.specs.declared.Shown.TheVariants.{Is as IsShown, Free as IsFree, Refused as NotShown};
+ghost use Rattle.std.specs.Prelude.{◌≡◌, Err, Ok, Some, None};
 ghost use Rattle.border.specs.Exported.{bit, SaysNumbered, SaysFound, SaysShown};
 
 use border_core::told_of;
 use rules::Refusal;
-use store::{Edition, Found, Numbered, Setting, Shown};
+use store::{Edition, Setting};
 
 // Of `add_edition` and `drop_old`: the edition's number.
 #[repr(C)]
@@ -51,7 +48,7 @@ pub struct ShownReply {
 }
 
 fn not_numbered(r: Refusal) -> NumberedReply
-    ensures { SaysNumbered result (NotNumbered r) }
+    ensures { SaysNumbered result (Err r) }
 {
     let t = told_of(r);
     NumberedReply {
@@ -63,12 +60,12 @@ fn not_numbered(r: Refusal) -> NumberedReply
     }
 }
 
-pub fn numbered_reply(answer: Numbered) -> NumberedReply
+pub fn numbered_reply(answer: Result<u16, Refusal>) -> NumberedReply
     ensures { SaysNumbered result answer }
 {
     match answer {
-        Numbered::Refused(r) => not_numbered(r),
-        Numbered::Is(n) => NumberedReply {
+        Err(r) => not_numbered(r),
+        Ok(n) => NumberedReply {
             number: 0,
             place: 0,
             argument: 0,
@@ -85,7 +82,7 @@ fn bit(on: bool) -> u64
 }
 
 fn found(e: Edition) -> FoundReply
-    ensures { SaysFound result (IsFound e) }
+    ensures { SaysFound result (Ok e) }
 {
     FoundReply {
         number: 0,
@@ -100,7 +97,7 @@ fn found(e: Edition) -> FoundReply
 }
 
 fn not_found(r: Refusal) -> FoundReply
-    ensures { SaysFound result (NotFound r) }
+    ensures { SaysFound result (Err r) }
 {
     let t = told_of(r);
     FoundReply {
@@ -115,17 +112,17 @@ fn not_found(r: Refusal) -> FoundReply
     }
 }
 
-pub fn found_reply(answer: Found) -> FoundReply
+pub fn found_reply(answer: Result<Edition, Refusal>) -> FoundReply
     ensures { SaysFound result answer }
 {
     match answer {
-        Found::Refused(r) => not_found(r),
-        Found::Is(e) => found(e),
+        Err(r) => not_found(r),
+        Ok(e) => found(e),
     }
 }
 
 fn shown(s: Setting) -> ShownReply
-    ensures { SaysShown result (IsShown s) }
+    ensures { SaysShown result (Ok (Some s)) }
 {
     ShownReply {
         number: 0,
@@ -142,7 +139,7 @@ fn shown(s: Setting) -> ShownReply
 }
 
 fn free() -> ShownReply
-    ensures { SaysShown result IsFree }
+    ensures { SaysShown result (Ok None) }
 {
     ShownReply {
         number: 0,
@@ -159,7 +156,7 @@ fn free() -> ShownReply
 }
 
 fn not_shown(r: Refusal) -> ShownReply
-    ensures { SaysShown result (NotShown r) }
+    ensures { SaysShown result (Err r) }
 {
     let t = told_of(r);
     ShownReply {
@@ -176,12 +173,12 @@ fn not_shown(r: Refusal) -> ShownReply
     }
 }
 
-pub fn shown_reply(answer: Shown) -> ShownReply
+pub fn shown_reply(answer: Result<Option<Setting>, Refusal>) -> ShownReply
     ensures { SaysShown result answer }
 {
     match answer {
-        Shown::Refused(r) => not_shown(r),
-        Shown::Free => free(),
-        Shown::Is(s) => shown(s),
+        Err(r) => not_shown(r),
+        Ok(None) => free(),
+        Ok(Some(s)) => shown(s),
     }
 }

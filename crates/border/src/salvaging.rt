@@ -1,13 +1,12 @@
 // C-22, for C: the function and its answer as a struct of numbers.
-ghost use Rattle.std.specs.Prelude.{◌≡◌, length};
-ghost use Rattle.salvage.specs.declared.Saved.TheVariants.{Refused as NotSaved};
+ghost use Rattle.std.specs.Prelude.{◌≡◌, length, Err};
 ghost use Rattle.salvage.specs.Salvage.{salvage as answer};
 ghost use Rattle.salvage.specs.Entry.{answer_as, listing_as, report_as};
 ghost use Rattle.border.specs.Salvaging.{SaysSaved};
 
 use border_core::told_of;
 use rules::Refusal;
-use salvage::Saved;
+use salvage::Extent;
 use salvage::entry::salvage;
 
 // How many statements come out, and what is in the lent rooms.
@@ -24,7 +23,7 @@ pub struct SavedReply {
 }
 
 fn not_saved(r: Refusal) -> SavedReply
-    ensures { SaysSaved result (NotSaved r) }
+    ensures { SaysSaved result (Err r) }
 {
     let t = told_of(r);
     SavedReply {
@@ -38,12 +37,12 @@ fn not_saved(r: Refusal) -> SavedReply
     }
 }
 
-fn saved_reply(answer: Saved) -> SavedReply
+fn saved_reply(answer: Result<Extent, Refusal>) -> SavedReply
     ensures { SaysSaved result answer }
 {
     match answer {
-        Saved::Refused(r) => not_saved(r),
-        Saved::Done(e) => SavedReply {
+        Err(r) => not_saved(r),
+        Ok(e) => SavedReply {
             number: 0,
             place: 0,
             argument: 0,

@@ -3,31 +3,32 @@ use mathlib.Core.Path.{◌≡◌, sym, ◌∙◌, subst}
 use mathlib.Core.List.{List}
 use Prim.Native.Nat.{ℕ}
 use lib.ListN.{length}
-use Rattle.rules.specs.declared.Answer.{Answer}
+use Rattle.audit.specs.declared.Finding.{Finding}
+use Rattle.rules.specs.declared.Place.{Place}
+use Rattle.rules.specs.declared.Refusal.{Refusal}
+use Rattle.rules.specs.declared.Sizes.{Sizes}
+use Rattle.audit.specs.declared.Finding.TheVariants.{Differs, Short, Same, Long}
+use Rattle.std.specs.Prelude.{None, Ok, Err, Result, Option}
 use Rattle.rules.specs.declared.Settings.{Settings}
 use Rattle.rules.specs.Refusals.{Fault, fault_of}
-use Rattle.asm.specs.declared.Origin.{Origin}
-use Rattle.asm.specs.declared.Origin.TheVariants.{Nothing}
-use Rattle.audit.specs.declared.Found.{Found}
-use Rattle.audit.specs.declared.Found.TheVariants.{Same, Differs, Short, Long, Refused}
 use Rattle.steps.specs.Entry.{told, answer_as, room_as, Leaves}
 use Rattle.why.specs.Entry.{told as why_told, answer_as as why_answer, room_as as why_room}
 use Rattle.border_answers.specs.declared.rewrites.StepsReply.{StepsReply}
 use Rattle.border_answers.specs.declared.audits.AuditReply.{AuditReply}
 use Rattle.border_answers.specs.Replies.{SaysSteps, SaysAt, SaysFault, SaysAudit}
 
-pub steps_same : (r : StepsReply) (a b : Answer) → a ≡ b → SaysSteps r a → SaysSteps r b
-steps_same r a b e h = subst (λ (x : Answer). SaysSteps r x) e h
+pub steps_same : (r : StepsReply) (a b : Result Sizes Refusal) → a ≡ b → SaysSteps r a → SaysSteps r b
+steps_same r a b e h = subst (λ (x : Result Sizes Refusal). SaysSteps r x) e h
 
-pub audit_same : (r : AuditReply) (a b : Found) → a ≡ b → SaysAudit r a → SaysAudit r b
-audit_same r a b e h = subst (λ (x : Found). SaysAudit r x) e h
+pub audit_same : (r : AuditReply) (a b : Result Finding Refusal) → a ≡ b → SaysAudit r a → SaysAudit r b
+audit_same r a b e h = subst (λ (x : Result Finding Refusal). SaysAudit r x) e h
 
 -- the same is answered to equal settings
-pub as_asked : (asked given : Settings) (text out : List ℕ) (a : Answer) (out' : List ℕ) → asked ≡ given → Leaves (told asked text (length out)) a out out'
+pub as_asked : (asked given : Settings) (text out : List ℕ) (a : Result Sizes Refusal) (out' : List ℕ) → asked ≡ given → Leaves (told asked text (length out)) a out out'
     → Leaves (told given text (length out)) a out out'
 as_asked asked given text out a out' e h = subst (λ (x : Settings). Leaves (told x text (length out)) a out out') e h
 
-one_said : (a : Answer) (r s : StepsReply) → SaysSteps r a → SaysSteps s a → r ≡ s
+one_said : (a : Result Sizes Refusal) (r s : StepsReply) → SaysSteps r a → SaysSteps s a → r ≡ s
 one_said a r s h k =
     rw (
       h.number ∙ sym k.number,
@@ -63,7 +64,7 @@ pub record Alike (r s : AuditReply) : Type 0 where
   pub statement : r.statement ≡ s.statement
   pub offset : r.offset ≡ s.offset
 
-alike_at : (r s : AuditReply) (f a w x : ℕ) (o : Origin) → SaysAt r f a w x o → SaysAt s f a w x o → Alike r s
+alike_at : (r s : AuditReply) (f a w x : ℕ) (o : Option (Place × ℕ)) → SaysAt r f a w x o → SaysAt s f a w x o → Alike r s
 alike_at r s f a w x o h k =
     record {
       number = h.number ∙ sym k.number;
@@ -95,9 +96,9 @@ alike_refused r s f h k =
       offset = h.zeros.6 ∙ sym k.zeros.6;
     }
 
-pub one_audit : (r s : AuditReply) (a : Found) → SaysAudit r a → SaysAudit s a → Alike r s
-one_audit r s Same h k = alike_at r s 0 0 0 0 Nothing h k
-one_audit r s (Differs a w x o) h k = alike_at r s 1 a.0 w x o h k
-one_audit r s (Short a o) h k = alike_at r s 2 a.0 0 0 o h k
-one_audit r s (Long a) h k = alike_at r s 3 a.0 0 0 Nothing h k
-one_audit r s (Refused q) h k = alike_refused r s (fault_of q) h k
+pub one_audit : (r s : AuditReply) (a : Result Finding Refusal) → SaysAudit r a → SaysAudit s a → Alike r s
+one_audit r s (Ok Same) h k = alike_at r s 0 0 0 0 None h k
+one_audit r s (Ok (Differs a w x o)) h k = alike_at r s 1 a.0 w x o h k
+one_audit r s (Ok (Short a o)) h k = alike_at r s 2 a.0 0 0 o h k
+one_audit r s (Ok (Long a)) h k = alike_at r s 3 a.0 0 0 None h k
+one_audit r s (Err q) h k = alike_refused r s (fault_of q) h k

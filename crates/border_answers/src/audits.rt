@@ -1,15 +1,13 @@
 // `audit`, for C, and its answer as a struct of numbers.
-ghost use Rattle.std.specs.Prelude.{◌≡◌};
-ghost use Rattle.audit.specs.declared.Found.TheVariants.{Refused};
+ghost use Rattle.std.specs.Prelude.{◌≡◌, Err};
 ghost use Rattle.audit.specs.Audit.{audit as answer};
 ghost use Rattle.audit.specs.Held.{audit_as};
 ghost use Rattle.border_core.specs.Replies.{asked_by};
 ghost use Rattle.border_answers.specs.Replies.{IsBehind, SaysAudit, SaysAt};
 
-use asm::Origin;
-use audit::{Found, audit};
+use audit::{Finding, audit};
 use border_core::{settings_of, told_of};
-use rules::{Address, Refusal};
+use rules::{Address, Place, Refusal};
 
 // The finding: 0 the same, 1 another byte, 2 the shipped image ends there, 3 only it goes on. The address, both bytes, and whether the
 // wanted byte belongs to a statement (1), its place and the byte's offset.
@@ -37,16 +35,16 @@ pub struct Behind {
     pub offset: u64,
 }
 
-fn owner_of(origin: Origin) -> Behind
+fn owner_of(origin: Option<(Place, usize)>) -> Behind
     ensures { IsBehind result origin }
 {
     match origin {
-        Origin::At(i, o) => Behind {
+        Some((i, o)) => Behind {
             owned: 1,
             statement: i.0 as u64,
             offset: o as u64,
         },
-        Origin::Nothing => Behind {
+        None => Behind {
             owned: 0,
             statement: 0,
             offset: 0,
@@ -54,7 +52,13 @@ fn owner_of(origin: Origin) -> Behind
     }
 }
 
-fn found_at(finding: u64, a: Address, wanted: u8, shipped: u8, origin: Origin) -> AuditReply
+fn found_at(
+    finding: u64,
+    a: Address,
+    wanted: u8,
+    shipped: u8,
+    origin: Option<(Place, usize)>,
+) -> AuditReply
     ensures { SaysAt result finding a.0 wanted shipped origin }
 {
     let b = owner_of(origin);
@@ -74,7 +78,7 @@ fn found_at(finding: u64, a: Address, wanted: u8, shipped: u8, origin: Origin) -
 }
 
 fn refused(r: Refusal) -> AuditReply
-    ensures { SaysAudit result (Refused r) }
+    ensures { SaysAudit result (Err r) }
 {
     let t = told_of(r);
     AuditReply {
@@ -92,15 +96,15 @@ fn refused(r: Refusal) -> AuditReply
     }
 }
 
-fn audit_reply(found: Found) -> AuditReply
+fn audit_reply(found: Result<Finding, Refusal>) -> AuditReply
     ensures { SaysAudit result found }
 {
     match found {
-        Found::Refused(r) => refused(r),
-        Found::Same => found_at(0, Address(0), 0, 0, Origin::Nothing),
-        Found::Differs(a, w, s, o) => found_at(1, a, w, s, o),
-        Found::Short(a, o) => found_at(2, a, 0, 0, o),
-        Found::Long(a) => found_at(3, a, 0, 0, Origin::Nothing),
+        Err(r) => refused(r),
+        Ok(Finding::Same) => found_at(0, Address(0), 0, 0, None),
+        Ok(Finding::Differs(a, w, s, o)) => found_at(1, a, w, s, o),
+        Ok(Finding::Short(a, o)) => found_at(2, a, 0, 0, o),
+        Ok(Finding::Long(a)) => found_at(3, a, 0, 0, None),
     }
 }
 

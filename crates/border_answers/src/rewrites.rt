@@ -1,12 +1,11 @@
 // `steps`, for C, and its answer as a struct of numbers.
-ghost use Rattle.std.specs.Prelude.{◌≡◌, length};
-ghost use Rattle.rules.specs.declared.Answer.TheVariants.{Refused};
+ghost use Rattle.std.specs.Prelude.{◌≡◌, length, Err};
 ghost use Rattle.steps.specs.Entry.{told, answer_as, room_as};
 ghost use Rattle.border_core.specs.Replies.{asked_by};
 ghost use Rattle.border_answers.specs.Replies.{SaysSteps};
 
 use border_core::{settings_of, told_of};
-use rules::{Answer, Refusal};
+use rules::{Refusal, Sizes};
 use steps::steps;
 
 // How many bytes of lines are in the lent room, and how many rewrites they tell.
@@ -22,7 +21,7 @@ pub struct StepsReply {
 }
 
 fn refused(r: Refusal) -> StepsReply
-    ensures { SaysSteps result (Refused r) }
+    ensures { SaysSteps result (Err r) }
 {
     let t = told_of(r);
     StepsReply {
@@ -35,12 +34,12 @@ fn refused(r: Refusal) -> StepsReply
     }
 }
 
-pub fn steps_reply(answer: Answer) -> StepsReply
+pub fn steps_reply(answer: Result<Sizes, Refusal>) -> StepsReply
     ensures { SaysSteps result answer }
 {
     match answer {
-        Answer::Refused(r) => refused(r),
-        Answer::Done(s) => StepsReply {
+        Err(r) => refused(r),
+        Ok(s) => StepsReply {
             number: 0,
             place: 0,
             argument: 0,

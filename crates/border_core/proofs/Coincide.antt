@@ -2,16 +2,16 @@
 use mathlib.Core.Path.{◌≡◌, sym, ◌∙◌, subst}
 use mathlib.Core.List.{List}
 use Prim.Native.Nat.{ℕ}
-use Rattle.rules.specs.declared.Answer.{Answer}
+use Rattle.rules.specs.declared.Address.{Address}
+use Rattle.rules.specs.declared.Refusal.{Refusal}
+use Rattle.rules.specs.declared.Sizes.{Sizes}
+use Rattle.std.specs.Prelude.{Result}
 use Rattle.rules.specs.declared.Settings.{Settings}
 use Rattle.rules.specs.Answers.{Judged}
 use Rattle.rules.specs.Listing.{read_listing}
 use Rattle.rules.specs.Run.{Output}
-use Rattle.listing.specs.declared.Listed.{Listed}
-use Rattle.entries.specs.declared.optimizing.Stemmed.{Stemmed}
 use Rattle.entries.proofs.Coincide.{one_stems}
 use Rattle.printing.proofs.Coincide.{one_printed}
-use Rattle.sits.specs.declared.Sits.{Sits}
 use Rattle.sits.specs.Sits.{sits, sits_as}
 use Rattle.border_core.specs.declared.replies.Reply.{Reply}
 use Rattle.border_core.specs.declared.replies.CountedReply.{CountedReply}
@@ -24,7 +24,7 @@ use Rattle.border_core.specs.Stems.{SaysStems, HandsOut}
 
 -- ---- an answer is said by one struct
 
-pub one_reply : (a : Answer) (r s : Reply) → Says r a → Says s a → r ≡ s
+pub one_reply : (a : Result Sizes Refusal) (r s : Reply) → Says r a → Says s a → r ≡ s
 one_reply a r s h k =
     rw (
       h.number ∙ sym k.number,
@@ -36,15 +36,15 @@ one_reply a r s h k =
       h.image ∙ sym k.image,
     )
 
-one_counted : (a : Listed) (r s : CountedReply) → SaysCounted r a → SaysCounted s a → r ≡ s
+one_counted : (a : Result ℕ Refusal) (r s : CountedReply) → SaysCounted r a → SaysCounted s a → r ≡ s
 one_counted a r s h k =
     rw (h.number ∙ sym k.number, h.place ∙ sym k.place, h.argument ∙ sym k.argument, h.amount ∙ sym k.amount, h.statements ∙ sym k.statements)
 
-one_sits : (a : Sits) (r s : SitsReply) → SaysSits r a → SaysSits s a → r ≡ s
+one_sits : (a : Result Address Refusal) (r s : SitsReply) → SaysSits r a → SaysSits s a → r ≡ s
 one_sits a r s h k =
     rw (h.number ∙ sym k.number, h.place ∙ sym k.place, h.argument ∙ sym k.argument, h.amount ∙ sym k.amount, h.address ∙ sym k.address)
 
-one_page_said : (a : Answer) (r s : PrintedReply) → SaysPrinted r a → SaysPrinted s a → r ≡ s
+one_page_said : (a : Result Sizes Refusal) (r s : PrintedReply) → SaysPrinted r a → SaysPrinted s a → r ≡ s
 one_page_said a r s h k =
     rw (
       h.number ∙ sym k.number,
@@ -57,7 +57,7 @@ one_page_said a r s h k =
       h.image ∙ sym k.image,
     )
 
-one_said : (a : Stemmed) (r s : StemsReply) → SaysStems r a → SaysStems s a → r ≡ s
+one_said : (a : Result (Sizes × ℕ) Refusal) (r s : StemsReply) → SaysStems r a → SaysStems s a → r ≡ s
 one_said a r s h k =
     rw (
       h.number ∙ sym k.number,
@@ -103,11 +103,11 @@ module _ (text : List ℕ) where
       → Prints asked text r page image x v → Prints asked text s page image y w → (r ≡ s) × (x ≡ y) × (v ≡ w)
   one_page asked page image r s x y v w a b =
       let e = one_printed asked text page image a.answer b.answer x y v w a.leaves b.leaves in
-      (one_page_said b.answer r s (subst (λ (z : Answer). SaysPrinted r z) e.0 a.says) b.says, e.1, e.2)
+      (one_page_said b.answer r s (subst (λ (z : Result Sizes Refusal). SaysPrinted r z) e.0 a.says) b.says, e.1, e.2)
 
   -- `mortarbee_stems`
   pub one_handed_out : (asked : Settings) (out image list : List ℕ) (r s : StemsReply) (x y v w l m : List ℕ)
       → HandsOut asked text r out image list x v l → HandsOut asked text s out image list y w m → (r ≡ s) × (x ≡ y) × (v ≡ w) × (l ≡ m)
   one_handed_out asked out image list r s x y v w l m a b =
       let e = one_stems asked text out image list a.answer b.answer x y v w l m a.leaves b.leaves in
-      (one_said b.answer r s (subst (λ (z : Stemmed). SaysStems r z) e.0 a.says) b.says, e.1, e.2, e.3)
+      (one_said b.answer r s (subst (λ (z : Result (Sizes × ℕ) Refusal). SaysStems r z) e.0 a.says) b.says, e.1, e.2, e.3)

@@ -1,30 +1,30 @@
 -- What `targets` answers for C: a struct of numbers, the first 0 where nothing is refused, and what it leaves in the room.
-use Rattle.std.specs.Prelude.{◌≡◌, List, ℕ, length}
+use Rattle.rules.specs.declared.Refusal.{Refusal}
+use Rattle.targets.specs.declared.Counts.{Counts}
+use Rattle.std.specs.Prelude.{◌≡◌, List, ℕ, length, Err, Result, Ok}
 use Rattle.rules.specs.declared.Settings.{Settings}
 use Rattle.rules.specs.Refusals.{Fault, fault_of}
-use Rattle.targets.specs.declared.Told.{Told}
-use Rattle.targets.specs.declared.Told.TheVariants.{Done, Refused}
 use Rattle.targets.specs.Entry.{told, answer_as, room_as}
 use Rattle.border_core.specs.declared.aims.TargetsReply.{TargetsReply}
 use Rattle.border_core.specs.Replies.{nothing}
 
-abbrev pub targets_fault : Told → Fault
-targets_fault (Done c) = nothing
-targets_fault (Refused r) = fault_of r
+abbrev pub targets_fault : Result Counts Refusal → Fault
+targets_fault (Ok c) = nothing
+targets_fault (Err r) = fault_of r
 
-abbrev pub bytes_of : Told → ℕ
-bytes_of (Done c) = c.bytes
-bytes_of (Refused r) = 0
+abbrev pub bytes_of : Result Counts Refusal → ℕ
+bytes_of (Ok c) = c.bytes
+bytes_of (Err r) = 0
 
-abbrev pub transfers_of : Told → ℕ
-transfers_of (Done c) = c.transfers
-transfers_of (Refused r) = 0
+abbrev pub transfers_of : Result Counts Refusal → ℕ
+transfers_of (Ok c) = c.transfers
+transfers_of (Err r) = 0
 
-abbrev pub marked_of : Told → ℕ
-marked_of (Done c) = c.marked
-marked_of (Refused r) = 0
+abbrev pub marked_of : Result Counts Refusal → ℕ
+marked_of (Ok c) = c.marked
+marked_of (Err r) = 0
 
-pub record SaysTargets (r : TargetsReply) (a : Told) : Type 0 where
+pub record SaysTargets (r : TargetsReply) (a : Result Counts Refusal) : Type 0 where
   pub number : r.number ≡ (targets_fault a).number
   pub place : r.place ≡ (targets_fault a).place
   pub argument : r.argument ≡ (targets_fault a).argument

@@ -1,6 +1,7 @@
 -- What the program prints, for C: the page of an accepted text, and the 7E line of a refusal's four numbers.
-use Rattle.std.specs.Prelude.{◌≡◌, List, ℕ, ◌%◌, take, drop}
-use Rattle.rules.specs.declared.Answer.{Answer}
+use Rattle.rules.specs.declared.Refusal.{Refusal}
+use Rattle.rules.specs.declared.Sizes.{Sizes}
+use Rattle.std.specs.Prelude.{◌≡◌, List, ℕ, ◌%◌, take, drop, Result}
 use Rattle.rules.specs.declared.Settings.{Settings}
 use Rattle.rules.specs.Output.{refused_line}
 use Rattle.rules.specs.Run.{program}
@@ -8,7 +9,7 @@ use Rattle.printing.specs.Page.{page_length, PrintedRun}
 use Rattle.border_core.specs.declared.pages.PrintedReply.{PrintedReply}
 use Rattle.border_core.specs.Replies.{fault_in, listing_of, rewrites_of, image_of}
 
-pub record SaysPrinted (r : PrintedReply) (a : Answer) : Type 0 where
+pub record SaysPrinted (r : PrintedReply) (a : Result Sizes Refusal) : Type 0 where
   pub number : r.number ≡ (fault_in a).number
   pub place : r.place ≡ (fault_in a).place
   pub argument : r.argument ≡ (fault_in a).argument
@@ -20,7 +21,7 @@ pub record SaysPrinted (r : PrintedReply) (a : Answer) : Type 0 where
 
 -- `print_run`, with its answer so
 pub record Prints (asked : Settings) (text : List ℕ) (r : PrintedReply) (page image page' image' : List ℕ) : Type 0 where
-  pub answer : Answer
+  pub answer : Result Sizes Refusal
   pub says : SaysPrinted r answer
   pub leaves : PrintedRun asked text page image answer page' image'
 

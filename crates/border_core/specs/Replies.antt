@@ -1,19 +1,16 @@
 -- What the functions for C answer: structs of numbers, the first 0 where nothing is refused.
-use Rattle.std.specs.Prelude.{◌≡◌, List, not, ℕ, eqb, length}
+use Rattle.rules.specs.declared.Address.{Address}
+use Rattle.rules.specs.declared.Refusal.{Refusal}
+use Rattle.rules.specs.declared.Sizes.{Sizes}
+use Rattle.std.specs.Prelude.{◌≡◌, List, not, ℕ, eqb, length, Err, Result, Ok}
 use Rattle.rules.specs.declared.Settings.{Settings}
-use Rattle.rules.specs.declared.Answer.{Answer}
-use Rattle.rules.specs.declared.Answer.TheVariants.{Done, Refused}
 use Rattle.rules.specs.Answers.{Judged, ok, no}
 use Rattle.rules.specs.Programs.{Program}
 use Rattle.rules.specs.Run.{Output, assembled, answer_of, listing_after, image_after}
 use Rattle.rules.specs.Refusals.{Fault, of_none, fault_of}
-use Rattle.listing.specs.declared.Listed.{Listed}
-use Rattle.listing.specs.declared.Listed.TheVariants.{Read, Refused as NotListed}
 use Rattle.entries.specs.Assembling.{answer_as, room_as}
 use Rattle.digits.specs.Leaves.{answer_as as text_as, room_as as text_room}
 use Rattle.readable.specs.Readable.{readable}
-use Rattle.sits.specs.declared.Sits.{Sits}
-use Rattle.sits.specs.declared.Sits.TheVariants.{At, Refused as NotSitting}
 use Rattle.sits.specs.All.{laid_out, laid_as, table_after}
 use Rattle.border_core.specs.declared.faults.Told.{Told}
 use Rattle.border_core.specs.declared.replies.Reply.{Reply}
@@ -37,23 +34,23 @@ pub record Tells (t : Told) (f : Fault) : Type 0 where
 
 -- ---- document 01
 
-abbrev pub fault_in : Answer → Fault
-fault_in (Done s) = nothing
-fault_in (Refused r) = fault_of r
+abbrev pub fault_in : Result Sizes Refusal → Fault
+fault_in (Ok s) = nothing
+fault_in (Err r) = fault_of r
 
-abbrev pub listing_of : Answer → ℕ
-listing_of (Done s) = s.listing
-listing_of (Refused r) = 0
+abbrev pub listing_of : Result Sizes Refusal → ℕ
+listing_of (Ok s) = s.listing
+listing_of (Err r) = 0
 
-abbrev pub rewrites_of : Answer → ℕ
-rewrites_of (Done s) = s.rewrites
-rewrites_of (Refused r) = 0
+abbrev pub rewrites_of : Result Sizes Refusal → ℕ
+rewrites_of (Ok s) = s.rewrites
+rewrites_of (Err r) = 0
 
-abbrev pub image_of : Answer → ℕ
-image_of (Done s) = s.image
-image_of (Refused r) = 0
+abbrev pub image_of : Result Sizes Refusal → ℕ
+image_of (Ok s) = s.image
+image_of (Err r) = 0
 
-pub record Says (r : Reply) (a : Answer) : Type 0 where
+pub record Says (r : Reply) (a : Result Sizes Refusal) : Type 0 where
   pub number : r.number ≡ (fault_in a).number
   pub place : r.place ≡ (fault_in a).place
   pub argument : r.argument ≡ (fault_in a).argument
@@ -80,19 +77,19 @@ pub record Ends (end : Judged Output) (r : Reply) (out image out' image' : List 
 
 -- ---- "1 a line or frame breaks the listing form; 2 a limit above is passed", and how many statements there are
 
-abbrev pub counted_as : Judged Program → Listed
-counted_as (ok p) = Read (length p)
-counted_as (no r) = NotListed r
+abbrev pub counted_as : Judged Program → Result ℕ Refusal
+counted_as (ok p) = Ok (length p)
+counted_as (no r) = Err r
 
-abbrev pub count_fault : Listed → Fault
-count_fault (Read n) = nothing
-count_fault (NotListed r) = fault_of r
+abbrev pub count_fault : Result ℕ Refusal → Fault
+count_fault (Ok n) = nothing
+count_fault (Err r) = fault_of r
 
-abbrev pub count_of : Listed → ℕ
-count_of (Read n) = n
-count_of (NotListed r) = 0
+abbrev pub count_of : Result ℕ Refusal → ℕ
+count_of (Ok n) = n
+count_of (Err r) = 0
 
-pub record SaysCounted (r : CountedReply) (a : Listed) : Type 0 where
+pub record SaysCounted (r : CountedReply) (a : Result ℕ Refusal) : Type 0 where
   pub number : r.number ≡ (count_fault a).number
   pub place : r.place ≡ (count_fault a).place
   pub argument : r.argument ≡ (count_fault a).argument
@@ -101,15 +98,15 @@ pub record SaysCounted (r : CountedReply) (a : Listed) : Type 0 where
 
 -- ---- C-17, `where_sits` and `all_sit`
 
-abbrev pub sits_fault : Sits → Fault
-sits_fault (At a) = nothing
-sits_fault (NotSitting r) = fault_of r
+abbrev pub sits_fault : Result Address Refusal → Fault
+sits_fault (Ok a) = nothing
+sits_fault (Err r) = fault_of r
 
-abbrev pub address_of : Sits → ℕ
-address_of (At a) = a.0
-address_of (NotSitting r) = 0
+abbrev pub address_of : Result Address Refusal → ℕ
+address_of (Ok a) = a.0
+address_of (Err r) = 0
 
-pub record SaysSits (r : SitsReply) (a : Sits) : Type 0 where
+pub record SaysSits (r : SitsReply) (a : Result Address Refusal) : Type 0 where
   pub number : r.number ≡ (sits_fault a).number
   pub place : r.place ≡ (sits_fault a).place
   pub argument : r.argument ≡ (sits_fault a).argument

@@ -1,11 +1,11 @@
 // `targets`, for C, and its answer as a struct of numbers.
-ghost use Rattle.targets.specs.declared.Told.TheVariants.{Refused};
+ghost use Rattle.std.specs.Prelude.{Err};
 ghost use Rattle.border_core.specs.Replies.{asked_by};
 ghost use Rattle.border_core.specs.Aims.{Aims, SaysTargets};
 
 use crate::faults::{settings_of, told_of};
 use rules::Refusal;
-use targets::{Told, targets};
+use targets::{Counts, targets};
 
 // How many bytes of lines are in the lent room, for how many transfers, and how many of them are marked.
 #[repr(C)]
@@ -21,7 +21,7 @@ pub struct TargetsReply {
 }
 
 fn refused(r: Refusal) -> TargetsReply
-    ensures { SaysTargets result (Refused r) }
+    ensures { SaysTargets result (Err r) }
 {
     let t = told_of(r);
     TargetsReply {
@@ -35,12 +35,12 @@ fn refused(r: Refusal) -> TargetsReply
     }
 }
 
-fn targets_reply(answer: Told) -> TargetsReply
+fn targets_reply(answer: Result<Counts, Refusal>) -> TargetsReply
     ensures { SaysTargets result answer }
 {
     match answer {
-        Told::Refused(r) => refused(r),
-        Told::Done(c) => TargetsReply {
+        Err(r) => refused(r),
+        Ok(c) => TargetsReply {
             number: 0,
             place: 0,
             argument: 0,

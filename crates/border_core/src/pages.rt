@@ -1,6 +1,5 @@
 // What document 01's program prints: the page of an accepted text, or a refusal's 7E line.
-ghost use Rattle.std.specs.Prelude.{◌≡◌};
-ghost use Rattle.rules.specs.declared.Answer.TheVariants.{Refused};
+ghost use Rattle.std.specs.Prelude.{◌≡◌, Err};
 ghost use Rattle.rules.specs.Output.{refused_line};
 ghost use Rattle.border_core.specs.Replies.{asked_by};
 ghost use Rattle.border_core.specs.Pages.{SaysPrinted, Prints};
@@ -8,7 +7,7 @@ ghost use Rattle.border_core.specs.Pages.{SaysPrinted, Prints};
 use crate::faults::{settings_of, told_of};
 use output::refused_line;
 use printing::{page_length, print_run};
-use rules::{Answer, Refusal};
+use rules::{Refusal, Sizes};
 
 // How many bytes of the page are what is printed, how many of them the listing, the rewrites, and the bytes of the image.
 #[repr(C)]
@@ -25,7 +24,7 @@ pub struct PrintedReply {
 }
 
 fn refused(r: Refusal) -> PrintedReply
-    ensures { SaysPrinted result (Refused r) }
+    ensures { SaysPrinted result (Err r) }
 {
     let t = told_of(r);
     PrintedReply {
@@ -40,13 +39,13 @@ fn refused(r: Refusal) -> PrintedReply
     }
 }
 
-fn printed_reply(answer: Answer) -> PrintedReply
+fn printed_reply(answer: Result<Sizes, Refusal>) -> PrintedReply
     ensures { SaysPrinted result answer }
 {
     let page = page_length(answer);
     match answer {
-        Answer::Refused(r) => refused(r),
-        Answer::Done(s) => PrintedReply {
+        Err(r) => refused(r),
+        Ok(s) => PrintedReply {
             number: 0,
             place: 0,
             argument: 0,

@@ -1,13 +1,9 @@
 // An enum cannot cross the border to C, so an answer is a struct of numbers: number 0 and what was asked for, or a refusal's four numbers and zeros.
-ghost use Rattle.rules.specs.declared.Answer.TheVariants.{Refused};
-ghost use Rattle.listing.specs.declared.Listed.TheVariants.{Refused as NotListed};
-ghost use Rattle.sits.specs.declared.Sits.TheVariants.{Refused as NotSitting};
+ghost use Rattle.std.specs.Prelude.{Err};
 ghost use Rattle.border_core.specs.Replies.{Says, SaysCounted, SaysSits};
 
 use crate::faults::told_of;
-use listing::Listed;
-use rules::{Answer, Refusal};
-use sits::Sits;
+use rules::{Address, Refusal, Sizes};
 
 // Of `assemble` and `optimize_jumps`: what is in the lent rooms.
 #[repr(C)]
@@ -45,7 +41,7 @@ pub struct SitsReply {
 }
 
 fn refused(r: Refusal) -> Reply
-    ensures { Says result (Refused r) }
+    ensures { Says result (Err r) }
 {
     let t = told_of(r);
     Reply {
@@ -59,12 +55,12 @@ fn refused(r: Refusal) -> Reply
     }
 }
 
-pub fn reply_of(answer: Answer) -> Reply
+pub fn reply_of(answer: Result<Sizes, Refusal>) -> Reply
     ensures { Says result answer }
 {
     match answer {
-        Answer::Refused(r) => refused(r),
-        Answer::Done(s) => Reply {
+        Err(r) => refused(r),
+        Ok(s) => Reply {
             number: 0,
             place: 0,
             argument: 0,
@@ -77,7 +73,7 @@ pub fn reply_of(answer: Answer) -> Reply
 }
 
 fn not_listed(r: Refusal) -> CountedReply
-    ensures { SaysCounted result (NotListed r) }
+    ensures { SaysCounted result (Err r) }
 {
     let t = told_of(r);
     CountedReply {
@@ -89,12 +85,12 @@ fn not_listed(r: Refusal) -> CountedReply
     }
 }
 
-pub fn counted_reply(answer: Listed) -> CountedReply
+pub fn counted_reply(answer: Result<usize, Refusal>) -> CountedReply
     ensures { SaysCounted result answer }
 {
     match answer {
-        Listed::Refused(r) => not_listed(r),
-        Listed::Read(n) => CountedReply {
+        Err(r) => not_listed(r),
+        Ok(n) => CountedReply {
             number: 0,
             place: 0,
             argument: 0,
@@ -105,7 +101,7 @@ pub fn counted_reply(answer: Listed) -> CountedReply
 }
 
 fn not_sitting(r: Refusal) -> SitsReply
-    ensures { SaysSits result (NotSitting r) }
+    ensures { SaysSits result (Err r) }
 {
     let t = told_of(r);
     SitsReply {
@@ -117,12 +113,12 @@ fn not_sitting(r: Refusal) -> SitsReply
     }
 }
 
-pub fn sits_reply(answer: Sits) -> SitsReply
+pub fn sits_reply(answer: Result<Address, Refusal>) -> SitsReply
     ensures { SaysSits result answer }
 {
     match answer {
-        Sits::Refused(r) => not_sitting(r),
-        Sits::At(a) => SitsReply {
+        Err(r) => not_sitting(r),
+        Ok(a) => SitsReply {
             number: 0,
             place: 0,
             argument: 0,

@@ -8,7 +8,8 @@ ghost use Rattle.border_core.specs.Replies.{asked_by, counted_as, SaysCounted, S
 use crate::faults::settings_of;
 use crate::replies::{CountedReply, Reply, SitsReply, counted_reply, reply_of, sits_reply};
 use entries::{assemble, optimize_jumps};
-use listing::{Listed, read_listing};
+use listing::read_listing;
+use rules::Refusal;
 use sits::{all_sit, where_sits};
 
 // `assemble`, for C.
@@ -35,7 +36,7 @@ pub fn mortarbee_optimize_jumps(
 }
 
 // How many statements a text has that keeps the form of a listing: 1 and 2 alone.
-fn count(listing: &[u8]) -> Listed
+fn count(listing: &[u8]) -> Result<usize, Refusal>
     ensures { result ≡ counted_as (read_listing listing.now) }
 {
     let mut frames = [0u8; 28672];

@@ -1,11 +1,11 @@
 // C-13: a run that hands out its list of stems, and its answer as a struct of numbers.
-ghost use Rattle.entries.specs.declared.optimizing.Stemmed.TheVariants.{Refused};
+ghost use Rattle.std.specs.Prelude.{Err};
 ghost use Rattle.border_core.specs.Replies.{asked_by};
 ghost use Rattle.border_core.specs.Stems.{SaysStems, HandsOut};
 
 use crate::faults::{settings_of, told_of};
-use entries::{Stemmed, optimize_stems};
-use rules::Refusal;
+use entries::optimize_stems;
+use rules::{Refusal, Sizes};
 
 // What is in the lent rooms; the list has two bytes for each of its `stems` entries.
 #[repr(C)]
@@ -22,7 +22,7 @@ pub struct StemsReply {
 }
 
 fn refused(r: Refusal) -> StemsReply
-    ensures { SaysStems result (Refused r) }
+    ensures { SaysStems result (Err r) }
 {
     let t = told_of(r);
     StemsReply {
@@ -37,12 +37,12 @@ fn refused(r: Refusal) -> StemsReply
     }
 }
 
-fn stems_reply(answer: Stemmed) -> StemsReply
+fn stems_reply(answer: Result<(Sizes, usize), Refusal>) -> StemsReply
     ensures { SaysStems result answer }
 {
     match answer {
-        Stemmed::Refused(r) => refused(r),
-        Stemmed::Done(s, n) => StemsReply {
+        Err(r) => refused(r),
+        Ok((s, n)) => StemsReply {
             number: 0,
             place: 0,
             argument: 0,

@@ -3,7 +3,7 @@ ghost use Rattle.rules.specs.Refusals.{fault_of};
 ghost use Rattle.border_differences.specs.Replies.{TellsWhose, SaysDiffers, TellsDifferences};
 
 use border_core::told_of;
-use differences::{Differs, differences};
+use differences::{Whose, differences};
 use rules::Refusal;
 
 // Whose refusal it is, 1 the first listing's, 2 the second's, 0 neither's; and how many bytes of text are in the lent room.
@@ -32,14 +32,14 @@ fn refused_for(whose: u64, r: Refusal) -> DiffersReply
     }
 }
 
-fn reply_of(answer: Differs) -> DiffersReply
+fn reply_of(answer: Result<usize, Whose>) -> DiffersReply
     ensures { SaysDiffers result answer }
 {
     match answer {
-        Differs::OfFirst(r) => refused_for(1, r),
-        Differs::OfSecond(r) => refused_for(2, r),
-        Differs::OfBoth(r) => refused_for(0, r),
-        Differs::Written(n) => DiffersReply {
+        Err(Whose::OfFirst(r)) => refused_for(1, r),
+        Err(Whose::OfSecond(r)) => refused_for(2, r),
+        Err(Whose::OfBoth(r)) => refused_for(0, r),
+        Ok(n) => DiffersReply {
             number: 0,
             place: 0,
             argument: 0,
@@ -61,5 +61,5 @@ pub fn tell_differences(
     ensures { TellsDifferences first.now second.now given pairing.now result
         out.old out.new }
 {
-    reply_of(differences(first, second, given != 0, pairing, out))
+    reply_of(differences(first, second, (given != 0).then_some(pairing), out))
 }

@@ -2,12 +2,14 @@
 use mathlib.Core.Path.{◌≡◌, sym, ◌∙◌, subst}
 use mathlib.Core.List.{List}
 use Prim.Native.Nat.{ℕ}
-use Rattle.rules.specs.declared.Answer.{Answer}
+use Rattle.rules.specs.declared.Refusal.{Refusal}
+use Rattle.rules.specs.declared.Sizes.{Sizes}
+use Rattle.std.specs.Prelude.{Result}
 use Rattle.intake.proofs.Coincide.{one_read}
 use Rattle.border_read.specs.declared.ReadReply.{ReadReply}
 use Rattle.border_read.specs.Replies.{Says, Replies}
 
-one_said : (a : Answer) (r s : ReadReply) → Says r a → Says s a → r ≡ s
+one_said : (a : Result Sizes Refusal) (r s : ReadReply) → Says r a → Says s a → r ≡ s
 one_said a r s h k =
     rw (
       h.number ∙ sym k.number,

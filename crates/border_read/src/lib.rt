@@ -1,12 +1,12 @@
 // C-19 for the border: a text for people read into a listing, with its answer as a struct of numbers.
 #![tactic(auto)]
 
-ghost use Rattle.rules.specs.declared.Answer.TheVariants.{Refused};
+ghost use Rattle.std.specs.Prelude.{Err};
 ghost use Rattle.border_read.specs.Replies.{Says, Replies};
 
 use border_core::told_of;
 use intake::read_people;
-use rules::{Answer, Refusal};
+use rules::{Refusal, Sizes};
 
 // 0 and the listing's length; or a refusal's number, its place, and for 15 the column.
 #[repr(C)]
@@ -20,7 +20,7 @@ pub struct ReadReply {
 }
 
 fn refused(r: Refusal) -> ReadReply
-    ensures { Says result (Refused r) }
+    ensures { Says result (Err r) }
 {
     let t = told_of(r);
     ReadReply {
@@ -32,12 +32,12 @@ fn refused(r: Refusal) -> ReadReply
     }
 }
 
-fn reply_of(answer: Answer) -> ReadReply
+fn reply_of(answer: Result<Sizes, Refusal>) -> ReadReply
     ensures { Says result answer }
 {
     match answer {
-        Answer::Refused(r) => refused(r),
-        Answer::Done(s) => ReadReply {
+        Err(r) => refused(r),
+        Ok(s) => ReadReply {
             number: 0,
             place: 0,
             argument: 0,

@@ -1,12 +1,11 @@
 // `mapping`, for C, and its answer as a struct of numbers.
-ghost use Rattle.std.specs.Prelude.{◌≡◌, length};
-ghost use Rattle.mapping.specs.declared.Mapped.TheVariants.{Refused};
+ghost use Rattle.std.specs.Prelude.{◌≡◌, length, Err};
 ghost use Rattle.mapping.specs.Entry.{mapped, answer_as, room_as};
 ghost use Rattle.border_core.specs.Replies.{asked_by};
 ghost use Rattle.border_walks.specs.Maps.{SaysMap};
 
 use border_core::{settings_of, told_of};
-use mapping::{Mapped, mapping};
+use mapping::{Counts, mapping};
 use rules::Refusal;
 
 // How many bytes of lines are in the lent room, and for how many rows.
@@ -22,7 +21,7 @@ pub struct MapReply {
 }
 
 fn refused(r: Refusal) -> MapReply
-    ensures { SaysMap result (Refused r) }
+    ensures { SaysMap result (Err r) }
 {
     let t = told_of(r);
     MapReply {
@@ -35,12 +34,12 @@ fn refused(r: Refusal) -> MapReply
     }
 }
 
-fn map_reply(answer: Mapped) -> MapReply
+fn map_reply(answer: Result<Counts, Refusal>) -> MapReply
     ensures { SaysMap result answer }
 {
     match answer {
-        Mapped::Refused(r) => refused(r),
-        Mapped::Done(c) => MapReply {
+        Err(r) => refused(r),
+        Ok(c) => MapReply {
             number: 0,
             place: 0,
             argument: 0,

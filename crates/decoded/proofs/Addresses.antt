@@ -6,10 +6,10 @@ use mathlib.Core.Bool.{Bool, true, false, cond}
 use Prim.Native.Nat.{ℕ, zero, suc, ◌+◌, ◌<◌}
 use lib.Dec.{eqb}
 use lib.IntN.{ℤ, pos, negsuc}
+use Rattle.std.specs.Prelude.{Ok}
 use Rattle.laws.proofs.Tests.{false_true, true_false, clash}
 use Rattle.rules.specs.declared.Kind.{Kind}
 use Rattle.rules.specs.declared.Kind.TheVariants.{Reg, I8, D9, Bit, Rel8, A12, A16, Rel16}
-use Rattle.rules.specs.declared.Outcome.TheVariants.{Is}
 use Rattle.rules.specs.Answers.{ok}
 use Rattle.rules.specs.Forms.{size_at, operands_at, is_address, ends_in_address, is_transfer}
 use Rattle.rules.specs.Values.{below}
@@ -47,7 +47,7 @@ natural (pos a) h = (a, refl)
 natural (negsuc a) h = false_true h
 
 last_is : (names : List Entry) (p : Program) (i k n j : ℕ) (ds : List Kind) (xs : List Operand) (vs : List ℕ) → ends_in_address ds ≡ true → Sounds (map (λ d. is_register d) ds) xs → fields names p i k n j ds xs ≡ ok vs
-    → (a : ℕ) × (worth_of names p k (last_of xs) ≡ Is (pos a))
+    → (a : ℕ) × (worth_of names p k (last_of xs) ≡ Ok (pos a))
 unfolding fields
 last_is names p i k n j [] xs vs t s e = false_true t
 last_is names p i k n j (d ∷ []) [] vs t s e = absurd s
@@ -55,7 +55,7 @@ last_is names p i k n j (d ∷ []) (x ∷ []) vs t s e =
     let a = then_ok (value_at i (worth_of names p k x)) _ vs e in
     let b = then_ok (field i j n d a.0) _ vs a.2 in
     let z = natural a.0 (in_range_lem i j n d a.0 b.0 (address_plain d t) b.1) in
-    (z.0, value_ok i (worth_of names p k x) a.0 a.1 ∙ ap Is z.1)
+    (z.0, value_ok i (worth_of names p k x) a.0 a.1 ∙ ap Ok z.1)
 last_is names p i k n j (d ∷ []) (x ∷ y ∷ xs) vs t s e = absurd s.1
 last_is names p i k n j (d ∷ d' ∷ ds) [] vs t s e = absurd s
 last_is names p i k n j (d ∷ d' ∷ ds) (x ∷ []) vs t s e = absurd s.1
@@ -110,7 +110,7 @@ good_acts o tests v w n to s h = good_on (split (same_test (o.answers (v ∷ s.m
 good_acts o plain v w n to s h = good_on (reaches_here n)
 
 module _ (p : Program) (image : List ℕ) (assembles : judge p ≡ ok image) (sound : (j : Placeℕ) → SoundStmt (at p j)) where
-  target_is : (i f : ℕ) (xs : List Operand) (c : Placeℕ) → at p i ≡ instr f xs c → is_transfer f ≡ true → (a : ℕ) × (worth_of (names_of p) p (context_at p i) (last_of xs) ≡ Is (pos a))
+  target_is : (i f : ℕ) (xs : List Operand) (c : Placeℕ) → at p i ≡ instr f xs c → is_transfer f ≡ true → (a : ℕ) × (worth_of (names_of p) p (context_at p i) (last_of xs) ≡ Ok (pos a))
   unfolding placed position context_at is_transfer
   target_is i f xs c s t =
       let h = judge_passes p image assembles in
@@ -118,7 +118,7 @@ module _ (p : Program) (image : List ℕ) (assembles : judge p ≡ ok image) (so
       let l = lies_at h.names p 0 0 0 p image h.laid h.encoded i f xs c s (shaped f w.0).some in
       rw (names_are p h.names h.defined) (last_is h.names p (0 + i) (context_from 0 p i) _ 0 (operands_at f) xs l.vs t w.1 l.written)
 
-  aim_reaches : (k : ℕ) (x : Operand) (a : ℕ) → worth_of (names_of p) p k x ≡ Is (pos a) → Reaches (aim_at p k x)
+  aim_reaches : (k : ℕ) (x : Operand) (a : ℕ) → worth_of (names_of p) p k x ≡ Ok (pos a) → Reaches (aim_at p k x)
   aim_reaches k (register r) a e = λ z. clash (cc)
   aim_reaches k (value y) a e = rw e (split (is_followed _ _ k y))
     where

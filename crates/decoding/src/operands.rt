@@ -44,40 +44,28 @@ pub fn held(form: u8, kind: Kind, b0: u8, b1: u8, b2: u8) -> u16
     }
 }
 
-// The number that is written for an argument.
-#[derive(Clone, Copy)]
-pub enum Number {
-    Is(usize),
-    Outside,
-}
-
 // A relative target outside 0..65,535 is none.
-fn inside(a: usize) -> Number
+fn inside(a: usize) -> Option<usize>
     ensures { result ≡ number_as (pos a) }
 {
-    if a < 65536 {
-        Number::Is(a)
-    } else {
-        Number::Outside
-    }
+    (a < 65536).then_some(a)
 }
 
 // Eight bits, from the address after the instruction.
-fn near(n: usize, v: usize) -> Number
+fn near(n: usize, v: usize) -> Option<usize>
     requires { (n ≤ 65536) × (v < 256) }
     ensures { result ≡ number_as (near_to n v) }
 {
     if v < 128 {
         inside(n + v)
-    } else if n + v < 256 {
-        Number::Outside
     } else {
-        inside(n + v - 256)
+        (n + v).checked_sub(256).and_then(inside)
     }
 }
 
-// For what is held, v, of an argument of this kind, with n the address after the instruction.
-pub fn read_as(kind: Kind, n: usize, v: u16) -> Number
+// The number that is written for what is held, v, of an argument of this kind, with n the address after the instruction; none outside
+// 0..65,535.
+pub fn read_as(kind: Kind, n: usize, v: u16) -> Option<usize>
     requires { (n ≤ 65536) × (v < 2 ^ width kind) }
     ensures { result ≡ number_as (reads n kind v) }
 {

@@ -6,7 +6,7 @@ use crate::rooms::{part, put_digit, put_pair};
 use crate::switches::put_others;
 use entries::optimize_jumps;
 use printing::{page_length, print_run, refusal_line};
-use rules::{Answer, Refusal, Settings, Sizes};
+use rules::{Refusal, Settings, Sizes};
 use std::io;
 
 // The answer to a listing, and a line `==`.
@@ -20,14 +20,14 @@ pub fn put_answer(
     let mut image = [0u8; 65536];
     let answer = print_run(asked, text, &mut page, &mut image);
     match answer {
-        Answer::Done(sizes) => {
+        Ok(sizes) => {
             put_page(rt, &page, page_length(answer))?;
             put_image(rt, &image, sizes.image)?;
             if on_all_sides {
                 put_sides(rt, asked, text, sizes, &page)?;
             }
         }
-        Answer::Refused(r) => put_refusal(rt, r)?,
+        Err(r) => put_refusal(rt, r)?,
     }
     rt.write_all(b"==\n")
 }
@@ -42,7 +42,7 @@ fn put_sides(
 ) -> io::Result<()> {
     put_rooms(rt, asked, text, sizes)?;
     let page: &[u8] = page;
-    let n = part(page_length(Answer::Done(sizes)), page);
+    let n = part(page_length(Ok(sizes)), page);
     put_others(rt, text, &page[..n])
 }
 
@@ -136,8 +136,8 @@ fn put_lent(
 ) -> io::Result<()> {
     rt.write_all(b"ROOMS ")?;
     match optimize_jumps(asked, text, page, image) {
-        Answer::Done(_) => rt.write_all(b"7F\n"),
-        Answer::Refused(r) => {
+        Ok(_) => rt.write_all(b"7F\n"),
+        Err(r) => {
             put_refusal(rt, r)?;
             put_kept(rt, page)?;
             put_kept(rt, image)

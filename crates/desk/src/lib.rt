@@ -48,6 +48,7 @@ fn answer_blocks(
     on_all_sides: bool,
 ) -> io::Result<()> {
     let mut at = 0;
+    // block by block
     while at < text.len() {
         let rest = &text[at..];
         let n = block_end(rest);

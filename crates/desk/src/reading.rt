@@ -9,6 +9,7 @@ pub fn read_full<R: Read>(reader: &mut R, room: &mut [u8]) -> io::Result<usize>
     ensures { ReadsAtMost result room.new }
 {
     let mut done = 0;
+    // by what each read gives
     while done < room.len() {
         let n = reader.read(&mut room[done..])?;
         if n == 0 {

@@ -1,7 +1,7 @@
 // A listing under the other settings of C-24: its answer is written only where it is not the one that was given.
 use crate::rooms::part;
 use printing::{page_length, print_run, refusal_line};
-use rules::{Answer, Settings};
+use rules::Settings;
 use std::io;
 
 // The settings by their number: 1 keeps comments, 2 lets Callf shrink, 4 lets folds run.
@@ -27,8 +27,8 @@ fn put_other(rt: &impl Print, k: u8, text: &[u8], given: &[u8]) -> io::Result<()
     let mut image = [0u8; 65536];
     let answer = print_run(numbered(k), text, &mut page, &mut image);
     match answer {
-        Answer::Done(_) => put_page_asked(rt, k, given, &page, page_length(answer)),
-        Answer::Refused(r) => {
+        Ok(_) => put_page_asked(rt, k, given, &page, page_length(answer)),
+        Err(r) => {
             let line = refusal_line(r);
             put_asked(rt, k, given, &line)
         }

@@ -7,12 +7,13 @@ use native.Mathlib.Omega.{arith}
 use lib.Dec.{leb, ltb}
 use lib.ListN.{length, take}
 use lib.Seq.{take_all}
+use Rattle.std.proofs.Math.Option.{Option, none, some}
+use Rattle.std.specs.Prelude.{Err, Ok}
 use Rattle.rules.specs.declared.Refusal.TheVariants.{Pairing}
 use Rattle.pairing.specs.Pairings.{Frames, entries_of, pairs_from, good_from, good_entries, default_pairs}
 use Rattle.pairing.specs.Tables.{pairs_in}
 use Rattle.pairing.proofs.EntryList.{length_pairs}
-use Rattle.differences.specs.declared.entry.Paired.TheVariants.{Are, Refused}
-use Rattle.differences.specs.Entry.{given_as, PairedAs}
+use Rattle.differences.specs.Entry.{PairedAs}
 
 good_most : (n m low j : ℕ) (is : List ℕ) → good_from n m low j is ≤ length is
 unfolding good_from
@@ -23,18 +24,18 @@ good_most n m low j (i ∷ is) = on (leb low i && (ltb i n && ltb j m)) (good_mo
     on true h = omega arith
     on false h = omega arith
 
-module _ (a b : Frames) (given : Bool) (pairing pairs : List ℕ) where
-  pub paired_alike : (k : ℕ) → given ≡ false → pairs_in pairs k ≡ default_pairs a b → k ≤ 1024
-      → PairedAs a b (given_as given pairing) pairs (Are k)
+module _ (a b : Frames) (o : Option (List ℕ)) (pairs : List ℕ) where
+  pub paired_alike : (k : ℕ) → o ≡ none → pairs_in pairs k ≡ default_pairs a b → k ≤ 1024
+      → PairedAs a b o pairs (Ok k)
   unfolding good_entries good_from
   paired_alike k e h l = rw e (refl, h, l)
 
-  module _ (n m r : ℕ) (e : given ≡ true) (x : n ≡ length a) (y : m ≡ length b) (g : r ≡ good_entries n m (entries_of pairing)) where
+  module _ (pairing : List ℕ) (n m r : ℕ) (e : o ≡ some pairing) (x : n ≡ length a) (y : m ≡ length b) (g : r ≡ good_entries n m (entries_of pairing)) where
     same_good : r ≡ good_entries (length a) (length b) (entries_of pairing)
     same_good = g ∙ rw (x, y)
 
     pub paired_entries : length (entries_of pairing) ≤ r → pairs_in pairs r ≡ take r (pairs_from 0 (entries_of pairing)) → r ≤ 1024
-        → PairedAs a b (given_as given pairing) pairs (Are r)
+        → PairedAs a b o pairs (Ok r)
     paired_entries l h few =
         let most : good_entries (length a) (length b) (entries_of pairing) ≤ length (entries_of pairing) =
         unfold good_entries in good_most (length a) (length b) 0 0 (entries_of pairing) in
@@ -44,5 +45,5 @@ module _ (a b : Frames) (given : Bool) (pairing pairs : List ℕ) where
           few,
         )
 
-    pub paired_bad : r < length (entries_of pairing) → PairedAs a b (given_as given pairing) pairs (Refused (Pairing r))
+    pub paired_bad : r < length (entries_of pairing) → PairedAs a b o pairs (Err (Pairing r))
     paired_bad l = rw e (omega (arith, same_good), ap Pairing same_good)

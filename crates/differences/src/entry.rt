@@ -10,13 +10,12 @@ ghost use Rattle.differences.specs.Walks.{Ready, text_for};
 
 use crate::walks::{Counts, measure, put_all};
 use listing::new_form;
-use pairing::{Counted, entry_count, find_lines, pair_alike, statements_of, take_entries};
+use pairing::{entry_count, find_lines, pair_alike, statements_of, take_entries};
 use rules::{Place, Refusal};
 
-// How many bytes were written, or the first refusal: of the first listing, of the second, or of both with their pairing.
+// Whose refusal it is: the first listing's, the second's, or that of both with their pairing.
 #[derive(Clone, Copy)]
-pub enum Differs {
-    Written(usize),
+pub enum Whose {
     OfFirst(Refusal),
     OfSecond(Refusal),
     OfBoth(Refusal),
@@ -29,39 +28,29 @@ fn same_form(first: &[u8], second: &[u8]) -> bool
     new_form(first) == new_form(second)
 }
 
-// How many pairs there are, or 13.
-#[derive(Clone, Copy)]
-enum Paired {
-    Are(usize),
-    Refused(Refusal),
-}
-
-// The pairs of a list, if it is given, or of what both begin and end with.
+// The pairs of a list, if there is one, or of what both begin and end with: how many, or 13.
 fn pair_up(
     first: &[u8],
     firsts: &[usize; 1025],
+    n: usize,
     second: &[u8],
     seconds: &[usize; 1025],
-    counts: Counts,
-    given: bool,
-    pairing: &[u8],
+    m: usize,
+    pairing: Option<&[u8]>,
     pairs: &mut [usize; 2048],
-) -> Paired
-    requires { Lined first.now firsts.now counts.first × Lined second.now seconds.now counts.second
-        × (length pairs.old ≡ 2048) }
-    ensures { PairedAs (frames_of first.now) (frames_of second.now) (given_as given pairing.now)
+) -> Result<usize, Refusal>
+    requires { Lined first.now firsts.now n × Lined second.now seconds.now m × (length pairs.old ≡ 2048) }
+    ensures { PairedAs (frames_of first.now) (frames_of second.now) (given_as pairing.entry)
         pairs.new result }
 {
-    let n = counts.first;
-    let m = counts.second;
-    if !given {
-        return Paired::Are(pair_alike(first, firsts, n, second, seconds, m, pairs));
+    let Some(list) = pairing else {
+        return Ok(pair_alike(first, firsts, n, second, seconds, m, pairs));
+    };
+    let good = take_entries(list, n, m, pairs);
+    if good < entry_count(list) {
+        return Err(Refusal::Pairing(good));
     }
-    let good = take_entries(pairing, n, m, pairs);
-    if good < entry_count(pairing) {
-        return Paired::Refused(Refusal::Pairing(good));
-    }
-    Paired::Are(good)
+    Ok(good)
 }
 
 // The text of two listings whose lines are found and paired, if the room holds it.
@@ -73,17 +62,17 @@ fn write_differences(
     counts: Counts,
     pairs: &[usize; 2048],
     out: &mut [u8],
-) -> Differs
+) -> Result<usize, Whose>
     requires { Ready first.now firsts.now second.now seconds.now pairs.now counts }
     ensures { let t = text_for first.now second.now pairs.now counts in
         Leaves (roomed t counts.first (length out.old)) result out.old out.new }
 {
     let size = measure(first, firsts, second, seconds, counts, pairs);
     if out.len() < size {
-        return Differs::OfBoth(Refusal::Room(counts.first));
+        return Err(Whose::OfBoth(Refusal::Room(counts.first)));
     }
     put_all(first, firsts, second, seconds, counts, pairs, out);
-    Differs::Written(size)
+    Ok(size)
 }
 
 // The differences of two accepted listings of n and m statements.
@@ -92,14 +81,13 @@ fn compare(
     n: usize,
     second: &[u8],
     m: usize,
-    given: bool,
-    pairing: &[u8],
+    pairing: Option<&[u8]>,
     out: &mut [u8],
-) -> Differs
+) -> Result<usize, Whose>
     requires { (is_ok (read_listing first.now) ≡ true) × (n ≡ length (chars_of first.now))
         × (is_ok (read_listing second.now) ≡ true) × (m ≡ length (chars_of second.now)) }
     ensures { let x = compared (frames_of first.now) (frames_of second.now)
-        (given_as given pairing.now) n (length out.old) in
+        (given_as pairing.entry) n (length out.old) in
         Leaves (after of_both x text) result out.old out.new }
 {
     let mut firsts = [0usize; 1025];
@@ -107,44 +95,33 @@ fn compare(
     let mut pairs = [0usize; 2048];
     find_lines(first, n, &mut firsts);
     find_lines(second, m, &mut seconds);
+    let k = pair_up(first, &firsts, n, second, &seconds, m, pairing, &mut pairs).map_err(
+        Whose::OfBoth,
+    )?;
     let counts = Counts {
         first: n,
         second: m,
-        pairs: 0,
+        pairs: k,
     };
-    match pair_up(
-        first, &firsts, second, &seconds, counts, given, pairing, &mut pairs,
-    ) {
-        Paired::Refused(r) => Differs::OfBoth(r),
-        Paired::Are(k) => {
-            let all = Counts { pairs: k, ..counts };
-            write_differences(first, &firsts, second, &seconds, all, &pairs, out)
-        }
-    }
+    write_differences(first, &firsts, second, &seconds, counts, &pairs, out)
 }
 
-// The differences of two listings, under a pairing if one is given. On refusal no lent byte changes.
+// The differences of two listings, under a pairing if one is given: how many bytes were written, or the first refusal. On refusal no lent
+// byte changes.
 pub fn differences(
     first: &[u8],
     second: &[u8],
-    given: bool,
-    pairing: &[u8],
+    pairing: Option<&[u8]>,
     out: &mut [u8],
-) -> Differs
-    ensures { let x = differences_of first.now second.now (given_as given pairing.now)
+) -> Result<usize, Whose>
+    ensures { let x = differences_of first.now second.now (given_as pairing.entry)
         (length out.old) in
         Leaves x result out.old out.new }
 {
-    let n = match statements_of(first) {
-        Counted::Refused(r) => return Differs::OfFirst(r),
-        Counted::Are(n) => n,
-    };
+    let n = statements_of(first).map_err(Whose::OfFirst)?;
     if !same_form(first, second) {
-        return Differs::OfSecond(Refusal::Broken(Place(0)));
+        return Err(Whose::OfSecond(Refusal::Broken(Place(0))));
     }
-    let m = match statements_of(second) {
-        Counted::Refused(r) => return Differs::OfSecond(r),
-        Counted::Are(m) => m,
-    };
-    compare(first, n, second, m, given, pairing, out)
+    let m = statements_of(second).map_err(Whose::OfSecond)?;
+    compare(first, n, second, m, pairing, out)
 }

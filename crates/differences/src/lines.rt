@@ -8,7 +8,7 @@ ghost use Rattle.pairing.specs.Lines.{Written};
 ghost use Rattle.differences.specs.Changes.{paired, kept, changed, bytes_of};
 ghost use Rattle.differences.specs.Walks.{PairSize};
 
-use digits::put_bytes;
+use digits::{low_byte, put_bytes};
 use pairing::same_bytes;
 
 fn high(x: usize) -> u8
@@ -16,12 +16,6 @@ fn high(x: usize) -> u8
     ensures { result ≡ x / 256 }
 {
     (x / 256) as u8
-}
-
-fn low(x: usize) -> u8
-    ensures { result ≡ x % 256 }
-{
-    (x % 256) as u8
 }
 
 // A copy of s from `at` on.
@@ -52,7 +46,7 @@ pub fn put_one(out: &mut [u8], at: usize, kind: u8, i: usize, line: &[u8]) -> us
     ensures { (out.new ≡ laid out.old at (line_of (kind ∷ (pair i ++ unhex line.now))))
         × (result ≡ at + (7 + length line.now)) }
 {
-    put_headed(out, at, &[kind, high(i), low(i)], line)
+    put_headed(out, at, &[kind, high(i), low_byte(i)], line)
 }
 
 // 70, both places, the frame.
@@ -61,7 +55,12 @@ fn put_kept(out: &mut [u8], at: usize, i: usize, j: usize, line: &[u8]) -> usize
     ensures { (out.new ≡ laid out.old at (line_of (bytes_of (kept i j (unhex line.now)))))
         × (result ≡ at + (11 + length line.now)) }
 {
-    put_headed(out, at, &[0x70, high(i), low(i), high(j), low(j)], line)
+    put_headed(
+        out,
+        at,
+        &[0x70, high(i), low_byte(i), high(j), low_byte(j)],
+        line,
+    )
 }
 
 // 73, both places, how many bytes the old frame has, both frames.
@@ -72,7 +71,14 @@ fn put_changed(out: &mut [u8], at: usize, i: usize, j: usize, old: &[u8], new: &
         (out.new ≡ laid out.old at x)
         × (result ≡ at + (13 + (length old.now + length new.now))) }
 {
-    let head = [0x73, high(i), low(i), high(j), low(j), low(old.len() / 2)];
+    let head = [
+        0x73,
+        high(i),
+        low_byte(i),
+        high(j),
+        low_byte(j),
+        low_byte(old.len() / 2),
+    ];
     let middle = at + 12 + old.len();
     let end = middle + new.len();
     put_bytes(out, at, &head);

@@ -3,24 +3,22 @@ use mathlib.Core.Path.{◌≡◌, refl, ◌∙◌, ap}
 use mathlib.Core.List.{List}
 use Prim.Native.Nat.{ℕ}
 use lib.ListN.{length}
-use Rattle.rules.specs.declared.Answer.{Answer}
-use Rattle.rules.specs.declared.Answer.TheVariants.{Refused as NotDone}
+use Rattle.rules.specs.declared.Sizes.{Sizes}
+use Rattle.std.specs.Prelude.{Err, Result, Ok}
 use Rattle.rules.specs.declared.Refusal.{Refusal}
 use Rattle.rules.specs.Answers.{Judged, ok, no, ◌>>=◌}
 use Rattle.promises.specs.Demand2.{Answered}
 use Rattle.finishing.specs.Ending.{Delivers}
 use Rattle.store.specs.declared.Edition.{Edition}
-use Rattle.store.specs.declared.Found.{Found}
-use Rattle.store.specs.declared.Found.TheVariants.{Is, Refused}
 use Rattle.store.specs.Rooms.{found_as}
 use Rattle.editions.specs.Under.{under, run_found}
 
 module _ (text out image : List ℕ) where
-  pub found_not : (x : Found) (r : Refusal) → x ≡ Refused r
-      → Delivers (run_found x text (length out) (length image)) (NotDone r) out image out image
+  pub found_not : (x : Result Edition Refusal) (r : Refusal) → x ≡ Err r
+      → Delivers (run_found x text (length out) (length image)) (Err r) out image out image
   found_not x r e = record { answers = rw e; listing_is = rw e; image_is = rw e }
 
-  pub found_is : (x : Found) (e : Edition) (a : Answer) (out' image' : List ℕ) → x ≡ Is e
+  pub found_is : (x : Result Edition Refusal) (e : Edition) (a : Result Sizes Refusal) (out' image' : List ℕ) → x ≡ Ok e
       → Answered e.settings text out image a out' image'
       → Delivers (run_found x text (length out) (length image)) a out image out' image'
   found_is x e a out' image' q h = record { answers = rw q h.answers; listing_is = rw q h.listing_is; image_is = rw q h.image_is }
@@ -31,9 +29,9 @@ module _ (text out image : List ℕ) where
   same_run (ok e) = refl
   same_run (no r) = refl
 
-  pub delivered : (x : Judged Edition) (y : Found) (a : Answer) (out' image' : List ℕ) → y ≡ found_as x
+  pub delivered : (x : Judged Edition) (y : Result Edition Refusal) (a : Result Sizes Refusal) (out' image' : List ℕ) → y ≡ found_as x
       → Delivers (run_found y text (length out) (length image)) a out image out' image'
       → Delivers (under x text (length out) (length image)) a out image out' image'
   delivered x y a out' image' e d =
-      let q = ap (λ (z : Found). run_found z text (length out) (length image)) e ∙ same_run x in
+      let q = ap (λ (z : Result Edition Refusal). run_found z text (length out) (length image)) e ∙ same_run x in
       rw q at d

@@ -11,14 +11,14 @@ use Rattle.store.specs.declared.Edition.{Edition}
 use Rattle.store.specs.Rooms.{after_add, after_drop}
 use Rattle.editions.specs.Under.{run_edition, run_newest}
 
--- the answer `Done sizes`: the store has the edition, and all that is promised of a run under its settings holds
+-- the answer `Ok sizes`: the store has the edition, and all that is promised of a run under its settings holds
 pub record AcceptedUnder (asked : Judged Edition) (text listing image : List ℕ) (sizes : Sizes) (listing' image' : List ℕ) : Type 0 where
   pub edition : Edition
   pub found : asked ≡ ok edition
   pub on_acceptance : OnAcceptance edition.settings text listing image sizes listing' image'
   pub walked_alike : WalkedAlike edition.settings text (take sizes.listing listing')
 
--- the answer `Refused r`: "Refusals, before any of document 01"
+-- the answer `Err r`: "Refusals, before any of document 01"
 pub data RefusedUnder (asked : Judged Edition) (text listing image : List ℕ) (r : Refusal) (listing' image' : List ℕ) : Type 0 where
   -- the store refuses, and no lent byte changes
   by_store : asked ≡ no r → listing' ≡ listing → image' ≡ image → RefusedUnder asked text listing image r listing' image'

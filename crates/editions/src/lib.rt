@@ -3,25 +3,11 @@
 
 ghost use Rattle.std.specs.Prelude.{length};
 ghost use Rattle.finishing.specs.Ending.{Delivers};
-ghost use Rattle.editions.specs.Under.{run_found, run_edition, run_newest};
+ghost use Rattle.editions.specs.Under.{run_edition, run_newest};
 
 use entries::optimize_jumps;
-use rules::Answer;
-use store::{Found, get_edition, get_newest};
-
-// The run under what was found, or its refusal.
-fn run_found(found: Found, listing: &[u8], out: &mut [u8], image: &mut [u8]) -> Answer
-    ensures { let x = run_found found listing.now (length out.old) (length image.old) in
-        Delivers x result out.old image.old out.new image.new }
-{
-    match found {
-        Found::Refused(r) => Answer::Refused(r),
-        Found::Is(e) => {
-            let asked = e.settings;
-            optimize_jumps(asked, listing, out, image)
-        }
-    }
-}
+use rules::{Refusal, Sizes};
+use store::{get_edition, get_newest};
 
 // `optimize_jumps` under a family's edition; or refusal 12, 19 or 17 of the store, and no lent byte changes.
 pub fn optimize_under(
@@ -31,12 +17,13 @@ pub fn optimize_under(
     listing: &[u8],
     out: &mut [u8],
     image: &mut [u8],
-) -> Answer
+) -> Result<Sizes, Refusal>
     ensures { let text = listing.now in
         let x = run_edition store.now family edition text (length out.old) (length image.old) in
         Delivers x result out.old image.old out.new image.new }
 {
-    run_found(get_edition(store, family, edition), listing, out, image)
+    let found = get_edition(store, family, edition)?;
+    optimize_jumps(found.settings, listing, out, image)
 }
 
 // The same under a family's newest edition.
@@ -46,10 +33,11 @@ pub fn optimize_under_newest(
     listing: &[u8],
     out: &mut [u8],
     image: &mut [u8],
-) -> Answer
+) -> Result<Sizes, Refusal>
     ensures { let text = listing.now in
         let x = run_newest store.now family text (length out.old) (length image.old) in
         Delivers x result out.old image.old out.new image.new }
 {
-    run_found(get_newest(store, family), listing, out, image)
+    let newest = get_newest(store, family)?;
+    optimize_jumps(newest.settings, listing, out, image)
 }

@@ -1,18 +1,11 @@
 // The range of each operand and of each item of data, and what is written for it. Refusals 8 to 11 keep the argument's place and the
 // number at fault.
-ghost use Rattle.std.specs.Prelude.{◌≡◌, true, ◌≤◌, ◌^◌, pos, ◌-ℤ◌};
+ghost use Rattle.std.specs.Prelude.{◌≡◌, ◌≤◌, ◌^◌, pos, ◌-ℤ◌};
 ghost use Rattle.rules.specs.Values.{below, nat, mod256, signed_byte};
 ghost use Rattle.rules.specs.Encoding.{page, field};
-ghost use Rattle.encoding.specs.Operands.{field_as, ranged, held};
+ghost use Rattle.encoding.specs.Operands.{field_as, ranged, held, number_as};
 
 use rules::{Address, Kind, Place, Refusal};
-
-// What is written for an operand.
-#[derive(Clone, Copy)]
-pub enum Field {
-    Is(u16),
-    Refused(Refusal),
-}
 
 // 0 to 2^bits - 1: a negative number has ones in front, so one shift tells it too.
 fn unsigned(v: i32, bits: u32) -> bool
@@ -22,33 +15,33 @@ fn unsigned(v: i32, bits: u32) -> bool
     v >> bits == 0
 }
 
-// The same number at 16 bits.
-fn number(v: i32) -> u16
-    requires { below 65536 v ≡ true }
-    ensures { result ≡ nat v }
-{
-    v as u16
-}
-
-// A number of the width, or refusal 8.
-fn in_range(i: Place, j: usize, bits: u32, v: i32) -> Field
+// A number of the width, where v is one.
+fn number(v: i32, bits: u32) -> Option<u16>
     requires { bits ≤ 16 }
-    ensures { result ≡ field_as (ranged i.0 j (2 ^ bits) v) }
+    ensures { result ≡ number_as (2 ^ bits) v }
 {
     if unsigned(v, bits) {
-        Field::Is(number(v))
+        Some(v as u16)
     } else {
-        Field::Refused(Refusal::Range(i, j, v))
+        None
     }
 }
 
-pub fn byte_item(i: Place, j: usize, v: i32) -> Field
+// A number of the width, or refusal 8.
+fn in_range(i: Place, j: usize, bits: u32, v: i32) -> Result<u16, Refusal>
+    requires { bits ≤ 16 }
+    ensures { result ≡ field_as (ranged i.0 j (2 ^ bits) v) }
+{
+    number(v, bits).ok_or(Refusal::Range(i, j, v))
+}
+
+pub fn byte_item(i: Place, j: usize, v: i32) -> Result<u16, Refusal>
     ensures { result ≡ field_as (ranged i.0 j 256 v) }
 {
     in_range(i, j, 8, v)
 }
 
-pub fn word_item(i: Place, j: usize, v: i32) -> Field
+pub fn word_item(i: Place, j: usize, v: i32) -> Result<u16, Refusal>
     ensures { result ≡ field_as (ranged i.0 j 65536 v) }
 {
     in_range(i, j, 16, v)
@@ -58,15 +51,15 @@ pub fn word_item(i: Place, j: usize, v: i32) -> Field
 fn register(v: i32) -> u16
     ensures { result ≡ nat (held Kind.Reg v) }
 {
-    if unsigned(v, 16) { number(v) } else { 0 }
+    number(v, 16).unwrap_or(0)
 }
 
 // From the address after the instruction to the target.
-fn distance(n: Address, v: i32) -> i32
-    requires { (n.0 ≤ 65536) × (below 65536 v ≡ true) }
-    ensures { result ≡ v -ℤ pos n.0 }
+fn distance(n: Address, a: u16) -> i32
+    requires { n.0 ≤ 65536 }
+    ensures { result ≡ pos a -ℤ pos n.0 }
 {
-    v - n.0 as i32
+    i32::from(a) - n.0 as i32
 }
 
 fn signed_byte(d: i32) -> bool
@@ -81,18 +74,16 @@ fn low_byte(d: i32) -> u16
     (d & 255) as u16
 }
 
-fn rel8(i: Place, j: usize, n: Address, v: i32) -> Field
+fn rel8(i: Place, j: usize, n: Address, v: i32) -> Result<u16, Refusal>
     requires { n.0 ≤ 65536 }
     ensures { result ≡ field_as (field i.0 j n.0 Kind.Rel8 v) }
 {
-    if !unsigned(v, 16) {
-        return Field::Refused(Refusal::Outside(i, j, v));
-    }
-    let d = distance(n, v);
+    let a = number(v, 16).ok_or(Refusal::Outside(i, j, v))?;
+    let d = distance(n, a);
     if signed_byte(d) {
-        Field::Is(low_byte(d))
+        Ok(low_byte(d))
     } else {
-        Field::Refused(Refusal::Far(i, j, d))
+        Err(Refusal::Far(i, j, d))
     }
 }
 
@@ -103,39 +94,32 @@ fn page_of(a: usize) -> usize
     a % 65536 / 4096
 }
 
-fn page_address(i: Place, j: usize, n: Address, v: i32) -> Field
+fn page_address(i: Place, j: usize, n: Address, v: i32) -> Result<u16, Refusal>
     ensures { result ≡ field_as (field i.0 j n.0 Kind.A12 v) }
 {
-    if !unsigned(v, 16) {
-        return Field::Refused(Refusal::Range(i, j, v));
-    }
-    let a = number(v);
+    let a = number(v, 16).ok_or(Refusal::Range(i, j, v))?;
     if page_of(usize::from(a)) == page_of(n.0) {
-        Field::Is(a)
+        Ok(a)
     } else {
-        Field::Refused(Refusal::Page(i, j, v))
+        Err(Refusal::Page(i, j, v))
     }
 }
 
-fn rel16(i: Place, j: usize, n: Address, v: i32) -> Field
+fn rel16(i: Place, j: usize, n: Address, v: i32) -> Result<u16, Refusal>
     requires { n.0 ≤ 65536 }
     ensures { result ≡ field_as (field i.0 j n.0 Kind.Rel16 v) }
 {
-    if unsigned(v, 16) {
-        let a = number(v);
-        Field::Is(((usize::from(a) + 65537 - n.0) % 65536) as u16)
-    } else {
-        Field::Refused(Refusal::Outside(i, j, v))
-    }
+    let a = number(v, 16).ok_or(Refusal::Outside(i, j, v))?;
+    Ok(((usize::from(a) + 65537 - n.0) % 65536) as u16)
 }
 
-// What the instruction at place i, with n the address after it, writes for its argument j of value v.
-pub fn field_of(i: Place, j: usize, n: Address, kind: Kind, v: i32) -> Field
+// What the instruction at place i, with n the address after it, writes for its argument j of value v, or the refusal of that value.
+pub fn field_of(i: Place, j: usize, n: Address, kind: Kind, v: i32) -> Result<u16, Refusal>
     requires { n.0 ≤ 65536 }
     ensures { result ≡ field_as (field i.0 j n.0 kind (held kind v)) }
 {
     match kind {
-        Kind::Reg => Field::Is(register(v)),
+        Kind::Reg => Ok(register(v)),
         Kind::I8 => in_range(i, j, 8, v),
         Kind::D9 => in_range(i, j, 9, v),
         Kind::Bit => in_range(i, j, 3, v),

@@ -11,13 +11,14 @@ use lib.Dec.{eqb}
 use lib.ListN.{length}
 use lib.IntN.{pos, negsuc}
 use borrow.Author.Tests.{eqb-true, eq-eqb}
+use Rattle.rules.specs.declared.Unvalued.TheVariants.{Unknown, Nothing}
+use Rattle.rules.specs.declared.Unvalued.{Unvalued}
+use Rattle.std.specs.Prelude.{ℤ, Result, Err, Ok}
 use Rattle.laws.specs.Lists.{each}
 use Rattle.laws.specs.Counts.{tab}
 use Rattle.laws.proofs.Counts.{each_tab}
 use Rattle.laws.proofs.Stores.{get_out}
 use Rattle.laws.proofs.Tests.{false_true, true_false, clash, lt_or_le, eq_or_not}
-use Rattle.rules.specs.declared.Outcome.{Outcome}
-use Rattle.rules.specs.declared.Outcome.TheVariants.{Is, Unknown, Nothing}
 use Rattle.rules.specs.Answers.{ok}
 use Rattle.rules.specs.Forms.{size_at}
 use Rattle.rules.specs.Programs.{Placeℕ, Operand, register, value, inner, Stmt, gone, instr, label, variable, comment, org, bytes, words, pad, Program, at, on_instr, last_of}
@@ -68,8 +69,8 @@ module _ (p : Program) where
   FineMove (on i s) = Fine s
 
   -- ---- a target
-  value_fine : (i : Placeℕ) (v : Outcome) → reasons_at p i ≡ value_reasons p v → FineSpot (to_spot v)
-  value_fine i (Is (pos a)) h = at_origin (code_at p a) refl h
+  value_fine : (i : Placeℕ) (v : Result ℤ Unvalued) → reasons_at p i ≡ value_reasons p v → FineSpot (to_spot v)
+  value_fine i (Ok (pos a)) h = at_origin (code_at p a) refl h
     where
       at_origin : (o : Option Origin) → code_at p a ≡ o → reasons_at p i ≡ landing o → Good a
       at_origin none e h = inl (rw e tt)
@@ -78,9 +79,9 @@ module _ (p : Program) where
           by_test : (t : Bool) → eqb g.offset 0 ≡ t → reasons_at p i ≡ cond t [] (into_middle ∷ []) → Good a
           by_test true z h = inl (rw e (eqb-true g.offset 0 z))
           by_test false z h = inr (i, h)
-  value_fine i (Is (negsuc a)) h = (i, h)
-  value_fine i Unknown h = (i, h)
-  value_fine i Nothing h = (i, h)
+  value_fine i (Ok (negsuc a)) h = (i, h)
+  value_fine i (Err Unknown) h = (i, h)
+  value_fine i (Err Nothing) h = (i, h)
 
   target_fine : (i : Placeℕ) (k : ℕ) (x : Operand) → reasons_at p i ≡ target_reasons p k x → FineSpot (aim_at p k x)
   target_fine i k (register r) h = value_fine i (worth_of (names_of p) p k (register r)) h

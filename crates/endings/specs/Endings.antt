@@ -1,10 +1,10 @@
 -- "Which statements can end a walk and for which named reason", so that it can be seen how far the promise of the same walk goes in a program.
-use Rattle.std.specs.Prelude.{◌≡◌, List, [], ◌∷◌, map, cond, ℕ, eqb, length, pos, negsuc}
+use Rattle.rules.specs.declared.Unvalued.TheVariants.{Unknown, Nothing}
+use Rattle.rules.specs.declared.Unvalued.{Unvalued}
+use Rattle.std.specs.Prelude.{◌≡◌, List, [], ◌∷◌, map, cond, ℕ, eqb, length, pos, negsuc, ℤ, Result, Err, Ok}
 use Rattle.std.proofs.Math.Option.{Option, none, some}
 use Rattle.laws.specs.Lists.{each}
 use Rattle.laws.specs.Counts.{tab}
-use Rattle.rules.specs.declared.Outcome.{Outcome}
-use Rattle.rules.specs.declared.Outcome.TheVariants.{Is, Unknown, Nothing}
 use Rattle.rules.specs.Programs.{Placeℕ, Operand, register, value, inner, Stmt, gone, instr, label, variable, comment, org, bytes, words, pad, Program, at, last_of}
 use Rattle.rules.specs.Layout.{Origin}
 use Rattle.rules.specs.Names.{context_at}
@@ -29,11 +29,11 @@ abbrev pub landing : Option Origin → List Reason
 landing none = []
 landing (some g) = cond (eqb g.offset 0) [] (into_middle ∷ [])
 
-abbrev pub value_reasons : Program → Outcome → List Reason
-value_reasons p (Is (pos a)) = landing (code_at p a)
-value_reasons p (Is (negsuc a)) = is_no_address ∷ []
-value_reasons p Unknown = is_no_address ∷ []
-value_reasons p Nothing = is_no_address ∷ []
+abbrev pub value_reasons : Program → Result ℤ Unvalued → List Reason
+value_reasons p (Ok (pos a)) = landing (code_at p a)
+value_reasons p (Ok (negsuc a)) = is_no_address ∷ []
+value_reasons p (Err Unknown) = is_no_address ∷ []
+value_reasons p (Err Nothing) = is_no_address ∷ []
 
 abbrev pub target_reasons : Program → (k : ℕ) → Operand → List Reason
 target_reasons p k (register r) = value_reasons p (worth_of (names_of p) p k (register r))

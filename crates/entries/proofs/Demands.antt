@@ -5,10 +5,9 @@ use Prim.Native.Nat.{ℕ}
 use lib.Dec.{leb}
 use lib.ListN.{length, take, drop}
 use borrow.Author.Tests.{leb-true}
+use Rattle.std.specs.Prelude.{Err, Result, Ok}
 use Rattle.laws.proofs.Tests.{clash}
 use Rattle.laws.proofs.Stores.{front_take, front_drop}
-use Rattle.rules.specs.declared.Answer.{Answer}
-use Rattle.rules.specs.declared.Answer.TheVariants.{Done, Refused}
 use Rattle.rules.specs.declared.Sizes.{Sizes}
 use Rattle.rules.specs.declared.Refusal.{Refusal}
 use Rattle.rules.specs.declared.Refusal.TheVariants.{Room}
@@ -16,7 +15,7 @@ use Rattle.rules.specs.Answers.{Judged, ok, no}
 use Rattle.rules.specs.Programs.{Program}
 use Rattle.rules.specs.Listing.{read_listing}
 use Rattle.rules.specs.Judging.{judge}
-use Rattle.rules.specs.Run.{Output, assembled, front, program}
+use Rattle.rules.specs.Run.{assembled, front}
 use Rattle.rules.proofs.Laws.{then_ok, require_ok}
 use Rattle.believed.specs.Causes.{Assembles, OnAssemblyRefusal}
 use Rattle.believed.proofs.AfterAssembly.{assembles_iff, on_assembly_refusal}
@@ -29,12 +28,12 @@ in_front_lem result room room' n e f = rw e (front_take result room room' (lengt
 
 -- ---- `assemble`
 module _ (text room : List ℕ) where
-  -- on-assembled: `Done sizes` says that the text is a program and the room's front its image
-  pub on_assembled : (sizes : Sizes) (room' : List ℕ) → Leaves (assembled text (length room)) (Done sizes) room room' → AsAssembled text room sizes room'
+  -- on-assembled: `Ok sizes` says that the text is a program and the room's front its image
+  pub on_assembled : (sizes : Sizes) (room' : List ℕ) → Leaves (assembled text (length room)) (Ok sizes) room room' → AsAssembled text room sizes room'
   unfolding assembled
   on_assembled sizes room' x = on (assembled text (length room)) refl x.answer x.room
     where
-      on : (j : Judged (List ℕ)) → assembled text (length room) ≡ j → Done sizes ≡ answer_as j → room' ≡ room_as j room → AsAssembled text room sizes room'
+      on : (j : Judged (List ℕ)) → assembled text (length room) ≡ j → Ok sizes ≡ answer_as j → room' ≡ room_as j room → AsAssembled text room sizes room'
       on (ok b) e d f =
           let z : sizes ≡ record { listing = 0; rewrites = 0; image = length b } = cc in
           let n : sizes.image ≡ length b = ap (λ (s : Sizes). s.image) z in
@@ -55,21 +54,21 @@ module _ (text room : List ℕ) where
           }
       on (no r) e d f = clash (cc)
 
-  -- assembles-done: and `Done` is answered wherever the text keeps the listing rules, assembles as given, and the room holds the image
-  pub assembles_done : (image room' : List ℕ) (a : Answer) → Leaves (assembled text (length room)) a room room'
+  -- assembles-done: and `Ok` is answered wherever the text keeps the listing rules, assembles as given, and the room holds the image
+  pub assembles_done : (image room' : List ℕ) (a : Result Sizes Refusal) → Leaves (assembled text (length room)) a room room'
       → Assembles text (length room) image → (a ≡ answer_as (ok image)) × (room' ≡ front image room)
   assembles_done image room' a x h =
       let e = (assembles_iff text (length room) image).1 h in
       (x.answer ∙ ap answer_as e, x.room ∙ ap (λ j. room_as j room) e)
 
-  -- unassembled: `Refused r` says that no byte of the room changed; and r's number is one of twelve, has its own cause and no other, at the first
+  -- unassembled: `Err r` says that no byte of the room changed; and r's number is one of twelve, has its own cause and no other, at the first
   -- statement at fault: what `optimize_jumps` says on refusal
-  pub unassembled : (r : Refusal) (room' : List ℕ) → Leaves (assembled text (length room)) (Refused r) room room'
+  pub unassembled : (r : Refusal) (room' : List ℕ) → Leaves (assembled text (length room)) (Err r) room room'
       → (room' ≡ room) × OnAssemblyRefusal text (length room) r
   unassembled r room' x =
       let h = on (assembled text (length room)) x.answer x.room in
       (h.0, on_assembly_refusal text (length room) r h.1)
     where
-      on : (j : Judged (List ℕ)) → Refused r ≡ answer_as j → room' ≡ room_as j room → (room' ≡ room) × (j ≡ no r)
+      on : (j : Judged (List ℕ)) → Err r ≡ answer_as j → room' ≡ room_as j room → (room' ≡ room) × (j ≡ no r)
       on (ok b) d f = clash (cc)
       on (no s) d f = (f, cc)

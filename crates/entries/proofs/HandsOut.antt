@@ -4,13 +4,13 @@ use mathlib.Core.Path.{◌≡◌, refl, sym, ap, ◌∙◌}
 use mathlib.Core.Logic.{◌⊎◌, inl, inr}
 use mathlib.Core.List.{List}
 use mathlib.Core.Bool.{Bool, true, false, ◌&&◌}
-use Prim.Native.Nat.{ℕ, ◌*◌, ◌<◌}
+use Prim.Native.Nat.{ℕ, ◌*◌}
 use native.Mathlib.Omega.{arith}
 use lib.Dec.{leb}
 use lib.ListN.{length}
 use borrow.Author.Tests.{leb-false}
-use Rattle.laws.proofs.Tests.{clash, and_true, and_left}
-use Rattle.rules.specs.declared.Answer.TheVariants.{Done as Answer-as-Done}
+use Rattle.std.specs.Prelude.{Ok, Err, Result}
+use Rattle.laws.proofs.Tests.{clash, and_true}
 use Rattle.rules.specs.declared.Sizes.{Sizes}
 use Rattle.rules.specs.declared.Refusal.{Refusal}
 use Rattle.rules.specs.declared.Refusal.TheVariants.{Room}
@@ -23,8 +23,6 @@ use Rattle.rules.specs.Run.{Output, output_of, fits, run, answer_of, listing_aft
 use Rattle.rules.proofs.Laws.{then_ok, next_ok, require_ok}
 use Rattle.output.specs.Stems.{list_of}
 use Rattle.output.proofs.Left.{length_list}
-use Rattle.entries.specs.declared.optimizing.Stemmed.{Stemmed}
-use Rattle.entries.specs.declared.optimizing.Stemmed.TheVariants.{Done, Refused}
 use Rattle.finishing.specs.Ending.{fits_all}
 use Rattle.entries.specs.Stems.{run_stems, sizes_of, stemmed_as, list_after, Stems, HandedOut, ListShort, NotHandedOut}
 use Rattle.entries.proofs.Demands.{in_front_lem}
@@ -105,16 +103,17 @@ module _ (asked : Settings) (text out image list out' image' list' : List ℕ) w
   abbrev whole : Judged Output
   whole = run_stems asked text (length out) (length image) (length list)
 
-  -- handed_out: `Done sizes n` says that the listing and the image are those of `optimize_jumps`, and the list is that of the stems
-  pub handed_out : (sizes : Sizes) (n : ℕ) → Stems whole (Done sizes n) out image list out' image' list' → HandedOut asked text out image list sizes n out' image' list'
+  -- handed_out: `Ok (sizes, n)` says that the listing and the image are those of `optimize_jumps`, and the list is that of the stems
+  pub handed_out : (sizes : Sizes) (n : ℕ) → Stems whole (Ok (sizes, n)) out image list out' image' list' → HandedOut asked text out image list sizes n out' image' list'
   handed_out sizes n d = on whole refl
     where
       on : (x : Judged Output) → whole ≡ x → HandedOut asked text out image list sizes n out' image' list'
       on (no q) e = clash (cc (d.answers ∙ ap stemmed_as e))
       on (ok o) e =
-          let same : Done sizes n ≡ Done (sizes_of o) (length o.stems) = d.answers ∙ ap stemmed_as e in
-          let s : sizes ≡ sizes_of o = cc in
-          let m : n ≡ length o.stems = cc in
+          let same : ◌≡◌ {A = Result (Sizes × ℕ) Refusal} (Ok (sizes, n)) (Ok (sizes_of o, length o.stems)) = d.answers ∙ ap stemmed_as e in
+          let both : ◌≡◌ {A = Sizes × ℕ} (sizes, n) (sizes_of o, length o.stems) = cc in
+          let s = ap (λ (x : Sizes × ℕ). x.0) both in
+          let m = ap (λ (x : Sizes × ℕ). x.1) both in
           let h = accepted asked text (length out) (length image) (length list) o e in
           let r = run_too asked text (length out) (length image) (length list) o h in
           let stems_are = own_stems asked text h.program ∙ ap (λ (y : Output). y.stems) h.is in
@@ -122,7 +121,7 @@ module _ (asked : Settings) (text out image list out' image' list' : List ℕ) w
           let f = in_front_lem (list_of o.stems) list list' (2 * n) size (d.list_is ∙ ap (λ x. list_after x list) e) in
           record {
             as_jumps = record {
-              answers = ap Answer-as-Done s ∙ sym (ap answer_of r);
+              answers = ap Ok s ∙ sym (ap answer_of r);
               listing_is = d.listing_is ∙ ap (λ x. listing_after x out) (e ∙ sym r);
               image_is = d.image_is ∙ ap (λ x. image_after x image) (e ∙ sym r);
             };
@@ -133,14 +132,14 @@ module _ (asked : Settings) (text out image list out' image' list' : List ℕ) w
             beyond = f.1;
           }
 
-  -- not-handed-out: `Refused q` says that no byte changed, and why
-  pub not_handed_out : (q : Refusal) → Stems whole (Refused q) out image list out' image' list' → NotHandedOut asked text out image list q out' image' list'
+  -- not-handed-out: `Err q` says that no byte changed, and why
+  pub not_handed_out : (q : Refusal) → Stems whole (Err q) out image list out' image' list' → NotHandedOut asked text out image list q out' image' list'
   not_handed_out q d = on whole refl
     where
       on : (x : Judged Output) → whole ≡ x → NotHandedOut asked text out image list q out' image' list'
       on (ok o) e = clash (cc (d.answers ∙ ap stemmed_as e))
       on (no p) e =
-          let same : Refused q ≡ Refused p = d.answers ∙ ap stemmed_as e in
+          let same : ◌≡◌ {A = Result (Sizes × ℕ) Refusal} (Err q) (Err p) = d.answers ∙ ap stemmed_as e in
           let z : q ≡ p = cc in
           record {
             listing_kept = d.listing_is ∙ ap (λ x. listing_after x out) e;

@@ -7,9 +7,8 @@ use native.Mathlib.Omega.{arith}
 use lib.Dec.{leb}
 use lib.ListN.{length}
 use borrow.Author.Tests.{leb-true, le-leb}
+use Rattle.std.specs.Prelude.{Err, Result, Ok}
 use Rattle.laws.proofs.Tests.{clash, and_true}
-use Rattle.rules.specs.declared.Answer.{Answer}
-use Rattle.rules.specs.declared.Answer.TheVariants.{Done, Refused}
 use Rattle.rules.specs.declared.Sizes.{Sizes}
 use Rattle.rules.specs.declared.Refusal.{Refusal}
 use Rattle.rules.specs.declared.Refusal.TheVariants.{Room}
@@ -27,8 +26,6 @@ use Rattle.promises.proofs.Listings.{read_limits}
 use Rattle.promises.proofs.OutputRoom.{output_room}
 use Rattle.output.specs.Stems.{kept_to, list_of}
 use Rattle.output.proofs.Left.{length_list, stems_many}
-use Rattle.entries.specs.declared.optimizing.Stemmed.{Stemmed}
-use Rattle.entries.specs.declared.optimizing.Stemmed.TheVariants.{Done as Listed, Refused as NoStems}
 use Rattle.finishing.specs.Ending.{fits_all, roomed, Delivers}
 use Rattle.entries.specs.Stems.{run_stems, sizes_of, stemmed_as, list_after, Stems}
 use Rattle.entries.specs.Optimizing.{Left}
@@ -50,7 +47,7 @@ roomed_ok count a b c o x e =
 
 -- ---- a refusal changes nothing, and so does the list's
 
-pub stems_no : (x : Judged Output) (q : Refusal) (out image list : List ℕ) → x ≡ no q → Stems x (NoStems q) out image list out image list
+pub stems_no : (x : Judged Output) (q : Refusal) (out image list : List ℕ) → x ≡ no q → Stems x (Err q) out image list out image list
 stems_no x q out image list e =
     record {
       answers = sym (ap stemmed_as e);
@@ -59,39 +56,39 @@ stems_no x q out image list e =
       list_is = sym (ap (λ y. list_after y list) e);
     }
 
-module _ (x : Judged Output) (r : Answer) (out image list out' image' : List ℕ) (d : Delivers x r out image out' image') where
+module _ (x : Judged Output) (r : Result Sizes Refusal) (out image list out' image' : List ℕ) (d : Delivers x r out image out' image') where
   -- the run refused: the list stays as it was
-  pub stems_refused : (q : Refusal) → r ≡ Refused q → Stems x (NoStems q) out image list out' image' list
+  pub stems_refused : (q : Refusal) → r ≡ Err q → Stems x (Err q) out image list out' image' list
   stems_refused q e = on x refl
     where
-      on : (y : Judged Output) → x ≡ y → Stems x (NoStems q) out image list out' image' list
+      on : (y : Judged Output) → x ≡ y → Stems x (Err q) out image list out' image' list
       on (ok o) z = clash (cc (sym e ∙ d.answers ∙ ap answer_of z))
       on (no p) z =
-          let same : Refused q ≡ Refused p = sym e ∙ d.answers ∙ ap answer_of z in
+          let same : ◌≡◌ {A = Result Sizes Refusal} (Err q) (Err p) = sym e ∙ d.answers ∙ ap answer_of z in
           let qp : q ≡ p = cc in
           record {
-            answers = ap NoStems qp ∙ sym (ap stemmed_as z);
+            answers = ap Err qp ∙ sym (ap stemmed_as z);
             listing_is = d.listing_is;
             image_is = d.image_is;
             list_is = sym (ap (λ y. list_after y list) z);
           }
 
   -- the run was done: it has an output
-  pub done_ok : (sizes : Sizes) → r ≡ Done sizes → (o : Output) × (x ≡ ok o) × (sizes ≡ sizes_of o)
+  pub done_ok : (sizes : Sizes) → r ≡ Ok sizes → (o : Output) × (x ≡ ok o) × (sizes ≡ sizes_of o)
   done_ok sizes e = on x refl
     where
       on : (y : Judged Output) → x ≡ y → (o : Output) × (x ≡ ok o) × (sizes ≡ sizes_of o)
-      on (ok o) z = let same : Done sizes ≡ Done (sizes_of o) = sym e ∙ d.answers ∙ ap answer_of z in (o, z, cc)
+      on (ok o) z = let same : ◌≡◌ {A = Result Sizes Refusal} (Ok sizes) (Ok (sizes_of o)) = sym e ∙ d.answers ∙ ap answer_of z in (o, z, cc)
       on (no p) z = clash (cc (sym e ∙ d.answers ∙ ap answer_of z))
 
   -- and its list is written
-  pub stems_done : (sizes : Sizes) (forms : List ℕ) (count n : ℕ) (list' : List ℕ) → r ≡ Done sizes → Left x forms count
-      → list' ≡ front (list_of (kept_to forms count)) list → n ≡ length (kept_to forms count) → Stems x (Listed sizes n) out image list out' image' list'
+  pub stems_done : (sizes : Sizes) (forms : List ℕ) (count n : ℕ) (list' : List ℕ) → r ≡ Ok sizes → Left x forms count
+      → list' ≡ front (list_of (kept_to forms count)) list → n ≡ length (kept_to forms count) → Stems x (Ok (sizes, n)) out image list out' image' list'
   stems_done sizes forms count n list' e l f m =
       let h = done_ok sizes e in
       let left = l h.0 h.1 in
       record {
-        answers = ap₂ (λ s k. Listed s k) h.2 (m ∙ ap length left) ∙ sym (ap stemmed_as h.1);
+        answers = ap₂ (λ s k. Ok (s, k)) h.2 (m ∙ ap length left) ∙ sym (ap stemmed_as h.1);
         listing_is = d.listing_is;
         image_is = d.image_is;
         list_is = f ∙ ap (λ is. front (list_of is) list) left ∙ sym (ap (λ y. list_after y list) h.1);
@@ -99,9 +96,9 @@ module _ (x : Judged Output) (r : Answer) (out image list out' image' : List ℕ
 
 -- ---- without the list
 
-abbrev pub answer_from : Stemmed → Answer
-answer_from (Listed sizes n) = Done sizes
-answer_from (NoStems q) = Refused q
+abbrev pub answer_from : Result (Sizes × ℕ) Refusal → Result Sizes Refusal
+answer_from (Ok (sizes, n)) = Ok sizes
+answer_from (Err q) = Err q
 
 answer_from_lem : (x : Judged Output) → answer_from (stemmed_as x) ≡ answer_of x
 answer_from_lem (ok o) = refl
@@ -142,7 +139,7 @@ run_with_room asked text a b = on (read_listing text) refl
     on (ok p) e = rw e (judged p e (judge p) refl)
     on (no q) e = rw e
 
-pub stems_answered : (asked : Settings) (text out image list : List ℕ) (r : Stemmed) (a : Answer) (out' image' list' : List ℕ) → length list ≡ 2048 → a ≡ answer_from r
+pub stems_answered : (asked : Settings) (text out image list : List ℕ) (r : Result (Sizes × ℕ) Refusal) (a : Result Sizes Refusal) (out' image' list' : List ℕ) → length list ≡ 2048 → a ≡ answer_from r
     → Stems (run_stems asked text (length out) (length image) (length list)) r out image list out' image' list'
     → Answered asked text out image a out' image'
 stems_answered asked text out image list r a out' image' list' n e d =

@@ -6,10 +6,9 @@ use mathlib.Core.Bool.{true}
 use Prim.Native.Nat.{ℕ, ◌*◌, ◌≤◌}
 use native.Mathlib.Omega.{arith}
 use lib.ListN.{length}
+use Rattle.std.specs.Prelude.{Result, Err, Ok}
 use Rattle.laws.specs.Lists.{total}
 use Rattle.laws.proofs.Tests.{clash}
-use Rattle.rules.specs.declared.Answer.{Answer}
-use Rattle.rules.specs.declared.Answer.TheVariants.{Done}
 use Rattle.rules.specs.declared.Sizes.{Sizes}
 use Rattle.rules.specs.declared.Refusal.{Refusal}
 use Rattle.rules.specs.declared.Refusal.TheVariants.{Room}
@@ -28,13 +27,9 @@ use Rattle.promises.proofs.Anchors.{instr_bytes_anchor}
 use Rattle.promises.proofs.ImageOfOutput.{image_of_output}
 use Rattle.promises.proofs.Shows.{judge_shown, write_back_shown}
 use Rattle.slots.specs.Slots.{Slots, program_of}
-use Rattle.image.specs.Tables.{Tables, program}
 use Rattle.output.specs.Showing.{Shown}
-use Rattle.asm.specs.declared.Verdict.{Verdict}
 use Rattle.optimize.specs.Optimized.{Optimized}
 use Rattle.output.specs.Stems.{kept_to}
-use Rattle.entries.specs.declared.optimizing.Stemmed.{Stemmed}
-use Rattle.entries.specs.declared.optimizing.Stemmed.TheVariants.{Refused as NoStems}
 use Rattle.finishing.specs.Ending.{fits_all, result_of, roomed, Delivers, Fitted}
 use Rattle.finishing.proofs.Ended.{stems_result}
 use Rattle.entries.specs.Stems.{run_stems, Stems}
@@ -54,7 +49,7 @@ module _ (asked : Settings) (b : Beside) (t u v : Slots) (n : ℕ) (h : Optimize
       rewritten_is asked b (program_of t) (program_of u) n (h.chain_is (total instr_bytes (program_of t)) (omega arith))
       ∙ ap (λ (p : Program). result_of b p n) (sym k.program)
 
-  pub optimized_fitted : (room : ℕ) {r : Answer} {out image out' image' : List ℕ}
+  pub optimized_fitted : (room : ℕ) {r : Result Sizes Refusal} {out image out' image' : List ℕ}
       → Fitted t.count room (result_of b (program_of v) n) r out image out' image'
       → Fitted t.count room (rewritten asked b (program_of t)) r out image out' image'
   optimized_fitted room {r} {out} {image} {out'} {image'} d =
@@ -64,7 +59,7 @@ module _ (asked : Settings) (b : Beside) (t u v : Slots) (n : ℕ) (h : Optimize
   optimized_left = stems_result b v n k.sound.held ∙ sym (ap (λ (o : Output). o.stems) rewritten_shown)
 
 -- of the same program
-pub fitted_program : (asked : Settings) (b : Beside) (p q : Program) (n room : ℕ) {r : Answer} {out image out' image' left : List ℕ} → p ≡ q
+pub fitted_program : (asked : Settings) (b : Beside) (p q : Program) (n room : ℕ) {r : Result Sizes Refusal} {out image out' image' left : List ℕ} → p ≡ q
     → Fitted n room (rewritten asked b p) r out image out' image' × (left ≡ (rewritten asked b p).stems)
     → Fitted n room (rewritten asked b q) r out image out' image' × (left ≡ (rewritten asked b q).stems)
 fitted_program asked b p q n room {r} {out} {image} {out'} {image'} {left} e d =
@@ -99,7 +94,7 @@ module _ (asked : Settings) (b : Beside) (p : Program) (n room : ℕ) (e : lengt
       judged_ok asked b (length out) (length image) room p i.0 i.1
       ∙ ap (λ m. roomed m (length out) (length image) room (rewritten asked b (anchor p))) e
 
-  pub judged_delivers : {r : Answer} {out' image' : List ℕ} → Fitted n room (rewritten asked b (anchor p)) r out image out' image'
+  pub judged_delivers : {r : Result Sizes Refusal} {out' image' : List ℕ} → Fitted n room (rewritten asked b (anchor p)) r out image out' image'
       → Delivers (judged_run asked b (length out) (length image) room p) r out image out' image'
   judged_delivers {r} {out'} {image'} h = subst (λ (x : Judged Output). Delivers x r out image out' image') (sym judged_roomed) h
 
@@ -117,7 +112,7 @@ judged_fits asked b x y room p o e =
     let r = roomed_ok (length p) x y room (rewritten asked b (anchor p)) o n.2 in
     subst (λ (z : Output). 2 * length z.stems ≤ room) r.0 r.1
 
-pub list_fits : (asked : Settings) (b : Beside) (room : ℕ) (p : Program) {r : Answer} {out image out' image' : List ℕ} (forms : List ℕ) (count : ℕ) (sizes : Sizes) → r ≡ Done sizes
+pub list_fits : (asked : Settings) (b : Beside) (room : ℕ) (p : Program) {r : Result Sizes Refusal} {out image out' image' : List ℕ} (forms : List ℕ) (count : ℕ) (sizes : Sizes) → r ≡ Ok sizes
     → (let x : Judged Output = judged_run asked b (length out) (length image) room p in Delivers x r out image out' image' × Left x forms count)
     → 2 * length (kept_to forms count) ≤ room
 list_fits asked b room p {r} {out} {image} {out'} {image'} forms count sizes e d =
@@ -128,7 +123,7 @@ list_fits asked b room p {r} {out} {image} {out'} {image'} forms count sizes e d
 pub left_no : (x : Judged Output) (q : Refusal) (forms : List ℕ) (count : ℕ) → x ≡ no q → Left x forms count
 left_no x q forms count e o z = clash (cc)
 
-pub delivers_program : (asked : Settings) (b : Beside) (p q : Program) (room : ℕ) {r : Answer} {out image out' image' : List ℕ} (forms : List ℕ) (count : ℕ)
+pub delivers_program : (asked : Settings) (b : Beside) (p q : Program) (room : ℕ) {r : Result Sizes Refusal} {out image out' image' : List ℕ} (forms : List ℕ) (count : ℕ)
     → p ≡ q
     → (let x : Judged Output = judged_run asked b (length out) (length image) room p in Delivers x r out image out' image' × Left x forms count)
     → (let y : Judged Output = judged_run asked b (length out) (length image) room q in Delivers y r out image out' image' × Left y forms count)
@@ -160,10 +155,10 @@ module _ (asked : Settings) (text out image list : List ℕ) where
   abbrev whole : Judged Output
   whole = run_stems asked text (length out) (length image) (length list)
 
-  pub stems_unread : (q : Refusal) → read_listing text ≡ no q → Stems whole (NoStems q) out image list out image list
+  pub stems_unread : (q : Refusal) → read_listing text ≡ no q → Stems whole (Err q) out image list out image list
   stems_unread q e = stems_no whole q out image list (run_no asked text (length out) (length image) (length list) q e)
 
-  pub stems_read : (b : Beside) (p q : Program) {r : Stemmed} {out' image' list' : List ℕ} → beside_of text ≡ b → read_listing text ≡ ok p → q ≡ p
+  pub stems_read : (b : Beside) (p q : Program) {r : Result (Sizes × ℕ) Refusal} {out' image' list' : List ℕ} → beside_of text ≡ b → read_listing text ≡ ok p → q ≡ p
       → Stems (judged_run asked b (length out) (length image) (length list) q) r out image list out' image' list'
       → Stems whole r out image list out' image' list'
   stems_read b p q {r} {out'} {image'} {list'} z e f h =

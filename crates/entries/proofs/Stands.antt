@@ -14,7 +14,7 @@ use Rattle.rules.specs.Forms.{is_transfer}
 use Rattle.rules.specs.Programs.{Placeℕ, Stmt, gone, Program, kind_of}
 use Rattle.rules.specs.Names.{context_at}
 use Rattle.rules.specs.Judging.{judge, assembles}
-use Rattle.rules.specs.Output.{spoken, shown}
+use Rattle.rules.specs.Output.{spoken}
 use Rattle.promises.proofs.Passes.{judge_passes, assembles_image, image_assembles}
 use Rattle.promises.proofs.Acceptable.{judge_anchor}
 use Rattle.promises.proofs.Shows.{by_spoken, at_shown, judge_shown, shown_context}

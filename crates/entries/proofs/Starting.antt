@@ -1,16 +1,15 @@
 -- The state of a listing as read: sound, with its own forms and targets, every row whole.
 use mathlib.Core.Path.{◌≡◌, sym, ap, ◌∙◌, subst}
 use mathlib.Core.List.{List, ◌++◌}
-use Prim.Native.Nat.{ℕ, ◌≤◌, ◌<◌}
+use Prim.Native.Nat.{ℕ, ◌<◌}
 use native.Mathlib.Omega.{arith}
 use lib.ListN.{length, get_or, drop, replicate, get_or-replicate, length-replicate}
 use Rattle.laws.specs.Counts.{tab}
 use Rattle.laws.proofs.Counts.{length_tab}
 use Rattle.laws.proofs.Stores.{front_length}
-use Rattle.rules.specs.Programs.{Placeℕ}
 use Rattle.listing.specs.Tables.{frame_at, input_of, form_in, Held}
 use Rattle.slots.specs.Slots.{Slots, slots, no_owner, program_of, Sound}
-use Rattle.slots.specs.State.{starts_in, forms_in, carry_in, owners_in, offsets_in, table_of}
+use Rattle.slots.specs.State.{forms_in, carry_in, owners_in, offsets_in, table_of}
 use Rattle.slots.specs.Links.{Together}
 use Rattle.env.proofs.Filled.{get_filled}
 use Rattle.asm.specs.Assembling.{Whole}

@@ -12,7 +12,7 @@ pub use Rattle.fitting.specs.Fitting.{answer_as, room_as, Leaves}
 abbrev pub image_in : (room : ℕ) → Program → Judged (List ℕ)
 image_in room p = fitted (length p) room (judge p)
 
--- what the answer `Done sizes` says: the text keeps the listing rules, and the room's front is what it assembles to as given. "On acceptance, room
+-- what the answer `Ok sizes` says: the text keeps the listing rules, and the room's front is what it assembles to as given. "On acceptance, room
 -- beyond the result is unchanged."
 pub record AsAssembled (text room : List ℕ) (sizes : Sizes) (room' : List ℕ) : Type 0 where
   pub program : Program

@@ -1,7 +1,6 @@
 -- Document 02, C-13: a run that hands out, beside the listing and the image, "the optimizer's list .. of the place each output statement
 -- stems from".
-use Rattle.std.specs.Prelude.{◌≡◌, List, ◌⊎◌, ℕ, ◌*◌, ◌<◌, length, take, drop}
-use Rattle.rules.specs.declared.Answer.TheVariants.{Done as Answer-as-Done}
+use Rattle.std.specs.Prelude.{◌≡◌, List, ◌⊎◌, ℕ, ◌*◌, ◌<◌, length, take, drop, Ok, Result, Err}
 use Rattle.rules.specs.declared.Refusal.{Refusal}
 use Rattle.rules.specs.declared.Sizes.{Sizes}
 use Rattle.rules.specs.declared.Refusal.TheVariants.{Room}
@@ -14,8 +13,6 @@ use Rattle.rules.specs.Run.{Output, output_of, run, front, listing_after, image_
 use Rattle.promises.specs.Demand2.{Answered}
 use Rattle.output.specs.Stems.{list_of}
 use Rattle.finishing.specs.Ending.{fits_all}
-use Rattle.entries.specs.declared.optimizing.Stemmed.{Stemmed}
-use Rattle.entries.specs.declared.optimizing.Stemmed.TheVariants.{Done, Refused}
 
 -- rules' `run` with one more room; 12 gives the input's statement count, whichever room is short
 unfoldable pub run_stems : Settings → (text : List ℕ) (listing_room image_room list_room : ℕ) → Judged Output
@@ -30,16 +27,16 @@ run_stems asked text listing_room image_room list_room = do
 abbrev pub sizes_of : Output → Sizes
 sizes_of o = record { listing = length o.listing; rewrites = o.count; image = length o.image }
 
-abbrev pub stemmed_as : Judged Output → Stemmed
-stemmed_as (ok o) = Done (sizes_of o) (length o.stems)
-stemmed_as (no r) = Refused r
+abbrev pub stemmed_as : Judged Output → Result (Sizes × ℕ) Refusal
+stemmed_as (ok o) = Ok (sizes_of o, length o.stems)
+stemmed_as (no r) = Err r
 
 -- "No lent byte changes" on refusal; "On acceptance, room beyond the result is unchanged."
 abbrev pub list_after : Judged Output → (room : List ℕ) → List ℕ
 list_after (ok o) room = front (list_of o.stems) room
 list_after (no r) room = room
 
-pub record Stems (x : Judged Output) (r : Stemmed) (out image list out' image' list' : List ℕ) : Type 0 where
+pub record Stems (x : Judged Output) (r : Result (Sizes × ℕ) Refusal) (out image list out' image' list' : List ℕ) : Type 0 where
   pub answers : r ≡ stemmed_as x
   pub listing_is : out' ≡ listing_after x out
   pub image_is : image' ≡ image_after x image
@@ -47,10 +44,10 @@ pub record Stems (x : Judged Output) (r : Stemmed) (out image list out' image' l
 
 -- ---- what the answers say
 
--- `Done sizes n`: the listing and the image are what `optimize_jumps` leaves, with all that is promised of it, and in front of the
+-- `Ok (sizes, n)`: the listing and the image are what `optimize_jumps` leaves, with all that is promised of it, and in front of the
 -- list's room stands the place that each of the n statements of the output stems from
 pub record HandedOut (asked : Settings) (text out image list : List ℕ) (sizes : Sizes) (n : ℕ) (out' image' list' : List ℕ) : Type 0 where
-  pub as_jumps : Answered asked text out image (Answer-as-Done sizes) out' image'
+  pub as_jumps : Answered asked text out image (Ok sizes) out' image'
   pub program : Program
   pub keeps_rules : read_listing text ≡ ok program
   pub entries : n ≡ length (rewritten asked program).stems
@@ -66,7 +63,7 @@ pub record ListShort (asked : Settings) (text : List ℕ) (listing_room image_ro
   pub short : list_room < 2 * length output.stems
   pub room : r ≡ Room (length program)
 
--- `Refused r`: no lent byte changed, and `optimize_jumps` answers the same in these rooms, or the list's room alone is too short
+-- `Err r`: no lent byte changed, and `optimize_jumps` answers the same in these rooms, or the list's room alone is too short
 pub record NotHandedOut (asked : Settings) (text out image list : List ℕ) (r : Refusal) (out' image' list' : List ℕ) : Type 0 where
   pub listing_kept : out' ≡ out
   pub image_kept : image' ≡ image

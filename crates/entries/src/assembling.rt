@@ -11,11 +11,11 @@ ghost use Rattle.fitting.specs.Fitting.{Leaves};
 ghost use Rattle.entries.specs.Assembling.{image_in};
 ghost use Rattle.slots.specs.State.{starts_in, forms_in, table_of};
 
-use asm::{Verdict, judge, start_state};
+use asm::{judge, start_state};
 use env::fill_contexts;
 use fitting::finish;
-use listing::{Listed, Starts, read_listing};
-use rules::Answer;
+use listing::{Starts, read_listing};
+use rules::{Refusal, Sizes};
 use slots::State;
 
 // Judges the slots, and writes their image.
@@ -25,7 +25,7 @@ fn judge_slots(
     count: usize,
     contexts: &[u16; 1024],
     image: &mut [u8],
-) -> Answer
+) -> Result<Sizes, Refusal>
     requires { let t : Slots = table_of frames.now state.now count in
         Sound t × Together t × Any frames.now (starts_in state.now) count (forms_in state.now) (λ u. Placed u contexts.now
         × Whole u) }
@@ -35,7 +35,7 @@ fn judge_slots(
     let mut links = [0u16; 28672];
     let mut positions = [0u32; 1025];
     let mut values = [0i64; 1024];
-    match judge(
+    judge(
         frames,
         state,
         count,
@@ -43,14 +43,17 @@ fn judge_slots(
         &mut links,
         &mut positions,
         &mut values,
-    ) {
-        Verdict::Refused(r) => Answer::Refused(r),
-        Verdict::Good => finish(frames, state, count, &links, &values, &positions, image),
-    }
+    )?;
+    finish(frames, state, count, &links, &values, &positions, image)
 }
 
 // The contexts are found first: names are found by them.
-fn place_slots(frames: &[u8], state: &State, count: usize, image: &mut [u8]) -> Answer
+fn place_slots(
+    frames: &[u8],
+    state: &State,
+    count: usize,
+    image: &mut [u8],
+) -> Result<Sizes, Refusal>
     requires { let t : Slots = table_of frames.now state.now count in
         Sound t × Together t × Whole t }
     ensures { let t : Slots = table_of frames.now state.now count in
@@ -62,7 +65,12 @@ fn place_slots(frames: &[u8], state: &State, count: usize, image: &mut [u8]) -> 
 }
 
 // The slots of a listing as read: no target is an inner label.
-fn assemble_read(frames: &[u8], starts: &Starts, count: usize, image: &mut [u8]) -> Answer
+fn assemble_read(
+    frames: &[u8],
+    starts: &Starts,
+    count: usize,
+    image: &mut [u8],
+) -> Result<Sizes, Refusal>
     requires { Held frames.now starts.now count }
     ensures { let p : Program = input_of frames.now starts.now count in
         Leaves (image_in (length image.old) p) result image.old image.new }
@@ -72,15 +80,13 @@ fn assemble_read(frames: &[u8], starts: &Starts, count: usize, image: &mut [u8])
 }
 
 // Reads a listing, judges it as it stands and writes its image. On refusal no lent byte changes.
-pub fn assemble(listing: &[u8], image: &mut [u8]) -> Answer
+pub fn assemble(listing: &[u8], image: &mut [u8]) -> Result<Sizes, Refusal>
     ensures { Leaves (assembled listing.now (length image.old)) result
         image.old image.new }
 {
     let mut frames = [0u8; 28672];
     let mut starts = [0u16; 4100];
     let mut lines = [0u32; 1024];
-    match read_listing(listing, &mut frames, &mut starts, &mut lines) {
-        Listed::Refused(r) => Answer::Refused(r),
-        Listed::Read(count) => assemble_read(&frames, &starts, count, image),
-    }
+    let count = read_listing(listing, &mut frames, &mut starts, &mut lines)?;
+    assemble_read(&frames, &starts, count, image)
 }

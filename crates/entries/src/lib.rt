@@ -6,4 +6,4 @@ mod optimizing; // a listing to its end form
 
 pub use assembling::assemble;
 pub use fault::{Fault, fault_of};
-pub use optimizing::{Stemmed, optimize_jumps, optimize_stems};
+pub use optimizing::{optimize_jumps, optimize_stems};

@@ -1,4 +1,5 @@
-// A listing is read, judged, anchored, rewritten and written, as it is asked for. Each phase declares the tables that it fills and hands them on.
+// A listing is read, judged, anchored, rewritten and written, as it is asked for. Each phase declares the tables that it fills and hands
+// them on.
 ghost use Rattle.std.specs.Prelude.{◌≡◌, true, length};
 ghost use Rattle.rules.specs.Programs.{Program};
 ghost use Rattle.rules.specs.Listing.{Beside as Lines};
@@ -21,13 +22,13 @@ ghost use Rattle.entries.specs.Optimizing.{rewritten, judged_run, Full, Left};
 ghost use Rattle.entries.specs.Stems.{run_stems, Stems};
 
 use anchors::anchor;
-use asm::{Verdict, judge, start_state};
+use asm::{judge, start_state};
 use env::fill_contexts;
 use finishing::{Wanted, judge_end};
-use listing::{Listed, Starts, new_form, read_listing};
+use listing::{Starts, new_form, read_listing};
 use optimize::optimize;
 use output::{show, write_stems};
-use rules::{Answer, Refusal, Settings, Sizes};
+use rules::{Refusal, Settings, Sizes};
 use slots::State;
 
 // Rewrites an anchored program to its end form, and writes it, without its comments unless they are asked for.
@@ -40,7 +41,7 @@ fn rewrite_anchored(
     links: &[u16; 28672],
     out: &mut [u8],
     image: &mut [u8],
-) -> Answer
+) -> Result<Sizes, Refusal>
     requires { let t : Slots = table_of frames.now state.old count in
         Standing t × (assembles (program_of t) ≡ true) × Beside frames.now (starts_in state.old) count links.now }
     ensures { let t : Slots = table_of frames.now state.old count in
@@ -68,7 +69,7 @@ fn judge_read(
     contexts: &[u16; 1024],
     out: &mut [u8],
     image: &mut [u8],
-) -> Answer
+) -> Result<Sizes, Refusal>
     requires { let t : Slots = table_of frames.now state.old count in
         Sound t × AsRead t × Full state.old
         × Any frames.now (starts_in state.old) count (forms_in state.old) (λ u. Placed u contexts.now × Whole u) }
@@ -82,7 +83,7 @@ fn judge_read(
     let mut links = [0u16; 28672];
     let mut positions = [0u32; 1025];
     let mut values = [0i64; 1024];
-    match judge(
+    judge(
         frames,
         state,
         count,
@@ -90,10 +91,7 @@ fn judge_read(
         &mut links,
         &mut positions,
         &mut values,
-    ) {
-        Verdict::Refused(r) => return Answer::Refused(r),
-        Verdict::Good => {}
-    }
+    )?;
     let read = *state;
     anchor(
         frames, &read, count, contexts, &links, &values, &positions, state,
@@ -110,7 +108,7 @@ fn place_read(
     count: usize,
     out: &mut [u8],
     image: &mut [u8],
-) -> Answer
+) -> Result<Sizes, Refusal>
     requires { let t : Slots = table_of frames.now state.old count in
         Sound t × AsRead t × Full state.old × Whole t }
     ensures { let t : Slots = table_of frames.now state.old count in
@@ -125,13 +123,6 @@ fn place_read(
     judge_read(wanted, lines, frames, state, count, &contexts, out, image)
 }
 
-// What is in the lent rooms, and how many statements came out: the list has two bytes for each.
-#[derive(Clone, Copy)]
-pub enum Stemmed {
-    Done(Sizes, usize),
-    Refused(Refusal),
-}
-
 // The slots of a listing as read: no target is an inner label. The list is written last, of the slots that are left.
 fn optimize_read(
     asked: Settings,
@@ -143,7 +134,7 @@ fn optimize_read(
     out: &mut [u8],
     image: &mut [u8],
     list: &mut [u8],
-) -> Stemmed
+) -> Result<(Sizes, usize), Refusal>
     requires { Held frames.now starts.now count }
     ensures { let marks : Lines = beside_in marked lines.now count in
         let p : Program = input_of frames.now starts.now count in
@@ -158,21 +149,20 @@ fn optimize_read(
         marked,
         list: list.len(),
     };
-    match place_read(wanted, lines, frames, &mut state, count, out, image) {
-        Answer::Refused(r) => Stemmed::Refused(r),
-        Answer::Done(sizes) => Stemmed::Done(sizes, write_stems(count, &state, list)),
-    }
+    let sizes = place_read(wanted, lines, frames, &mut state, count, out, image)?;
+    Ok((sizes, write_stems(count, &state, list)))
 }
 
 // C-13: reads a listing, judges it, rewrites it and writes the new listing, its image and the list of the places that its statements
-// stem from. On refusal no lent byte changes.
+// stem from. The answer is what is in the lent rooms, and how many statements came out: the list has two bytes for each. On refusal no
+// lent byte changes.
 pub fn optimize_stems(
     asked: Settings,
     listing: &[u8],
     out: &mut [u8],
     image: &mut [u8],
     list: &mut [u8],
-) -> Stemmed
+) -> Result<(Sizes, usize), Refusal>
     ensures { let x : Judged Output = run_stems asked listing.now (length out.old) (length image.old)
         (length list.old) in
         Stems x result out.old image.old list.old
@@ -182,22 +172,23 @@ pub fn optimize_stems(
     let mut starts = [0u16; 4100];
     let mut lines = [0u32; 1024];
     let marked = new_form(listing);
-    match read_listing(listing, &mut frames, &mut starts, &mut lines) {
-        Listed::Refused(r) => Stemmed::Refused(r),
-        Listed::Read(n) => optimize_read(
-            asked, marked, &lines, &frames, &starts, n, out, image, list,
-        ),
-    }
+    let count = read_listing(listing, &mut frames, &mut starts, &mut lines)?;
+    optimize_read(
+        asked, marked, &lines, &frames, &starts, count, out, image, list,
+    )
 }
 
 // The same without the list: a room of 2,048 bytes is never too short for it.
-pub fn optimize_jumps(asked: Settings, listing: &[u8], out: &mut [u8], image: &mut [u8]) -> Answer
+pub fn optimize_jumps(
+    asked: Settings,
+    listing: &[u8],
+    out: &mut [u8],
+    image: &mut [u8],
+) -> Result<Sizes, Refusal>
     ensures { Answered asked listing.now out.old image.old result
         out.new image.new }
 {
     let mut list = [0u8; 2048];
-    match optimize_stems(asked, listing, out, image, &mut list) {
-        Stemmed::Refused(r) => Answer::Refused(r),
-        Stemmed::Done(sizes, _) => Answer::Done(sizes),
-    }
+    let (sizes, _) = optimize_stems(asked, listing, out, image, &mut list)?;
+    Ok(sizes)
 }

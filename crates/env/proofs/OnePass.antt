@@ -9,6 +9,7 @@ use lib.IntN.{ℤ, pos}
 use lib.ListN.{length, get_or, set}
 use lib.Seq.{get_or-set_same, get_or-set_other}
 use borrow.Author.Count.{below_more}
+use Rattle.std.specs.Prelude.{Err, Ok}
 use Rattle.laws.proofs.Tests.{clash, false_true}
 use Rattle.rules.specs.declared.Address.{Address}
 use Rattle.rules.specs.declared.Refusal.{Refusal}
@@ -21,9 +22,6 @@ use Rattle.expression.specs.Environment.{entries_of}
 use Rattle.listing.specs.Tables.{Held}
 use Rattle.slots.specs.Slots.{Slots, slot_at, program_of}
 use Rattle.slots.specs.Links.{contexts_read, names_now}
-use Rattle.slots.specs.declared.Checked.TheVariants.{Refused as Checked-as-Refused}
-use Rattle.env.specs.declared.Moved.TheVariants.{To, Refused as Moved-as-Refused}
-use Rattle.env.specs.declared.Valued.TheVariants.{Is, Refused}
 use Rattle.env.specs.Answers.{checked_as, moved_as, valued_as}
 use Rattle.env.specs.Tables.{Named, LaidAt, Tells, meant_at}
 use Rattle.env.specs.Settling.{SettledTo, Settled}
@@ -58,7 +56,7 @@ first_fails : {A B : Type 0} (x : Judged A) (y : Judged B) (r : Refusal) → x �
 unfolding is_ok
 first_fails x y r e = rw e
 
-second_fails : {A B : Type 0} (x : Judged A) (y : Judged B) (r : Refusal) → Checked-as-Refused r ≡ checked_as y → false ≡ is_ok x && is_ok y
+second_fails : {A B : Type 0} (x : Judged A) (y : Judged B) (r : Refusal) → Err r ≡ checked_as y → false ≡ is_ok x && is_ok y
 unfolding is_ok
 second_fails (ok a) (ok b) r e = clash (cc)
 second_fails (ok a) (no q) r e = refl
@@ -97,8 +95,8 @@ module _ (t : Slots) (positions : List ℕ) (values : List ℤ) where
       same = rw (h.held i (omega arith), at_program t i l)
 
       pub settled_next : Held t.frames t.starts t.count → (a : Address) (z : ℤ) → a.0 ≤ 65536 → i + 1 < length positions → i < length values
-          → moved_as (settles i (get_or positions i 0) (slot_at t i)) (after (get_or positions i 0) (slot_at t i)) ≡ To a
-          → valued_as (meant_at names contexts values p i) ≡ Is z → Tells (slot_at t i) z
+          → moved_as (settles i (get_or positions i 0) (slot_at t i)) (after (get_or positions i 0) (slot_at t i)) ≡ Ok a
+          → valued_as (meant_at names contexts values p i) ≡ Ok z → Tells (slot_at t i) z
           → SettledTo t (set positions (i + 1) a.0) (set values i z) (i + 1)
       settled_next f a z low room more e v tells =
           let m = moved_to_lem (settles i (get_or positions i 0) (slot_at t i)) (after (get_or positions i 0) (slot_at t i)) a e in
@@ -125,7 +123,7 @@ module _ (t : Slots) (positions : List ℕ) (values : List ℤ) where
           record { context = c; held = get_or-set_other positions (i + 1) i q 0 (λ e. omega arith) ∙ h.held i (omega arith); small = h.small i (omega arith) }
 
       pub position_stops : (positions' : List ℕ) (values' : List ℤ) (r : Refusal)
-          → moved_as (settles i (get_or positions i 0) (slot_at t i)) (after (get_or positions i 0) (slot_at t i)) ≡ Moved-as-Refused r → Settled t false positions' values'
+          → moved_as (settles i (get_or positions i 0) (slot_at t i)) (after (get_or positions i 0) (slot_at t i)) ≡ Err r → Settled t false positions' values'
       position_stops positions' values' r e =
           let m = moved_refused (settles i (get_or positions i 0) (slot_at t i)) (after (get_or positions i 0) (slot_at t i)) r e in
           record {
@@ -138,7 +136,7 @@ module _ (t : Slots) (positions : List ℕ) (values : List ℤ) where
           }
 
       pub value_stops : Named p t.count names contexts → (positions' : List ℕ) (values' : List ℤ) (r : Refusal)
-          → valued_as (meant_at names contexts values p i) ≡ Refused r → Settled t false positions' values'
+          → valued_as (meant_at names contexts values p i) ≡ Err r → Settled t false positions' values'
       value_stops n positions' values' r e =
           record {
             answer =

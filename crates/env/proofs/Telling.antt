@@ -12,8 +12,10 @@ use lib.ListN.{length, get_or, set}
 use lib.Seq.{get_or-set_same, get_or-set_other}
 use borrow.Author.Count.{below_more}
 use borrow.Author.Tests.{ne_eqb, lt-ltb}
+use Rattle.rules.specs.declared.Refusal.{Refusal}
+use Rattle.rules.specs.declared.Unvalued.TheVariants.{Nothing}
+use Rattle.std.specs.Prelude.{Ok, Err, Result}
 use Rattle.laws.proofs.Tests.{eq_or_not, lt_or_le}
-use Rattle.rules.specs.declared.Outcome.TheVariants.{Is, Nothing}
 use Rattle.rules.specs.Programs.{Placeℕ, Stmt, gone, instr, label, variable, comment, org, bytes, words, pad, Instruction, on_instr, as_name, kind_of}
 use Rattle.rules.specs.Statements.{pair_at}
 use Rattle.expression.specs.Sound.{AreBytes}
@@ -28,8 +30,6 @@ use Rattle.slots.proofs.Frames.{Frame, of_instr, of_label, of_variable, of_comme
 use Rattle.slots.proofs.Tables.{frame_is, bytes_frame}
 use Rattle.slots.proofs.Slots.{slot_gone, slot_kept, kind_kept, kind_read, slot_data, written_frame}
 use Rattle.slots.proofs.Linking.{name_read, name_now}
-use Rattle.env.specs.declared.Valued.{Valued}
-use Rattle.env.specs.declared.Valued.TheVariants.{Is as Valued-as-Is, Refused}
 use Rattle.env.specs.Answers.{InRange}
 use Rattle.env.specs.Tables.{Tells, TellsIn, ShownTo, InContext, Named, name_said}
 use Rattle.env.proofs.Programs.{length_program, at_program}
@@ -117,14 +117,14 @@ module _ (t : Slots) (h : Held t.frames t.starts t.count) (i : Placeℕ) (l : i 
 
 -- ---- numbers of the table
 
-pub tells_value : (s : Stmt) (k : ℕ) → kind_of s ≡ suc k → (v : Valued) → InRange v → TellsIn s v
-tells_value s k e (Valued-as-Is z) r = r ∙ rw (ne_eqb (kind_of s) 0 (λ n. omega arith))
-tells_value s k e (Refused q) r = tt
+pub tells_value : (s : Stmt) (k : ℕ) → kind_of s ≡ suc k → (v : Result ℤ Refusal) → InRange v → TellsIn s v
+tells_value s k e (Ok z) r = r ∙ rw (ne_eqb (kind_of s) 0 (λ n. omega arith))
+tells_value s k e (Err q) r = tt
 
 pub tells_position : (s : Stmt) (k : ℕ) → kind_of s ≡ suc k → (q : ℕ) → q ≤ 65536 → Tells s (pos q)
 tells_position s k e q l = rw (lt-ltb q (2 ^ 31) (omega arith), ne_eqb (kind_of s) 0 (λ n. omega arith))
 
-pub tells_zero : (s : Stmt) → (kind_of s ≡ 0 → ⊥) → Is (pos 0) ≡ cond (eqb (kind_of s) 0) Nothing (Is (pos 0))
+pub tells_zero : (s : Stmt) → (kind_of s ≡ 0 → ⊥) → Ok (pos 0) ≡ cond (eqb (kind_of s) 0) (Err Nothing) (Ok (pos 0))
 tells_zero s n = rw (ne_eqb (kind_of s) 0 n)
 
 -- ---- the tables of the names as they stand

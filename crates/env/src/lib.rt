@@ -15,26 +15,11 @@ pub use layout::lay_out;
 pub use links::fill_links;
 pub use moving::fill_moving;
 pub use names::{fill_names, no_name_twice};
-use rules::{Address, Refusal};
 pub use settling::settle_all;
 pub use variables::define_all;
 
 // Names from here on are local.
 const LOCAL: u16 = 0x8000;
 
-// What stands in a table of names where a place has none.
+// What stands in a table of names where a place has none: a number, as the table is fixed memory (D-137).
 const NO_NAME: u32 = 65536;
-
-// The position after a statement.
-#[derive(Clone, Copy)]
-enum Moved {
-    To(Address),
-    Refused(Refusal),
-}
-
-// What stands in the table of values.
-#[derive(Clone, Copy)]
-enum Valued {
-    Is(i64),
-    Refused(Refusal),
-}

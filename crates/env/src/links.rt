@@ -12,7 +12,7 @@ use expression::{defines, tag_of};
 use rules::Tag;
 use slots::{State, start_at};
 
-// No place.
+// No place: the links are plain numbers in fixed memory (D-137).
 const NONE: u16 = 65535;
 
 // The place that defines what `name` means in `context`, of `count` statements that define no name twice.
@@ -27,7 +27,7 @@ fn place_of(
     ensures { Means names.now contexts.now count context name result }
 {
     match (0..count).find(|&i| defines(names[i], contexts[i], name, context)) {
-        Some(i) => i as u16,
+        Some(i) => i as u16, // not in a closure, which does not know that i is below `count`
         None => NONE,
     }
 }

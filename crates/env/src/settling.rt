@@ -8,7 +8,6 @@ ghost use Rattle.slots.specs.State.{starts_in, forms_in};
 
 use crate::layout::advance;
 use crate::variables::value_at;
-use crate::{Moved, Valued};
 use rules::{Address, Place};
 use slots::State;
 
@@ -32,14 +31,14 @@ pub fn settle_all(
     positions[0] = 0;
     for i in 0..count {
         let here = Address(positions[i] as usize);
-        match advance(frames, state, count, Place(i), here) {
-            Moved::To(next) => positions[i + 1] = next.0 as u32,
-            Moved::Refused(_) => return false,
-        }
-        match value_at(frames, state, count, links, positions, values, Place(i)) {
-            Valued::Is(z) => values[i] = z,
-            Valued::Refused(_) => return false,
-        }
+        let Ok(next) = advance(frames, state, count, Place(i), here) else {
+            return false;
+        };
+        positions[i + 1] = next.0 as u32;
+        let Ok(z) = value_at(frames, state, count, links, positions, values, Place(i)) else {
+            return false;
+        };
+        values[i] = z;
     }
     true
 }

@@ -8,9 +8,9 @@ use lib.Dec.{ltb, eqb}
 use lib.IntN.{ℤ, pos}
 use lib.ListN.{get_or}
 use borrow.Author.Tests.{eq-eqb, ne_eqb, lt-ltb, le-leb, lt-leb}
+use Rattle.rules.specs.declared.Unvalued.{Unvalued}
+use Rattle.std.specs.Prelude.{Result, Ok}
 use Rattle.laws.proofs.Tests.{first_false, second_false}
-use Rattle.rules.specs.declared.Outcome.{Outcome}
-use Rattle.rules.specs.declared.Outcome.TheVariants.{Is}
 use Rattle.rules.specs.Names.{key_of, same_key, lookup}
 use Rattle.expression.specs.Environment.{is_here, entries_of}
 
@@ -27,14 +27,14 @@ module _ (n k m c : ℕ) where
 
 -- ---- the entries below i, from place i - 1 on
 module _ (names contexts : List ℕ) (values : List ℤ) (c m : ℕ) where
-  abbrev pub found : (limit : ℕ) → Outcome
+  abbrev pub found : (limit : ℕ) → Result ℤ Unvalued
   found limit = lookup (entries_of names contexts values limit) (key_of c m)
 
   abbrev pub here : (i : ℕ) → Bool
   here i = is_here (get_or names i 0) (get_or contexts i 0) m c
 
   pub at_place : (i : ℕ) (a b : Bool) → ltb (get_or names i 0) 65536 ≡ a → same_key (key_of (get_or contexts i 0) (get_or names i 0)) (key_of c m) ≡ b
-      → found (suc i) ≡ cond (a && b) (Is (get_or values i (pos 0))) (found i)
+      → found (suc i) ≡ cond (a && b) (Ok (get_or values i (pos 0))) (found i)
   unfolding entries_of lookup
   at_place i true true p q = rw (p, q)
   at_place i true false p q = rw (p, q)

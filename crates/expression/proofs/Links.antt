@@ -10,12 +10,13 @@ use lib.IntN.{ℤ, pos}
 use lib.ListN.{length, get_or, drop, take, set, length-drop}
 use lib.Seq.{get_or-drop, drop-drop, get_or-set_same, get_or-set_other}
 use borrow.Author.Tests.{leb-true, lt-ltb, le-ltb, eq-eqb, ne_eqb}
+use Rattle.rules.specs.declared.Unvalued.TheVariants.{Nothing}
+use Rattle.rules.specs.declared.Unvalued.{Unvalued}
+use Rattle.std.specs.Prelude.{Result, Err, Ok}
 use Rattle.laws.proofs.Stores.{rest_is}
 use Rattle.laws.proofs.Tests.{eq_or_not, lt_or_le}
 use Rattle.rules.specs.declared.Op1.{Op1}
 use Rattle.rules.specs.declared.Op2.{Op2}
-use Rattle.rules.specs.declared.Outcome.{Outcome}
-use Rattle.rules.specs.declared.Outcome.TheVariants.{Is, Nothing}
 use Rattle.rules.specs.declared.Tag.TheVariants.{Number, Name, Two, One, Bad}
 use Rattle.rules.specs.Values.{in_range}
 use Rattle.rules.specs.Names.{key_of, same_key, lookup}
@@ -29,7 +30,7 @@ use Rattle.expression.proofs.Entries.{at_place, found, here}
 
 -- ---- evaluating
 
-value : Valued → Outcome
+value : Valued → Result ℤ Unvalued
 value v = v.value
 
 taken : Valued → ℕ
@@ -41,7 +42,7 @@ same_leaf false x y d h = refl
 
 module _ (s links : List ℕ) (values : List ℤ) (limit : ℕ) where
   -- the links beside the rest
-  pub linked_drop : (env : ℕ → Outcome) (k : ℕ) → Linked env s links values limit → Linked env (drop k s) (drop k links) values limit
+  pub linked_drop : (env : ℕ → Result ℤ Unvalued) (k : ℕ) → Linked env s links values limit → Linked env (drop k s) (drop k links) values limit
   linked_drop env k h =
       record {
         name = λ j l t.
@@ -49,15 +50,15 @@ module _ (s links : List ℕ) (values : List ℤ) (limit : ℕ) where
             ap (λ b. stands_at values limit b) (get_or-drop k links j 0) ∙ there ∙ ap (λ r. env (name_of r)) (sym (drop-drop j k s));
       }
 
-  pub rest_evaluated : (k : ℕ) (v : Outcome) (t : ℕ)
+  pub rest_evaluated : (k : ℕ) (v : Result ℤ Unvalued) (t : ℕ)
       → Evaluated (take (length s - k) (drop k s)) (take (length links - k) (drop k links)) values limit v t
       → Evaluated (drop k s) (drop k links) values limit v t
   rest_evaluated k v t w = rw (rest_is k s, rest_is k links) at w
 
-  pub empty_evaluated : length s ≤ 0 → (v : Outcome) → Evaluated s links values limit v 0
+  pub empty_evaluated : length s ≤ 0 → (v : Result ℤ Unvalued) → Evaluated s links values limit v 0
   empty_evaluated h v = record { within = omega arith; worth = λ env l. empty_along (eval_tree env) s h v }
 
-  pub bad_evaluated : tag_of (get_or s 0 0) ≡ Bad → (v : Outcome) → Evaluated s links values limit v 0
+  pub bad_evaluated : tag_of (get_or s 0 0) ≡ Bad → (v : Result ℤ Unvalued) → Evaluated s links values limit v 0
   bad_evaluated q v = record { within = omega arith; worth = λ env l. bad_along (eval_tree env) s q v }
 
   leaf_within : (k : ℕ) (r : Valued) → taken r ≡ k → taken (cond (leb k (length s)) r no_value) ≤ length s
@@ -71,7 +72,7 @@ module _ (s links : List ℕ) (values : List ℤ) (limit : ℕ) where
   pub number_evaluated : tag_of (get_or s 0 0) ≡ Number → Evaluated s links values limit (number_at s).value (number_at s).taken
   unfolding value taken eval_tree
   number_evaluated q =
-      let r : Valued = record { value = Is (number_of s); taken = 5 } in
+      let r : Valued = record { value = Ok (number_of s); taken = 5 } in
       record { within = leaf_within 5 r refl; worth = λ env l. number_along (eval_tree env) s value taken r no_value q refl refl refl }
 
   pub name_evaluated : tag_of (get_or s 0 0) ≡ Name → Evaluated s links values limit (link_at values limit links s).value (link_at values limit links s).taken
@@ -83,11 +84,11 @@ module _ (s links : List ℕ) (values : List ℤ) (limit : ℕ) where
         worth = λ env l.
             let m : Valued = record { value = env (name_of s); taken = 3 } in
             let same : cond (leb 3 (length s)) r no_value ≡ cond (leb 3 (length s)) m no_value = same_leaf (leb 3 (length s)) r m no_value
-            (λ b. ap (λ (v : Outcome). record { value = v; taken = 3 }) (l.name 0 (omega (arith, leb-true 3 (length s) b)) q)) in
+            (λ b. ap (λ (v : Result ℤ Unvalued). record { value = v; taken = 3 }) (l.name 0 (omega (arith, leb-true 3 (length s) b)) q)) in
             rw same (name_along (eval_tree env) s value taken m no_value q refl refl refl);
       }
 
-  pub one_evaluated : (o : Op1) → tag_of (get_or s 0 0) ≡ One o → 1 ≤ length s → (v : Outcome) (t : ℕ) → Evaluated (drop 1 s) (drop 1 links) values limit v t
+  pub one_evaluated : (o : Op1) → tag_of (get_or s 0 0) ≡ One o → 1 ≤ length s → (v : Result ℤ Unvalued) (t : ℕ) → Evaluated (drop 1 s) (drop 1 links) values limit v t
       → Evaluated s links values limit (with1 o v) (1 + t)
   unfolding eval_tree
   one_evaluated o q h v t w =
@@ -96,8 +97,8 @@ module _ (s links : List ℕ) (values : List ℤ) (limit : ℕ) where
         worth = λ env l. one_along (eval_tree env) s o q h (with1 o) (λ e. refl) v t (w.worth env (linked_drop env 1 l));
       }
 
-  pub two_evaluated : (o : Op2) → tag_of (get_or s 0 0) ≡ Two o → 1 ≤ length s → (v : Outcome) (t : ℕ) → Evaluated (drop 1 s) (drop 1 links) values limit v t
-      → (w : Outcome) (u : ℕ) → Evaluated (drop (1 + t) s) (drop (1 + t) links) values limit w u → Evaluated s links values limit (with2 o v w) (1 + t + u)
+  pub two_evaluated : (o : Op2) → tag_of (get_or s 0 0) ≡ Two o → 1 ≤ length s → (v : Result ℤ Unvalued) (t : ℕ) → Evaluated (drop 1 s) (drop 1 links) values limit v t
+      → (w : Result ℤ Unvalued) (u : ℕ) → Evaluated (drop (1 + t) s) (drop (1 + t) links) values limit w u → Evaluated s links values limit (with2 o v w) (1 + t + u)
   unfolding eval_tree
   two_evaluated o q h v t a w u b =
       record {
@@ -114,13 +115,13 @@ module _ (names names' contexts : List ℕ) (values : List ℤ) (n k m l : ℕ)
   abbrev now_here : (i : ℕ) → Bool
   now_here i = here names' contexts values k m i
 
-  abbrev now_found : (i : ℕ) → Outcome
+  abbrev now_found : (i : ℕ) → Result ℤ Unvalued
   now_found i = found names' contexts values k m i
 
-  after : (i : ℕ) (b : Bool) → now_here i ≡ b → now_found (suc i) ≡ cond b (Is (get_or values i (pos 0))) (now_found i)
+  after : (i : ℕ) (b : Bool) → now_here i ≡ b → now_found (suc i) ≡ cond b (Ok (get_or values i (pos 0))) (now_found i)
   after i b e =
       at_place names' contexts values k m i (ltb (get_or names' i 0) 65536) (same_key (key_of (get_or contexts i 0) (get_or names' i 0)) (key_of k m)) refl refl
-      ∙ ap (λ (t : Bool). cond t (Is (get_or values i (pos 0))) (now_found i)) e
+      ∙ ap (λ (t : Bool). cond t (Ok (get_or values i (pos 0))) (now_found i)) e
 
   kept : (i : ℕ) → i < n → get_or names' i 0 ≡ get_or names i 0 → now_here i ≡ eqb i l
   kept i h e = ap (λ (a : ℕ). is_here a (get_or contexts i 0) m k) e ∙ only i h
@@ -159,7 +160,7 @@ links_say names names' contexts values n k limit s links few h shown =
     record { name = λ j l t. sym (found_linked names names' contexts values n k (name_of (drop j s)) (get_or links j 0) (h.place j l t) shown limit few) }
 
 -- a statement that goes: its name goes from the table and its number becomes none; what is shown elsewhere stays
-pub shown_drop : (names names' : List ℕ) (values : List ℤ) (i : ℕ) (z : ℤ) → i < length names' → i < length values → in_range z ≡ Nothing
+pub shown_drop : (names names' : List ℕ) (values : List ℤ) (i : ℕ) (z : ℤ) → i < length names' → i < length values → in_range z ≡ Err Nothing
     → (j : ℕ) → Shown names names' values j → Shown names (set names' i 65536) (set values i z) j
 shown_drop names names' values i z ln lv out j h = on (eq_or_not j i) h
   where

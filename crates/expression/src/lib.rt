@@ -12,22 +12,21 @@ mod worth; // what an expression is worth
 pub use labels::{defines, holds_label, is_seen};
 pub use naming::{count_links, is_bare};
 pub use reading::{read_expr, tag_of};
-use rules::Outcome;
+use rules::Unvalued;
 pub use values::{apply_one, apply_two};
 pub use worth::linked_worth;
 
-// What reading an expression comes to: how many bytes it takes, or why it is none.
+// Why bytes do not read: refusal 2, or 1.
 #[derive(Clone, Copy)]
-pub enum Read {
-    Ends(usize),
+pub enum Unread {
     TooLong,
-    Broken,
+    Malformed,
 }
 
 // What the bytes of an expression are worth, and how many they are.
 #[derive(Clone, Copy)]
 struct Valued {
-    value: Outcome,
+    value: Result<i32, Unvalued>,
     taken: usize,
 }
 

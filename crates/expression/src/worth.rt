@@ -1,7 +1,7 @@
 // What an expression is worth, its names found beforehand: beside each byte at which a name begins `links` has the place of the statement
 // that defines it. `values` has by place what its name stands for, and a number outside 32 bits where the statement is gone.
-ghost use Rattle.std.specs.Prelude.{◌≡◌, ℕ, ◌≤◌, length};
-ghost use Rattle.rules.specs.declared.Outcome.{Outcome as Outcomes};
+ghost use Rattle.rules.specs.declared.Unvalued.{Unvalued};
+ghost use Rattle.std.specs.Prelude.{◌≡◌, ℕ, ◌≤◌, length, ℤ, Result};
 ghost use Rattle.rules.specs.Expressions.{Expr, read_expr, got, eval_tree};
 ghost use Rattle.expression.specs.Evaluating.{no_value, number_at};
 ghost use Rattle.expression.specs.Linked.{stands_at, link_at, Linked, Evaluated};
@@ -10,14 +10,14 @@ use crate::Valued;
 use crate::fields::four;
 use crate::reading::tag_of;
 use crate::values::{fit, with_one, with_two};
-use rules::{Outcome, Tag};
+use rules::{Tag, Unvalued};
 
 // Where bytes are lacking, or are no expression.
 fn none() -> Valued
     ensures { result ≡ no_value }
 {
     Valued {
-        value: Outcome::Nothing,
+        value: Err(Unvalued::Nothing),
         taken: 0,
     }
 }
@@ -29,25 +29,21 @@ fn number(s: &[u8]) -> Valued
         return none();
     }
     Valued {
-        value: Outcome::Is(four(s[1], s[2], s[3], s[4])),
+        value: Ok(four(s[1], s[2], s[3], s[4])),
         taken: 5,
     }
 }
 
 // What the name that a place defines stands for: nothing from the limit on, and nothing where the statement is gone.
-fn stands_for(values: &[i64; 1024], limit: usize, place: u16) -> Outcome
+fn stands_for(values: &[i64; 1024], limit: usize, place: u16) -> Result<i32, Unvalued>
     requires { limit ≤ 1024 }
     ensures { result ≡ stands_at values.now limit place }
 {
     let i = usize::from(place);
     if limit <= i {
-        return Outcome::Unknown;
+        return Err(Unvalued::Unknown);
     }
-    match fit(values[i]) {
-        Outcome::Is(z) => Outcome::Is(z),
-        Outcome::Unknown => Outcome::Unknown,
-        Outcome::Nothing => Outcome::Unknown,
-    }
+    fit(values[i]).map_err(|_| Unvalued::Unknown)
 }
 
 fn linked(s: &[u8], links: &[u16], values: &[i64; 1024], limit: usize) -> Valued
@@ -96,9 +92,14 @@ fn eval_linked(s: &[u8], links: &[u16], values: &[i64; 1024], limit: usize) -> V
 }
 
 // What the expression that s begins with is worth, by the places below `limit`.
-pub fn linked_worth(s: &[u8], links: &[u16], values: &[i64; 1024], limit: usize) -> Outcome
+pub fn linked_worth(
+    s: &[u8],
+    links: &[u16],
+    values: &[i64; 1024],
+    limit: usize,
+) -> Result<i32, Unvalued>
     requires { (limit ≤ 1024) × (length s.now ≤ length links.now) }
-    ensures { (env : ℕ → Outcomes) → Linked env s.now links.now values.now limit
+    ensures { (env : ℕ → Result ℤ Unvalued) → Linked env s.now links.now values.now limit
         → (e : Expr) (n : ℕ) → read_expr s.now ≡ got e n → result ≡ eval_tree env e }
 {
     eval_linked(s, links, values, limit).value

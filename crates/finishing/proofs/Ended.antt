@@ -4,6 +4,7 @@ use mathlib.Core.List.{[], ◌∷◌, map}
 use mathlib.Core.Bool.{true}
 use Prim.Native.Nat.{ℕ, suc}
 use native.Mathlib.Omega.{arith}
+use Rattle.std.specs.Prelude.{Result, Ok, Err}
 use Rattle.laws.proofs.Tests.{false_true}
 use Rattle.rules.specs.declared.Refusal.{Refusal}
 use Rattle.rules.specs.Answers.{Judged, ok, no, judged_or, is_ok}
@@ -20,24 +21,22 @@ use Rattle.image.specs.Image.{image_of}
 use Rattle.output.specs.Lines.{listing_of, Positioned}
 use Rattle.output.specs.Stems.{kept_to}
 use Rattle.output.proofs.Listings.{stems_kept}
-use Rattle.asm.specs.declared.Verdict.{Verdict}
-use Rattle.asm.specs.declared.Verdict.TheVariants.{Good, Refused as Bad}
 use Rattle.asm.specs.Verdicts.{verdict_as, JudgedAs}
 use Rattle.finishing.specs.Ending.{result_of, Assembled}
 
 -- ---- verdicts
 
-pub good_ok : {A : Type 0} (x : Judged A) → Good ≡ verdict_as x → is_ok x ≡ true
+pub good_ok : {A : Type 0} (x : Judged A) → (Ok tt) ≡ verdict_as x → is_ok x ≡ true
 unfolding is_ok
 good_ok (ok a) e = refl
 good_ok (no r) e = absurd (let z : ◌≡◌ {A = ℕ} 0 1 = cc in omega arith)
 
-pub bad_no : {A : Type 0} (x : Judged A) (q : Refusal) → Bad q ≡ verdict_as x → x ≡ no q
+pub bad_no : {A : Type 0} (x : Judged A) (q : Refusal) → Err q ≡ verdict_as x → x ≡ no q
 bad_no (ok a) q e = absurd (let z : ◌≡◌ {A = ℕ} 0 1 = cc in omega arith)
 bad_no (no r) q e = cc
 
 -- a good verdict
-pub assembled_by : (d : Tables) (r : Verdict) → r ≡ Good → JudgedAs d r → Assembled d
+pub assembled_by : (d : Tables) (r : Result (Unit {0}) Refusal) → r ≡ Ok tt → JudgedAs d r → Assembled d
 unfolding assembles
 assembled_by d r e v =
     record {
@@ -84,7 +83,7 @@ pub positioned : (d : Tables) → Ready d → Positioned d.slots d.positions
 positioned d r = record { are = λ i l. r.position i (omega arith); low = λ i l. r.low i (omega arith) }
 
 -- a program that assembles is not refused
-pub not_refused {ℓ} : {X : Type ℓ} (d : Tables) (r : Verdict) (q : Refusal) → r ≡ Bad q → JudgedAs d r → assembles (program d) ≡ true → X
+pub not_refused {ℓ} : {X : Type ℓ} (d : Tables) (r : Result (Unit {0}) Refusal) (q : Refusal) → r ≡ Err q → JudgedAs d r → assembles (program d) ≡ true → X
 unfolding assembles is_ok
 not_refused d r q e v g =
     let b : judge (program d) ≡ no q = bad_no (judge (program d)) q (sym e ∙ v.answer) in

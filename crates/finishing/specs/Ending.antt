@@ -1,6 +1,7 @@
 -- What is handed out of an end form, and what it leaves in the lent rooms.
-use Rattle.std.specs.Prelude.{◌≡◌, List, [], Bool, true, ◌&&◌, ℕ, leb, length}
-use Rattle.rules.specs.declared.Answer.{Answer}
+use Rattle.rules.specs.declared.Refusal.{Refusal}
+use Rattle.rules.specs.declared.Sizes.{Sizes}
+use Rattle.std.specs.Prelude.{◌≡◌, List, [], Bool, true, ◌&&◌, ℕ, leb, length, Result}
 use Rattle.rules.specs.declared.Refusal.TheVariants.{Room}
 use Rattle.rules.specs.Answers.{Judged, ok, require, judged_or}
 use Rattle.rules.specs.Programs.{Program}
@@ -31,11 +32,11 @@ pub record Assembled (d : Tables) : Type 0 where
   pub good : assembles (program d) ≡ true
 
 -- the answer and both rooms at the end
-pub record Delivers (x : Judged Output) (r : Answer) (out image out' image' : List ℕ) : Type 0 where
+pub record Delivers (x : Judged Output) (r : Result Sizes Refusal) (out image out' image' : List ℕ) : Type 0 where
   pub answers : r ≡ answer_of x
   pub listing_is : out' ≡ listing_after x out
   pub image_is : image' ≡ image_after x image
 
 -- if only the rooms can be refused
-abbrev pub Fitted : (count list_room : ℕ) → Output → Answer → (out image out' image' : List ℕ) → Type 0
+abbrev pub Fitted : (count list_room : ℕ) → Output → Result Sizes Refusal → (out image out' image' : List ℕ) → Type 0
 Fitted count list_room o r out image out' image' = Delivers (roomed count (length out) (length image) list_room o) r out image out' image'

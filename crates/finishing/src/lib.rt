@@ -11,10 +11,10 @@ ghost use Rattle.slots.specs.Links.{Beside};
 ghost use Rattle.attempts.specs.Standing.{Standing};
 ghost use Rattle.finishing.specs.Ending.{result_of, Fitted};
 
-use asm::{Verdict, judge_linked};
+use asm::judge_linked;
 use image::{image_length, write_image};
 use output::{count_stems, text_length, write_text};
-use rules::{Answer, Refusal, Settings, Sizes};
+use rules::{Refusal, Settings, Sizes};
 use slots::State;
 
 // What a run is asked for: the switches, the listing's form, and how many bytes are lent for the list of stems (C-13).
@@ -26,7 +26,7 @@ pub struct Wanted {
 }
 
 // The listing and the image of an end form, `rewrites` being how many rewrites led to it. Positions and values are found once more: it
-// assembles. All rooms are judged before a byte is written.
+// assembles. All rooms are judged before a byte is written. The answer is what is in the lent rooms; or the refusal.
 pub fn judge_end(
     wanted: Wanted,
     lines: &[u32; 1024],
@@ -37,7 +37,7 @@ pub fn judge_end(
     rewrites: usize,
     out: &mut [u8],
     image: &mut [u8],
-) -> Answer
+) -> Result<Sizes, Refusal>
     requires { let t : Slots = table_of frames.now state.now count in
         Standing t × (assembles (program_of t) ≡ true) × Beside frames.now (starts_in state.now) count links.now }
     ensures { let t : Slots = table_of frames.now state.now count in
@@ -47,10 +47,7 @@ pub fn judge_end(
 {
     let mut positions = [0u32; 1025];
     let mut values = [0i64; 1024];
-    match judge_linked(frames, state, count, links, &mut positions, &mut values) {
-        Verdict::Refused(r) => return Answer::Refused(r),
-        Verdict::Good => {}
-    }
+    judge_linked(frames, state, count, links, &mut positions, &mut values)?;
     let marked = wanted.marked;
     let listing_size = text_length(marked, frames, state, count);
     let image_size = image_length(frames, state, count, &positions);
@@ -58,11 +55,11 @@ pub fn judge_end(
         || image.len() < image_size
         || wanted.list < 2 * count_stems(count, state)
     {
-        return Answer::Refused(Refusal::Room(count));
+        return Err(Refusal::Room(count));
     }
     write_text(marked, lines, frames, state, count, &positions, out);
     write_image(frames, state, count, links, &values, &positions, image);
-    Answer::Done(Sizes {
+    Ok(Sizes {
         listing: listing_size,
         rewrites,
         image: image_size,

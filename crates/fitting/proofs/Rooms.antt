@@ -6,7 +6,7 @@ use Prim.Native.Nat.{ℕ, ◌≤◌, ◌<◌}
 use native.Mathlib.Omega.{arith}
 use lib.ListN.{length, drop}
 use borrow.Author.Tests.{le-leb, lt-leb}
-use Rattle.rules.specs.declared.Answer.TheVariants.{Done, Refused}
+use Rattle.std.specs.Prelude.{Err, Ok}
 use Rattle.rules.specs.declared.Refusal.{Refusal}
 use Rattle.rules.specs.declared.Refusal.TheVariants.{Room}
 use Rattle.rules.specs.Answers.{Judged, ok, no, ◌>>=◌, require, judged_or, is_ok}
@@ -27,19 +27,19 @@ module _ (x : Judged (List ℕ)) (b : List ℕ) (is : x ≡ ok b) (count : ℕ) 
   unfolding fitted ◌>>=◌ require
   fitted_whole h = rw (is, le-leb (length b) (length before) h)
 
-  pub leaves_short : length before < length b → Leaves (fitted count (length before) x) (Refused (Room count)) before before
+  pub leaves_short : length before < length b → Leaves (fitted count (length before) x) (Err (Room count)) before before
   leaves_short h = let e = fitted_short h in record { answer = sym (ap answer_as e); room = sym (ap (λ y. room_as y before) e) }
 
   pub leaves_whole : (n : ℕ) (after : List ℕ) → length b ≤ length before → n ≡ length b → after ≡ b ++ drop (length b) before
-      → Leaves (fitted count (length before) x) (Done (record { listing = 0; rewrites = 0; image = n })) before after
+      → Leaves (fitted count (length before) x) (Ok (record { listing = 0; rewrites = 0; image = n })) before after
   leaves_whole n after h k a =
       let e = fitted_whole h in
       record {
-        answer = ap (λ m. Done (record { listing = 0; rewrites = 0; image = m })) k ∙ sym (ap answer_as e);
+        answer = ap (λ m. Ok (record { listing = 0; rewrites = 0; image = m })) k ∙ sym (ap answer_as e);
         room = a ∙ sym (ap (λ y. room_as y before) e);
       }
 
 -- a refusal that was given before
-pub leaves_refused : (x : Judged (List ℕ)) (q : Refusal) (count : ℕ) (before : List ℕ) → x ≡ no q → Leaves (fitted count (length before) x) (Refused q) before before
+pub leaves_refused : (x : Judged (List ℕ)) (q : Refusal) (count : ℕ) (before : List ℕ) → x ≡ no q → Leaves (fitted count (length before) x) (Err q) before before
 unfolding fitted ◌>>=◌
 leaves_refused x q count before e = rw e (record { answer = refl; room = refl })

@@ -8,7 +8,7 @@ ghost use Rattle.image.specs.Encoding.{encode_slots};
 ghost use Rattle.fitting.specs.Fitting.{Leaves, fitted};
 
 use image::{image_length, write_image};
-use rules::{Answer, Refusal, Sizes};
+use rules::{Refusal, Sizes};
 use slots::State;
 
 // The image of slots that encode, if the room holds it.
@@ -20,7 +20,7 @@ pub fn finish(
     values: &[i64; 1024],
     positions: &[u32; 1025],
     image: &mut [u8],
-) -> Answer
+) -> Result<Sizes, Refusal>
     requires { let d : Tables = tables_of frames.now state.now count
         links.now values.now positions.now in
         Ready d × (is_ok (encode_slots d) ≡ true) }
@@ -30,10 +30,10 @@ pub fn finish(
 {
     let n = image_length(frames, state, count, positions);
     if image.len() < n {
-        return Answer::Refused(Refusal::Room(count));
+        return Err(Refusal::Room(count));
     }
     write_image(frames, state, count, links, values, positions, image);
-    Answer::Done(Sizes {
+    Ok(Sizes {
         listing: 0,
         rewrites: 0,
         image: n,

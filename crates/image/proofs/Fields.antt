@@ -7,15 +7,15 @@ use native.Mathlib.Omega.{arith}
 use lib.ListN.{length, get_or, set, take, drop, drop_of_length-le, length-take}
 use lib.Seq.{drop-cons, take-suc-set, append_snoc, get_or-take}
 use lib.IntN.{ℤ}
+use Rattle.rules.specs.declared.Unvalued.{Unvalued}
+use Rattle.std.specs.Prelude.{Err, Ok, Result}
 use Rattle.laws.specs.Bits.{byte_of}
 use Rattle.laws.proofs.Tests.{clash, lt_or_le}
 use Rattle.laws.proofs.Stores.{get_out}
 use Rattle.rules.specs.declared.Kind.{Kind}
 use Rattle.rules.specs.declared.Kind.TheVariants.{Reg}
-use Rattle.rules.specs.declared.Outcome.TheVariants.{Is, Unknown, Nothing}
 use Rattle.rules.specs.declared.Refusal.{Refusal}
-use Rattle.rules.specs.declared.Refusal.TheVariants.{NoName, NoValue}
-use Rattle.rules.specs.Answers.{at_place, Judged, ok, no, ◌>>=◌}
+use Rattle.rules.specs.Answers.{Judged, ok, no, ◌>>=◌}
 use Rattle.rules.specs.Forms.{operands_at, size_at}
 use Rattle.rules.specs.Patterns.{rows_of, bytes_at}
 use Rattle.rules.specs.Instructions.{code_of}
@@ -23,19 +23,17 @@ use Rattle.rules.specs.Programs.{Operand, register, Stmt, instr, args_of, Progra
 use Rattle.rules.specs.Names.{Entry}
 use Rattle.rules.specs.Encoding.{field}
 use Rattle.rules.specs.Judging.{value_at, worth_of, fields, encode}
-use Rattle.encoding.specs.declared.operands.Field.{Field}
-use Rattle.encoding.specs.declared.operands.Field.TheVariants.{Is as Field-as-Is, Refused as Field-as-Refused}
 use Rattle.encoding.specs.Operands.{field_as}
 use Rattle.encoding.specs.Encode.{code_at}
 use Rattle.image.specs.Encoding.{field_of, code_from}
 use Rattle.image.proofs.Answers.{bind_ok, bind_no, bind_ext}
 
 -- what a field of the code tells
-pub field_ok : (x : Judged ℕ) {o : Field} {v : ℕ} → o ≡ field_as x → o ≡ Field-as-Is v → x ≡ ok v
+pub field_ok : (x : Judged ℕ) {o : Result ℕ Refusal} {v : ℕ} → o ≡ field_as x → o ≡ Ok v → x ≡ ok v
 field_ok (ok n) e q = cc
 field_ok (no r) e q = clash (cc)
 
-pub field_no : (x : Judged ℕ) {o : Field} {r : Refusal} → o ≡ field_as x → o ≡ Field-as-Refused r → x ≡ no r
+pub field_no : (x : Judged ℕ) {o : Result ℕ Refusal} {r : Refusal} → o ≡ field_as x → o ≡ Err r → x ≡ no r
 field_no (ok n) e q = clash (cc)
 field_no (no r) e q = cc
 
@@ -43,17 +41,14 @@ module _ (names : List Entry) (p : Program) (i k n : ℕ) where
   -- ---- one field: its value, or 4 or 7
 
   module _ (j : ℕ) (d : Kind) (x : Operand) where
-    pub field_value : (v : ℤ) → worth_of names p k x ≡ Is v → field_of names p i k n j d x ≡ field i j n d v
+    pub field_value : (v : ℤ) → worth_of names p k x ≡ Ok v → field_of names p i k n j d x ≡ field i j n d v
     unfolding field_of ◌>>=◌
     field_value v e = rw e
 
-    pub field_unknown : worth_of names p k x ≡ Unknown → field_of names p i k n j d x ≡ no (NoName (at_place i))
+    pub field_unvalued : {why : Unvalued} {r : Refusal} → worth_of names p k x ≡ Err why → value_at i (Err why) ≡ no r
+        → field_of names p i k n j d x ≡ no r
     unfolding field_of ◌>>=◌
-    field_unknown e = rw e
-
-    pub field_nothing : worth_of names p k x ≡ Nothing → field_of names p i k n j d x ≡ no (NoValue (at_place i))
-    unfolding field_of ◌>>=◌
-    field_nothing e = rw e
+    field_unvalued e q = rw (e, q)
 
   -- ---- a field and the rest
 

@@ -5,6 +5,7 @@ use mathlib.Core.Bool.{true}
 use Prim.Native.Nat.{ℕ, zero, suc, ◌+◌, ◌-◌, ◌*◌, ◌≤◌, ◌<◌}
 use native.Mathlib.Omega.{arith}
 use lib.ListN.{length, get_or, replicate, length-append, length-map, length-replicate}
+use Rattle.std.specs.Prelude.{Result, Err, Ok}
 use Rattle.laws.proofs.Tests.{clash, false_true}
 use Rattle.rules.specs.declared.Code.{Code}
 use Rattle.rules.specs.declared.Refusal.{Refusal}
@@ -23,8 +24,6 @@ use Rattle.instruction.proofs.Numbers.{size_bound}
 use Rattle.encoding.specs.Encode.{bytes_of_code}
 use Rattle.slots.specs.Slots.{slot_at}
 use Rattle.slots.proofs.Slots.{size_instr}
-use Rattle.image.specs.declared.Encoded.{Encoded}
-use Rattle.image.specs.declared.Encoded.TheVariants.{Is, Refused}
 use Rattle.image.specs.Tables.{Tables, program, Ready}
 use Rattle.image.specs.Encoding.{encode_at, encoded_as, code_from, item_of, encode_slots}
 use Rattle.image.specs.Image.{image_of, put, size_of}
@@ -287,9 +286,9 @@ held_by (x ∷ y ∷ []) l = (refl, refl)
 held_by (x ∷ y ∷ z ∷ []) l = (refl, refl)
 held_by (x ∷ y ∷ z ∷ w ∷ b) l = absurd (omega arith)
 
-pub coded : (x : Judged (List ℕ)) → ((b : List ℕ) → x ≡ ok b → length b ≤ 3) → {o : Encoded} {code : Code} → o ≡ encoded_as x → o ≡ Is code → Coded x code
+pub coded : (x : Judged (List ℕ)) → ((b : List ℕ) → x ≡ ok b → length b ≤ 3) → {o : Result Code Refusal} {code : Code} → o ≡ encoded_as x → o ≡ Ok code → Coded x code
 coded (ok b) short {o} {code} e q =
-    let c : code_from b ≡ code = (let w : Is (code_from b) ≡ Is code = sym e ∙ q in cc) in
+    let c : code_from b ≡ code = (let w : ◌≡◌ {A = Result Code Refusal} (Ok (code_from b)) (Ok code) = sym e ∙ q in cc) in
     let h = held_by b (short b refl) in
     record {
       bytes = b;
@@ -300,7 +299,7 @@ coded (ok b) short {o} {code} e q =
     }
 coded (no r) short e q = clash (cc)
 
-pub refused : (x : Judged (List ℕ)) {o : Encoded} {r : Refusal} → o ≡ encoded_as x → o ≡ Refused r → x ≡ no r
+pub refused : (x : Judged (List ℕ)) {o : Result Code Refusal} {r : Refusal} → o ≡ encoded_as x → o ≡ Err r → x ≡ no r
 refused (ok b) e q = clash (cc)
 refused (no r) e q = cc
 

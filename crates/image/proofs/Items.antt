@@ -7,8 +7,10 @@ use native.Mathlib.Omega.{arith}
 use lib.ListN.{length, get_or, drop, drop_of_length-le}
 use lib.Seq.{drop-cons}
 use lib.IntN.{ℤ, pos}
-use Rattle.rules.specs.declared.Outcome.TheVariants.{Is, Unknown, Nothing}
-use Rattle.rules.specs.declared.Refusal.TheVariants.{NoName, NoValue, Range}
+use Rattle.rules.specs.declared.Refusal.{Refusal}
+use Rattle.std.specs.Prelude.{Err, Result, Ok}
+use Rattle.rules.specs.declared.Unvalued.{Unvalued}
+use Rattle.rules.specs.declared.Refusal.TheVariants.{Range}
 use Rattle.rules.specs.Answers.{at_place, Judged, ok, no, ◌>>=◌, require}
 use Rattle.rules.specs.Expressions.{Expr, num}
 use Rattle.rules.specs.Listing.{read_frame}
@@ -16,7 +18,6 @@ use Rattle.rules.specs.Values.{below, nat}
 use Rattle.rules.specs.Names.{Entry}
 use Rattle.rules.specs.Judging.{value_at, worth, items}
 use Rattle.rules.proofs.Laws.{require_ok}
-use Rattle.encoding.specs.declared.operands.Field.{Field}
 use Rattle.encoding.specs.Operands.{field_as, ranged}
 use Rattle.encoding.proofs.Ranges.{below_lt}
 use Rattle.slots.specs.Slots.{DataIn}
@@ -48,7 +49,7 @@ data_in i s h = on (frame_read i s (read_in i s) (was_read (read_frame i s) h.re
     on (of_pad f) = absurd (omega (arith, f.kind, h.no_pad))
 
 -- a number in its range
-pub ranged_small : (i j bound : ℕ) (v : ℤ) (r : Field) → r ≡ field_as (ranged i j bound v) → SmallField bound r
+pub ranged_small : (i j bound : ℕ) (v : ℤ) (r : Result ℕ Refusal) → r ≡ field_as (ranged i j bound v) → SmallField bound r
 unfolding ranged
 ranged_small i j bound v r e = rw e (on (ranged i j bound v) refl)
   where
@@ -63,17 +64,14 @@ module _ (names : List Entry) (bound i k : ℕ) where
   -- ---- one item: its value, or 4 or 7
 
   module _ (j : ℕ) (e : Expr) where
-    pub item_value : (v : ℤ) → worth names k e ≡ Is v → item_of names bound i k j e ≡ ranged i j bound v
+    pub item_value : (v : ℤ) → worth names k e ≡ Ok v → item_of names bound i k j e ≡ ranged i j bound v
     unfolding item_of ◌>>=◌
     item_value v h = rw h
 
-    pub item_unknown : worth names k e ≡ Unknown → item_of names bound i k j e ≡ no (NoName (at_place i))
+    pub item_unvalued : {why : Unvalued} {r : Refusal} → worth names k e ≡ Err why → value_at i (Err why) ≡ no r
+        → item_of names bound i k j e ≡ no r
     unfolding item_of ◌>>=◌
-    item_unknown h = rw h
-
-    pub item_nothing : worth names k e ≡ Nothing → item_of names bound i k j e ≡ no (NoValue (at_place i))
-    unfolding item_of ◌>>=◌
-    item_nothing h = rw h
+    item_unvalued h q = rw (h, q)
 
   -- ---- an item and the rest
 

@@ -7,16 +7,13 @@ use native.Mathlib.Omega.{arith}
 use lib.Dec.{eqb}
 use lib.ListN.{length, drop, get_or, length-map}
 use borrow.Author.Tests.{eqb-true, eq-eqb, lt-ltb, le-ltb}
+use Rattle.std.specs.Prelude.{None, Option, Some}
 use Rattle.laws.proofs.Tests.{clash, true_false, false_true, and_true, cond_true}
 use Rattle.rules.specs.declared.Kind.{Kind}
 use Rattle.rules.specs.declared.Kind.TheVariants.{Reg, I8, D9, Bit, Rel8, A12, A16, Rel16}
 use Rattle.rules.specs.Forms.{operands_at, is_transfer}
 use Rattle.rules.specs.Programs.{Operand, register, value, inner, instr, args_of, last_of, on_last, kind_of}
 use Rattle.rules.specs.Statements.{arg_at, argument_at, expr_at, operand_at}
-use Rattle.instruction.specs.declared.tables.Target.{Target}
-use Rattle.instruction.specs.declared.tables.Target.TheVariants.{Arg, Nothing as NoTarget}
-use Rattle.instruction.specs.declared.tables.Operand.{Operand as Found}
-use Rattle.instruction.specs.declared.tables.Operand.TheVariants.{Is, Nothing as NoKind}
 use Rattle.instruction.specs.Tables.{target_at, operand_in as kind_in}
 use Rattle.instruction.proofs.Rows.{has_target}
 use Rattle.listing.specs.Tables.{frame_at, input_at, Held}
@@ -99,17 +96,17 @@ length_changed g (x ∷ []) = refl
 length_changed g (x ∷ y ∷ xs) = ap suc (length_changed g (y ∷ xs))
 
 -- which argument is the target, as the code finds it
-pub target_arg : (f k j : ℕ) {o : Target} → o ≡ target_at f → o ≡ Arg k → eqb k j ≡ is_target f j
+pub target_arg : (f k j : ℕ) {o : Option ℕ} → o ≡ target_at f → o ≡ Some k → eqb k j ≡ is_target f j
 target_arg f k j {o} e q = on (is_transfer f) (sym e ∙ q)
   where
-    on : (b : Bool) → cond b (Arg (length (operands_at f) - 1)) NoTarget ≡ Arg k → eqb k j ≡ b && eqb (length (operands_at f) - 1) j
+    on : (b : Bool) → cond b (Some (length (operands_at f) - 1)) None ≡ Some k → eqb k j ≡ b && eqb (length (operands_at f) - 1) j
     on true p = let n : length (operands_at f) - 1 ≡ k = cc in ap (λ m. eqb m j) (sym n)
     on false p = clash (cc)
 
-pub target_none : (f j : ℕ) {o : Target} → o ≡ target_at f → o ≡ NoTarget → false ≡ is_target f j
+pub target_none : (f j : ℕ) {o : Option ℕ} → o ≡ target_at f → o ≡ None → false ≡ is_target f j
 target_none f j {o} e q = on (is_transfer f) (sym e ∙ q)
   where
-    on : (b : Bool) → cond b (Arg (length (operands_at f) - 1)) NoTarget ≡ NoTarget → false ≡ b && eqb (length (operands_at f) - 1) j
+    on : (b : Bool) → cond b (Some (length (operands_at f) - 1)) None ≡ None → false ≡ b && eqb (length (operands_at f) - 1) j
     on true p = clash (cc)
     on false p = refl
 
@@ -203,12 +200,12 @@ module _ (t : Slots) (h : Held t.frames t.starts t.count) (i : ℕ) (l : i < t.c
 -- ---- of a form
 
 -- operand j's kind, as the code finds it
-pub kind_found : (ks : List Kind) (j : ℕ) → j < length ks → {o : Found} {k : Kind} → o ≡ kind_in ks j → o ≡ Is k → k ≡ get_or ks j Reg
+pub kind_found : (ks : List Kind) (j : ℕ) → j < length ks → {o : Option Kind} {k : Kind} → o ≡ kind_in ks j → o ≡ Some k → k ≡ get_or ks j Reg
 kind_found [] j l e q = absurd (omega arith)
 kind_found (d ∷ ks) zero l e q = cc
 kind_found (d ∷ ks) (suc j) l e q = kind_found ks j (omega arith) e q
 
-pub kind_there {ℓ} : {X : Type ℓ} (ks : List Kind) (j : ℕ) → j < length ks → {o : Found} → o ≡ kind_in ks j → o ≡ NoKind → X
+pub kind_there {ℓ} : {X : Type ℓ} (ks : List Kind) (j : ℕ) → j < length ks → {o : Option Kind} → o ≡ kind_in ks j → o ≡ None → X
 kind_there [] j l e q = absurd (omega arith)
 kind_there (d ∷ ks) zero l e q = clash (cc)
 kind_there (d ∷ ks) (suc j) l e q = kind_there ks j (omega arith) e q

@@ -9,6 +9,8 @@ use lib.Dec.{eqb}
 use lib.ListN.{drop, replicate}
 use denote.Enum.Declared.{tag_of}
 use types.Run.{OneOf}
+use Rattle.std.specs.Prelude.{Err, Ok}
+use Rattle.std.specs.Result as result
 use Rattle.rules.specs.contracts.Statement.{the_type}
 use Rattle.laws.proofs.Tests.{clash, true_false, false_true}
 use Rattle.rules.specs.declared.Refusal.{Refusal}
@@ -22,7 +24,6 @@ use Rattle.rules.proofs.Laws.{then_ok}
 use Rattle.slots.specs.Slots.{slot_at}
 use Rattle.slots.specs.Meaning.{kind_for}
 use Rattle.slots.proofs.Stands.{tag_kind}
-use Rattle.slots.specs.declared.Checked.TheVariants.{Passes, Refused}
 use Rattle.image.specs.Tables.{Tables, program}
 use Rattle.image.specs.Encoding.{encode_at, encoded_as, checked_as, check_of, encode_slots}
 use Rattle.image.proofs.Answers.{bind_ok, bind_no}
@@ -31,11 +32,11 @@ use Rattle.image.proofs.Worths.{count_program, at_program}
 
 -- ---- answers without what they hold
 
-pub passes_ok : {A : Type 0} (x : Judged A) → checked_as x ≡ Passes → (a : A) × (x ≡ ok a)
+pub passes_ok : {A : Type 0} (x : Judged A) → checked_as x ≡ Ok tt → (a : A) × (x ≡ ok a)
 passes_ok (ok a) e = (a, refl)
 passes_ok (no r) e = clash (cc)
 
-pub refused_no : {A : Type 0} (x : Judged A) (r : Refusal) → checked_as x ≡ Refused r → x ≡ no r
+pub refused_no : {A : Type 0} (x : Judged A) (r : Refusal) → checked_as x ≡ Err r → x ≡ no r
 refused_no (ok a) r e = clash (cc)
 refused_no (no q) r e = cc
 
@@ -48,15 +49,20 @@ pub checked_code : (x : Judged (List ℕ)) → check_of (encoded_as x) ≡ check
 checked_code (ok b) = refl
 checked_code (no r) = refl
 
-pub passes_is : {A : Type 0} (x : Judged A) → Passes ≡ checked_as x → true ≡ is_ok x
+pub passes_is : {A : Type 0} (x : Judged A) → (Ok tt) ≡ checked_as x → true ≡ is_ok x
 unfolding is_ok
 passes_is (ok a) e = refl
 passes_is (no r) e = clash (cc)
 
-pub refused_is : {A : Type 0} (x : Judged A) (r : Refusal) → Refused r ≡ checked_as x → false ≡ is_ok x
+pub refused_is : {A : Type 0} (x : Judged A) (r : Refusal) → Err r ≡ checked_as x → false ≡ is_ok x
 unfolding is_ok
 refused_is (ok a) r e = clash (cc)
 refused_is (no q) r e = refl
+
+pub ok_checked : {A : Type 0} (x : Judged A) → result.is_ok (checked_as x) ≡ is_ok x
+unfolding is_ok
+ok_checked (ok a) = refl
+ok_checked (no r) = refl
 
 pub ok_same : {A : Type 0} {a b : A} → ok a ≡ ok b → a ≡ b
 ok_same e = cc
@@ -115,13 +121,13 @@ module _ (d : Tables) where
   from_end i l = ap (encode_all d.entries (program d)) (placed_end (program d) i (omega (arith, count_program d.slots)))
 
   -- a slot that passes, and one that is refused
-  pub slot_passes : (i : ℕ) → i < d.slots.count → checked_as (encode_at d i) ≡ Passes → checked_as (from_slot i) ≡ checked_as (from_slot (suc i))
+  pub slot_passes : (i : ℕ) → i < d.slots.count → checked_as (encode_at d i) ≡ Ok tt → checked_as (from_slot i) ≡ checked_as (from_slot (suc i))
   slot_passes i l e =
       let b = passes_ok (encode_at d i) e in
       ap checked_as (from_more i l ∙ bind_ok (encode_at d i) _ b.0 b.1)
       ∙ checked_then (from_slot (suc i)) (λ rest. lay (position (program d) i) (slot_at d.slots i) b.0 rest)
 
-  pub slot_refused : (i : ℕ) → i < d.slots.count → (r : Refusal) → checked_as (encode_at d i) ≡ Refused r → checked_as (from_slot i) ≡ Refused r
+  pub slot_refused : (i : ℕ) → i < d.slots.count → (r : Refusal) → checked_as (encode_at d i) ≡ Err r → checked_as (from_slot i) ≡ Err r
   slot_refused i l r e = ap checked_as (from_more i l ∙ bind_no (encode_at d i) _ r (refused_no (encode_at d i) r e))
 
   -- ---- a pass that went well

@@ -1,5 +1,6 @@
 -- What an operand of a slot is worth by the table of positions is what it is worth in the program: an inner label's owner is one of its
 -- statements. A register's number is small, so that its field holds it as it is.
+use Rattle.rules.specs.declared.Unvalued.{Unvalued}
 use mathlib.Core.Path.{◌≡◌, refl, sym, ap, ◌∙◌}
 use mathlib.Core.List.{List, [], ◌∷◌}
 use mathlib.Core.Bool.{Bool, true, false}
@@ -10,12 +11,12 @@ use lib.Dec.{eqb}
 use lib.ListN.{length, get_or}
 use lib.IntN.{ℤ, pos}
 use borrow.Author.Tests.{eqb-true, lt-ltb}
+use Rattle.std.specs.Prelude.{Ok, Result}
 use Rattle.laws.proofs.Tests.{true_false, false_true, and_true, lt_or_le}
 use Rattle.laws.proofs.Lists.{get_or_map_in}
 use Rattle.laws.proofs.Counts.{length_tab, get_or_tab}
 use Rattle.rules.specs.declared.Kind.{Kind}
 use Rattle.rules.specs.declared.Kind.TheVariants.{Reg, I8, D9, Bit, Rel8, A12, A16, Rel16}
-use Rattle.rules.specs.declared.Outcome.TheVariants.{Is}
 use Rattle.rules.specs.Forms.{operands_at, size_at, is_address, ends_in_address, is_transfer}
 use Rattle.rules.specs.Programs.{Operand, register, value, inner, gone, Program, at, kind_of}
 use Rattle.rules.specs.Layout.{after, position}
@@ -42,7 +43,7 @@ pub worth_same : (names : List Entry) (positions : List ℕ) (p : Program) (n k 
     → (x : Operand) → Inside n x → worth_in names positions k x ≡ worth_of names p k x
 worth_same names positions p n k h (register r) l = refl
 worth_same names positions p n k h (value e) l = refl
-worth_same names positions p n k h (inner i o) l = ap (λ q. Is (pos (q + o))) (h i l)
+worth_same names positions p n k h (inner i o) l = ap (λ q. Ok (pos (q + o))) (h i l)
 
 read_inside : (n : ℕ) (s : List ℕ) (k : Kind) (a : ℕ) → Inside n (operand_at s k (arg_at a))
 read_inside n s Reg a = tt
@@ -126,19 +127,19 @@ module _ (t : Slots) (h : Sound t) (i : ℕ) (l : i < t.count) (e : kind_of (slo
       ∙ q
 
   register_held : (names : List Entry) (positions : List ℕ) (k : ℕ) (z : ℤ) → is_reg (get_or (operands_at form) j Reg) ≡ true
-      → worth_in names positions k (operand_is t i j) ≡ Is z → held Reg z ≡ z
+      → worth_in names positions k (operand_is t i j) ≡ Ok z → held Reg z ≡ z
   register_held names positions k z q w =
       let s = slot_in t h.held i l e in
       let r = same_register q in
       let n = get_or frame (begin frame j) 0 in
-      let is : Is (pos n) ≡ Is z =
+      let is : ◌≡◌ {A = Result ℤ Unvalued} (Ok (pos n)) (Ok z) =
       sym (ap (worth_in names positions k) (operand_own t h.held i l e agree j (no_target q) ∙ own_register i frame s j within r)) ∙ w in
       let y : pos n ≡ z = cc in
       rw (← y) (rw (lt-ltb n 65536 (omega (arith, own_small i frame s j within r))))
 
   -- the field of any operand holds its value as it is
   pub value_held : (names : List Entry) (positions : List ℕ) (k : ℕ) (z : ℤ) (d : Kind) → d ≡ get_or (operands_at form) j Reg
-      → worth_in names positions k (operand_is t i j) ≡ Is z → held d z ≡ z
+      → worth_in names positions k (operand_is t i j) ≡ Ok z → held d z ≡ z
   value_held names positions k z Reg q w = register_held names positions k z (ap is_reg (sym q)) w
   value_held names positions k z I8 q w = refl
   value_held names positions k z D9 q w = refl

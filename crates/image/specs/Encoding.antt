@@ -1,5 +1,6 @@
 -- The encoding of one slot, and what the code answers of it.
-use Rattle.std.specs.Prelude.{List, [], ◌∷◌, ℕ, ◌<◌}
+use Rattle.rules.specs.declared.Refusal.{Refusal}
+use Rattle.std.specs.Prelude.{List, [], ◌∷◌, ℕ, ◌<◌, Err, Ok, Result}
 use Rattle.rules.specs.declared.Code.{Code}
 use Rattle.rules.specs.declared.Kind.{Kind}
 use Rattle.rules.specs.Answers.{Judged, ok, no, ◌>>=◌, judged_or}
@@ -10,16 +11,10 @@ use Rattle.rules.specs.Layout.{position}
 use Rattle.rules.specs.Names.{Entry, context_at, placed}
 use Rattle.rules.specs.Encoding.{field, byte, word}
 use Rattle.rules.specs.Judging.{value_at, worth, worth_of, encode, encode_all}
-use Rattle.encoding.specs.declared.operands.Field.{Field}
-use Rattle.encoding.specs.declared.operands.Field.TheVariants.{Is as Field-as-Is, Refused as Field-as-Refused}
 use Rattle.encoding.specs.Operands.{ranged}
 use Rattle.slots.specs.Slots.{slot_at}
-use Rattle.image.specs.declared.Encoded.{Encoded}
-use Rattle.image.specs.declared.Encoded.TheVariants.{Is, Refused}
 use Rattle.image.specs.declared.data.Data.{Data}
 use Rattle.image.specs.declared.data.Data.TheVariants.{Bytes, Words}
-use Rattle.slots.specs.declared.Checked.{Checked}
-use Rattle.slots.specs.declared.Checked.TheVariants.{Passes, Refused as Checked-as-Refused}
 use Rattle.image.specs.Tables.{Tables, program}
 
 -- an argument's value, and then its range: what the instruction at place i, in context k, that ends at n writes for argument j
@@ -40,9 +35,9 @@ code_from (x ∷ y ∷ []) = record { len = 2; b0 = x; b1 = y; b2 = 0 }
 code_from (x ∷ y ∷ z ∷ zs) = record { len = 3; b0 = x; b1 = y; b2 = z }
 
 -- an instruction's bytes, or the refusal
-abbrev pub encoded_as : Judged (List ℕ) → Encoded
-encoded_as (ok bs) = Is (code_from bs)
-encoded_as (no r) = Refused r
+abbrev pub encoded_as : Judged (List ℕ) → Result Code Refusal
+encoded_as (ok bs) = Ok (code_from bs)
+encoded_as (no r) = Err r
 
 -- ---- data
 
@@ -77,19 +72,19 @@ item_of names bound i k j e = do
   ranged i j bound v
 
 -- what is written for an item is below its bound
-abbrev pub SmallField : (bound : ℕ) → Field → Type 0
-SmallField bound (Field-as-Is v) = v < bound
-SmallField bound (Field-as-Refused r) = Unit
+abbrev pub SmallField : (bound : ℕ) → Result ℕ Refusal → Type 0
+SmallField bound (Ok v) = v < bound
+SmallField bound (Err r) = Unit
 
 -- ---- what only passes or is refused
 
-abbrev pub checked_as : {A : Type 0} → Judged A → Checked
-checked_as (ok a) = Passes
-checked_as (no r) = Checked-as-Refused r
+abbrev pub checked_as : {A : Type 0} → Judged A → Result (Unit {0}) Refusal
+checked_as (ok a) = Ok tt
+checked_as (no r) = Err r
 
-abbrev pub check_of : Encoded → Checked
-check_of (Is code) = Passes
-check_of (Refused r) = Checked-as-Refused r
+abbrev pub check_of : Result Code Refusal → Result (Unit {0}) Refusal
+check_of (Ok code) = Ok tt
+check_of (Err r) = Err r
 
 -- the encoding of all slots, in order
 unfoldable pub encode_slots : Tables → Judged (List ℕ)

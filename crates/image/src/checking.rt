@@ -2,23 +2,12 @@
 ghost use Rattle.std.specs.Prelude.{◌≡◌, ◌<◌};
 ghost use Rattle.rules.specs.Answers.{is_ok};
 ghost use Rattle.image.specs.Tables.{Tables, tables_of, Ready};
-ghost use Rattle.image.specs.Encoding.{encode_at, encode_slots, checked_as, check_of};
+ghost use Rattle.image.specs.Encoding.{encode_at, encode_slots, checked_as};
 
-use crate::Encoded;
 use crate::codes::encode_at;
 use crate::data::{Data, check_items};
-use rules::{Place, Statement};
-use slots::{Checked, Slot, State, frame_at, links_at, slot_at};
-
-// An instruction's answer without its bytes.
-fn check_code(e: Encoded) -> Checked
-    ensures { result ≡ check_of e }
-{
-    match e {
-        Encoded::Is(_) => Checked::Passes,
-        Encoded::Refused(r) => Checked::Refused(r),
-    }
-}
+use rules::{Place, Refusal, Statement};
+use slots::{Slot, State, frame_at, links_at, slot_at};
 
 // Whether the statement in a slot encodes: an instruction by its operands, data by their items, any other always.
 fn check_at(
@@ -29,7 +18,7 @@ fn check_at(
     values: &[i64; 1024],
     positions: &[u32; 1025],
     at: Place,
-) -> Checked
+) -> Result<(), Refusal>
     requires { let d : Tables = tables_of frames.now state.now count
         links.now values.now positions.now in
         Ready d × (at.0 < count) }
@@ -38,8 +27,8 @@ fn check_at(
         result ≡ checked_as (encode_at d at.0) }
 {
     match slot_at(frames, state, count, at) {
-        Slot::Gone => Checked::Passes,
-        Slot::Form(_) => check_code(encode_at(frames, state, count, links, values, positions, at)),
+        Slot::Gone => Ok(()),
+        Slot::Form(_) => encode_at(frames, state, count, links, values, positions, at).map(|_| ()),
         Slot::Holds(statement) => {
             let frame = frame_at(frames, state, count, at);
             let beside = links_at(links, state, at);
@@ -55,7 +44,7 @@ fn check_at(
                 | Statement::Variable(_, _)
                 | Statement::Comment(_)
                 | Statement::Org(_)
-                | Statement::Pad(_, _) => Checked::Passes,
+                | Statement::Pad(_, _) => Ok(()),
             }
         }
     }
@@ -78,10 +67,7 @@ pub fn encodes_at(
         positions.now in
         result ≡ is_ok (encode_at d at.0) }
 {
-    matches!(
-        check_at(frames, state, count, links, values, positions, at),
-        Checked::Passes
-    )
+    check_at(frames, state, count, links, values, positions, at).is_ok()
 }
 
 // All statements in order: 4 and 7 to 11, the first refusal.
@@ -92,7 +78,7 @@ pub fn encode_all(
     links: &[u16; 28672],
     values: &[i64; 1024],
     positions: &[u32; 1025],
-) -> Checked
+) -> Result<(), Refusal>
     requires { let d : Tables = tables_of frames.now state.now count
         links.now values.now positions.now in
         Ready d }
@@ -101,12 +87,7 @@ pub fn encode_all(
         result ≡ checked_as (encode_slots d) }
 {
     for i in 0..count {
-        match check_at(frames, state, count, links, values, positions, Place(i)) {
-            Checked::Passes => {}
-            Checked::Refused(r) => {
-                return Checked::Refused(r);
-            }
-        }
+        check_at(frames, state, count, links, values, positions, Place(i))?;
     }
-    Checked::Passes
+    Ok(())
 }

@@ -10,12 +10,11 @@ ghost use Rattle.image.specs.Tables.{Tables, tables_of, program, operand_at, Rea
 ghost use Rattle.image.specs.Encoding.{field_of, encode_at, encoded_as};
 ghost use Rattle.slots.specs.State.{forms_in};
 
-use crate::Encoded;
-use crate::worth::argument_worth;
+use crate::worth::{argument_worth, unvalued};
 use encoding::encode::encode;
-use encoding::operands::{Field, field_of};
-use instruction::tables::{Operand, operand_count, operand_kind, size};
-use rules::{Address, Outcome, Place, Refusal};
+use encoding::operands::field_of;
+use instruction::tables::{operand_count, operand_kind, size};
+use rules::{Address, Code, Place, Refusal};
 use slots::{State, form_in, instr_at};
 
 // The address after an instruction.
@@ -37,7 +36,7 @@ fn field_at(
     at: Place,
     j: usize,
     n: Address,
-) -> Field
+) -> Result<u16, Refusal>
     requires fact { let d : Tables = tables_of frames.now state.now count
         links.now values.now positions.now in
         Ready d × (at.0 < count) × (kind_of (slot_at d.slots at.0) ≡ 1) }
@@ -47,16 +46,13 @@ fn field_at(
         result ≡ field_as (field_of d.entries (program d) at.0 (context_at (program d) at.0) n.0 j
         (get_or (operands_at (get_or (forms_in state.now) at.0 0)) j Reg) (operand_at d.slots at.0 j)) }
 {
-    match operand_kind(form_in(state, at), j) {
-        Operand::Is(kind) => match argument_worth(
-            frames, state, count, links, values, positions, at, j,
-        ) {
-            Outcome::Is(v) => field_of(at, j, n, kind, v),
-            Outcome::Unknown => Field::Refused(Refusal::NoName(at)),
-            Outcome::Nothing => Field::Refused(Refusal::NoValue(at)),
-        },
-        Operand::Nothing => Field::Is(0), // no argument j: never met
-    }
+    let Some(kind) = operand_kind(form_in(state, at), j) else {
+        return Ok(0); // no argument j: never met
+    };
+    let v = argument_worth(frames, state, count, links, values, positions, at, j).map_err(
+        |why| unvalued(at, why),
+    )?;
+    field_of(at, j, n, kind, v)
 }
 
 // The bytes of the instruction in a slot, or its first refusal.
@@ -68,7 +64,7 @@ pub fn encode_at(
     values: &[i64; 1024],
     positions: &[u32; 1025],
     at: Place,
-) -> Encoded
+) -> Result<Code, Refusal>
     requires { let d : Tables = tables_of frames.now state.now count
         links.now values.now positions.now in
         Ready d × (at.0 < count) × (kind_of (slot_at d.slots at.0) ≡ 1) }
@@ -81,14 +77,7 @@ pub fn encode_at(
     let n = after(positions[i], size(form));
     let mut fields: [u16; 3] = [0; 3];
     for j in 0..operand_count(form) {
-        match field_at(frames, state, count, links, values, positions, at, j, n) {
-            Field::Is(v) => {
-                fields[j] = v;
-            }
-            Field::Refused(r) => {
-                return Encoded::Refused(r);
-            }
-        }
+        fields[j] = field_at(frames, state, count, links, values, positions, at, j, n)?;
     }
-    Encoded::Is(encode(instr_at(state, at), fields[0], fields[1], fields[2]))
+    Ok(encode(instr_at(state, at), fields[0], fields[1], fields[2]))
 }

@@ -8,10 +8,11 @@ ghost use Rattle.encoding.specs.Operands.{field_as, ranged};
 ghost use Rattle.slots.specs.Slots.{DataIn};
 ghost use Rattle.image.specs.Encoding.{items_in, bound_of, item_of, SmallField, checked_as};
 
-use encoding::operands::{Field, byte_item, word_item};
+use crate::worth::unvalued;
+use encoding::operands::{byte_item, word_item};
 use expression::linked_worth;
-use rules::{Outcome, Place, Refusal};
-use slots::{Checked, item_in};
+use rules::{Place, Refusal};
+use slots::item_in;
 
 // What the items of data are.
 #[derive(Clone, Copy)]
@@ -21,7 +22,7 @@ pub enum Data {
 }
 
 // The range of an item of data.
-fn item_range(what: Data, at: Place, j: usize, v: i32) -> Field
+fn item_range(what: Data, at: Place, j: usize, v: i32) -> Result<u16, Refusal>
     ensures { result ≡ field_as (ranged at.0 j (bound_of what) v) }
 {
     match what {
@@ -39,7 +40,7 @@ pub fn item_field(
     links: &[u16],
     values: &[i64; 1024],
     count: usize,
-) -> Field
+) -> Result<u16, Refusal>
     requires { DataIn at.0 frame.now × (j < get_or frame.now 1 0) × (count ≤ 1024) × (length links.now ≡ length frame.now) }
     ensures small { SmallField (bound_of what) result }
     ensures value { (names : List Entry) (k : ℕ)
@@ -48,11 +49,8 @@ pub fn item_field(
         (get_or (items_in at.0 frame.now) j (num (pos 0)))) }
 {
     let a = item_in(frame, j);
-    match linked_worth(&frame[a..], &links[a..], values, count) {
-        Outcome::Is(v) => item_range(what, at, j, v),
-        Outcome::Unknown => Field::Refused(Refusal::NoName(at)),
-        Outcome::Nothing => Field::Refused(Refusal::NoValue(at)),
-    }
+    let v = linked_worth(&frame[a..], &links[a..], values, count).map_err(|why| unvalued(at, why))?;
+    item_range(what, at, j, v)
 }
 
 // The n items of the data in a frame, or their first refusal. How they are written does not matter.
@@ -64,7 +62,7 @@ pub fn check_items(
     links: &[u16],
     values: &[i64; 1024],
     count: usize,
-) -> Checked
+) -> Result<(), Refusal>
     requires { DataIn at.0 frame.now × (n ≡ get_or frame.now 1 0) × (count ≤ 1024) × (length links.now ≡ length frame.now) }
     ensures { (names : List Entry) (k : ℕ)
         → Linked (λ m. lookup names (key_of k m)) frame.now links.now values.now count
@@ -72,12 +70,7 @@ pub fn check_items(
         (items_in at.0 frame.now)) }
 {
     for j in 0..n {
-        match item_field(frame, at, what, j, links, values, count) {
-            Field::Is(_) => {}
-            Field::Refused(r) => {
-                return Checked::Refused(r);
-            }
-        }
+        item_field(frame, at, what, j, links, values, count)?;
     }
-    Checked::Passes
+    Ok(())
 }

@@ -9,13 +9,5 @@ mod writing; // the image
 
 pub use checking::{encode_all, encodes_at};
 pub use codes::encode_at;
-use rules::{Code, Refusal};
 pub use worth::{argument_worth, own_worth, target_worth};
 pub use writing::{image_length, write_image};
-
-// The bytes of an instruction, or why it has none.
-#[derive(Clone, Copy)]
-pub enum Encoded {
-    Is(Code),
-    Refused(Refusal),
-}

@@ -1,6 +1,8 @@
 // What the operands of a slot's instruction are worth: a register, an expression, or an inner label, which is worth its byte's address.
-ghost use Rattle.std.specs.Prelude.{◌≡◌, List, [], ℕ, ◌+◌, ◌<◌, ◌≤◌, pos, length, get_or};
+ghost use Rattle.std.specs.Prelude.{◌≡◌, List, [], ℕ, ◌+◌, ◌<◌, ◌≤◌, pos, length, get_or, Err};
+ghost use Rattle.rules.specs.Answers.{no};
 ghost use Rattle.rules.specs.Forms.{operands_at};
+ghost use Rattle.rules.specs.Judging.{value_at};
 ghost use Rattle.rules.specs.Names.{Entry, key_of, lookup};
 ghost use Rattle.expression.specs.Linked.{Linked};
 ghost use Rattle.listing.specs.Tables.{frame_at, Noted};
@@ -10,19 +12,29 @@ ghost use Rattle.image.specs.Tables.{Tables, tables_of, is_target, operand_in, o
 ghost use Rattle.slots.specs.State.{starts_in, forms_in, owners_in, offsets_in};
 
 use expression::linked_worth;
-use instruction::tables::{Target, control_flow_target, operand_count};
-use rules::{Outcome, Place};
+use instruction::tables::{control_flow_target, operand_count};
+use rules::{Place, Refusal, Unvalued};
 use slots::{
     NO_OWNER, OFFSET, State, argument_at, carry_at, form_in, frame_at, is_register, links_at,
     owner_at,
 };
 
-// An inner label: the byte at an offset from its owner's position.
-fn inner_worth(position: u32, offset: u16) -> Outcome
-    requires { position ≤ 65536 }
-    ensures { result ≡ Outcome.Is (pos (position + offset)) }
+// 4 or 7 at a place: a name that nothing defines, or no value.
+pub fn unvalued(at: Place, why: Unvalued) -> Refusal
+    ensures { value_at at.0 (Err why) ≡ no result }
 {
-    Outcome::Is((position + u32::from(offset)) as i32)
+    match why {
+        Unvalued::Unknown => Refusal::NoName(at),
+        Unvalued::Nothing => Refusal::NoValue(at),
+    }
+}
+
+// An inner label: the byte at an offset from its owner's position.
+fn inner_worth(position: u32, offset: u16) -> i32
+    requires { position ≤ 65536 }
+    ensures { result ≡ pos (position + offset) }
+{
+    (position + u32::from(offset)) as i32
 }
 
 // Argument j of an instruction's own frame, with the links beside it. `at` is the frame's place.
@@ -34,7 +46,7 @@ pub fn own_worth(
     links: &[u16],
     values: &[i64; 1024],
     count: usize,
-) -> Outcome
+) -> Result<i32, Unvalued>
     requires { InstrIn at.0 frame.now × (j < length (operands_at (get_or frame.now 1 0))) × (count ≤ 1024)
         × (length links.now ≡ length frame.now) × (at.0 < count) × Noted (starts_in state.now) at.0 frame.now }
     ensures { (names : List Entry) (k : ℕ)
@@ -43,7 +55,7 @@ pub fn own_worth(
 {
     let a = argument_at(state, at, j);
     if is_register(frame[1], j) {
-        return Outcome::Is(i32::from(frame[a]));
+        return Ok(i32::from(frame[a]));
     }
     linked_worth(&frame[a..], &links[a..], values, count)
 }
@@ -57,7 +69,7 @@ pub fn target_worth(
     values: &[i64; 1024],
     positions: &[u32; 1025],
     c: Place,
-) -> Outcome
+) -> Result<i32, Unvalued>
     requires { Aims (slots frames.now (starts_in state.now) count [] [] (owners_in state.now) (offsets_in state.now))
         positions.now c.0
         × (length links.now ≡ 28672) }
@@ -72,7 +84,7 @@ pub fn target_worth(
     let i = c.0;
     let owner = owner_at(state, c);
     if owner < NO_OWNER {
-        return inner_worth(positions[owner], state[OFFSET][i]);
+        return Ok(inner_worth(positions[owner], state[OFFSET][i]));
     }
     let frame = frame_at(frames, state, count, c);
     let beside = links_at(links, state, c);
@@ -84,10 +96,7 @@ pub fn target_worth(
 fn is_target(form: u8, j: usize) -> bool
     ensures { result ≡ is_target form j }
 {
-    match control_flow_target(form) {
-        Target::Arg(k) => k == j,
-        Target::Nothing => false,
-    }
+    control_flow_target(form) == Some(j)
 }
 
 // Argument j of the instruction in a slot. A transfer's last one is the target that the slot carries.
@@ -100,7 +109,7 @@ pub fn argument_worth(
     positions: &[u32; 1025],
     at: Place,
     j: usize,
-) -> Outcome
+) -> Result<i32, Unvalued>
     requires { let d : Tables = tables_of frames.now state.now count
         links.now values.now positions.now in
         Ready d × (at.0 < count) × (kind_of (slot_at d.slots at.0) ≡ 1) × (j < length

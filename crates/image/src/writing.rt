@@ -12,10 +12,8 @@ ghost use Rattle.image.specs.Encoding.{encode_at, encode_slots, items_in, bound_
 ghost use Rattle.image.specs.Image.{image_of, put, width_of, size_of};
 ghost use Rattle.slots.specs.State.{starts_in, forms_in};
 
-use crate::Encoded;
 use crate::codes::encode_at;
 use crate::data::{Data, item_field};
-use encoding::operands::Field;
 use rules::{Address, Code, Place, Statement};
 use slots::{Slot, State, frame_at, links_at, size_at, slot_at};
 
@@ -60,6 +58,7 @@ fn write_code(image: &mut [u8], q: Address, code: Code)
 {
     let bytes = [code.b0, code.b1, code.b2];
     let n = code.len;
+    // without bytes q may lie behind the room
     if 0 < n {
         image[q.0..q.0 + n].copy_from_slice(&bytes[..n]);
     }
@@ -108,7 +107,7 @@ fn write_items(
 {
     let width = item_width(what);
     for j in 0..n {
-        let Field::Is(v) = item_field(frame, at, what, j, links, values, count) else {
+        let Ok(v) = item_field(frame, at, what, j, links, values, count) else {
             return;
         };
         write_item(image, Address(q.0 + width * j), what, v);
@@ -139,8 +138,7 @@ fn write_at(
     match slot_at(frames, state, count, at) {
         Slot::Gone => {} // no bytes
         Slot::Form(_) => {
-            let Encoded::Is(code) = encode_at(frames, state, count, links, values, positions, at)
-            else {
+            let Ok(code) = encode_at(frames, state, count, links, values, positions, at) else {
                 return;
             };
             write_code(image, q, code);

@@ -8,8 +8,9 @@ use lib.Dec.{ltb}
 use lib.IntN.{pos}
 use lib.ListN.{length, drop, take-append-drop}
 use borrow.Author.Tests.{ltb-true, ltb-false}
+use Rattle.rules.specs.declared.Sizes.{Sizes}
+use Rattle.std.specs.Prelude.{Result}
 use Rattle.laws.proofs.Tests.{clash, both_ways}
-use Rattle.rules.specs.declared.Answer.{Answer}
 use Rattle.rules.specs.declared.Refusal.{Refusal}
 use Rattle.rules.specs.declared.Refusal.TheVariants.{Column}
 use Rattle.rules.specs.Answers.{at_place, Judged, ok, no}
@@ -123,7 +124,7 @@ one_taken {i} {sum} (intake.next {ls = ls} {s = s} {p = p} x t) (intake.next {s 
     both e f = cc
 
 -- of the entry
-pub one_read : (text room : List ℕ) (r s : Answer) (x y : List ℕ) → Leaves text r room x → Leaves text s room y → (r ≡ s) × (x ≡ y)
+pub one_read : (text room : List ℕ) (r s : Result Sizes Refusal) (x y : List ℕ) → Leaves text r room x → Leaves text s room y → (r ≡ s) × (x ≡ y)
 one_read text room r s x y a b =
     let j = in_room (length room) a.judged in
     let e : b.judged ≡ a.judged = one_taken b.takes a.takes in

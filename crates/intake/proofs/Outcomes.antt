@@ -7,7 +7,7 @@ use native.Mathlib.Omega.{arith}
 use lib.Dec.{leb}
 use lib.ListN.{length}
 use borrow.Author.Tests.{le-leb, lt-leb}
-use Rattle.rules.specs.declared.Answer.TheVariants.{Done, Refused}
+use Rattle.std.specs.Prelude.{Err, Ok}
 use Rattle.rules.specs.declared.Refusal.{Refusal}
 use Rattle.rules.specs.declared.Refusal.TheVariants.{Room}
 use Rattle.rules.specs.Answers.{Judged, ok, no}
@@ -17,7 +17,7 @@ use Rattle.intake.specs.Intake.{Takes, listing_of, in_room, Leaves}
 use Rattle.intake.specs.Turns.{Counted, Roomy, Writes}
 
 -- a line is refused
-pub unread : (text room : List ℕ) (r : Refusal) → Takes 0 0 (lines_of text) (no r) → Leaves text (Refused r) room room
+pub unread : (text room : List ℕ) (r : Refusal) → Takes 0 0 (lines_of text) (no r) → Leaves text (Err r) room room
 unread text room r t = record { judged = no r; takes = t; leaves = refused (no r) r room refl }
 
 module _ (text room : List ℕ) (count chars : ℕ) (m : Counted text count chars) where
@@ -31,7 +31,7 @@ module _ (text room : List ℕ) (count chars : ℕ) (m : Counted text count char
   judged_is b e = ap (λ (c : Bool). cond c (ok all) (no (Room (length m.p)))) e
 
   -- 12
-  pub short : length room < chars → Leaves text (Refused (Room count)) room room
+  pub short : length room < chars → Leaves text (Err (Room count)) room room
   short h =
       let e : leb (length all) (length room) ≡ false = lt-leb (length all) (length room) (omega (arith, m.characters)) in
       record {
@@ -45,7 +45,7 @@ module _ (text room : List ℕ) (count chars : ℕ) (m : Counted text count char
   roomy h = (m.p, (m.takes, omega (arith, m.characters)))
 
   pub done : (after : List ℕ) → chars ≤ length room → Writes text room after
-      → Leaves text (Done (record { listing = chars; rewrites = 0; image = 0 })) room after
+      → Leaves text (Ok (record { listing = chars; rewrites = 0; image = 0 })) room after
   done after h w =
       let e : leb (length all) (length room) ≡ true = le-leb (length all) (length room) (omega (arith, m.characters)) in
       record {

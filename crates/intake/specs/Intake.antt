@@ -1,7 +1,7 @@
 -- Document 02, C-19, of a whole text: "Refusals: a line over 1,024 bytes is 2, first; text that isn't a line of this form .. is 15 in
 -- place of 1, with the column ..; then a good line whose expression passes 32 bytes or whose frame passes 120 is 2; then 12."
-use Rattle.std.specs.Prelude.{◌≡◌, List, [], ◌∷◌, true, false, cond, ℕ, suc, ◌+◌, ◌*◌, ◌≤◌, ◌<◌, leb, pos, length}
-use Rattle.rules.specs.declared.Answer.{Answer}
+use Rattle.rules.specs.declared.Sizes.{Sizes}
+use Rattle.std.specs.Prelude.{◌≡◌, List, [], ◌∷◌, true, false, cond, ℕ, suc, ◌+◌, ◌*◌, ◌≤◌, ◌<◌, leb, pos, length, Result}
 use Rattle.rules.specs.declared.Refusal.{Refusal}
 use Rattle.rules.specs.declared.Refusal.TheVariants.{Limit, Room, Column}
 use Rattle.rules.specs.Answers.{at_place, Judged, ok, no}
@@ -46,7 +46,7 @@ in_room room (ok p) = cond (leb (length (listing_of p)) room) (ok (listing_of p)
 in_room room (no r) = no r
 
 -- what the entry answers to a text, and leaves in the room
-pub record Leaves (text : List ℕ) (r : Answer) (before after : List ℕ) : Type 0 where
+pub record Leaves (text : List ℕ) (r : Result Sizes Refusal) (before after : List ℕ) : Type 0 where
   pub judged : Judged Program
   pub takes : Takes 0 0 (lines_of text) judged
   pub leaves : Left (in_room (length before) judged) r before after

@@ -1,15 +1,12 @@
 -- What the code says of one line of a text, and of all lines.
-use Rattle.std.specs.Prelude.{◌≡◌, List, ℕ, suc, ◌≤◌, ◌<◌, length, take}
+use Rattle.rules.specs.declared.Refusal.{Refusal}
+use Rattle.std.specs.Prelude.{◌≡◌, List, ℕ, suc, ◌≤◌, ◌<◌, length, take, Err, Result, Ok}
 use Rattle.rules.specs.Answers.{ok, no}
 use Rattle.rules.specs.Programs.{Placeℕ, Stmt, Program}
 use Rattle.rules.specs.Listing.{lines_of}
 use Rattle.rules.specs.Output.{frame_of}
 use Rattle.listing.specs.Lines.{line_length, first_line}
 use Rattle.digits.specs.Digits.{laid}
-use Rattle.intake.specs.declared.lines.Turn.{Turn}
-use Rattle.intake.specs.declared.lines.Turn.TheVariants.{Frame, Refused}
-use Rattle.intake.specs.declared.walks.Extent.{Extent}
-use Rattle.intake.specs.declared.walks.Extent.TheVariants.{Is, Refused as Unread}
 use Rattle.intake.specs.Intake.{Judges, Takes, listing_of}
 
 -- the text t begins with a line that is read as s: it ends at `end`, and its frame of n bytes stands in the room
@@ -23,9 +20,9 @@ pub record Framed (i : Placeℕ) (sum : ℕ) (t room : List ℕ) (end n : ℕ) :
   pub room_size : length room ≡ 120
   pub frame : take n room ≡ frame_of s
 
-abbrev pub Turned : (i : Placeℕ) (sum : ℕ) (t room : List ℕ) → Turn → Type 0
-Turned i sum t room (Frame end n) = Framed i sum t room end n
-Turned i sum t room (Refused r) = Judges i sum (first_line t) (no r)
+abbrev pub Turned : (i : Placeℕ) (sum : ℕ) (t room : List ℕ) → Result (ℕ × ℕ) Refusal → Type 0
+Turned i sum t room (Ok (end, n)) = Framed i sum t room end n
+Turned i sum t room (Err r) = Judges i sum (first_line t) (no r)
 
 -- a text that is read as p, of so many statements and characters
 pub record Counted (text : List ℕ) (count chars : ℕ) : Type 0 where
@@ -34,9 +31,9 @@ pub record Counted (text : List ℕ) (count chars : ℕ) : Type 0 where
   pub statements : count ≡ length p
   pub characters : chars ≡ length (listing_of p)
 
-abbrev pub Measured : (text : List ℕ) → Extent → Type 0
-Measured text (Is count chars) = Counted text count chars
-Measured text (Unread r) = Takes 0 0 (lines_of text) (no r)
+abbrev pub Measured : (text : List ℕ) → Result (ℕ × ℕ) Refusal → Type 0
+Measured text (Ok (count, chars)) = Counted text count chars
+Measured text (Err r) = Takes 0 0 (lines_of text) (no r)
 
 -- it is read, and its listing fits
 abbrev pub Roomy : (text : List ℕ) (room : ℕ) → Type 0

@@ -6,4 +6,3 @@ mod walks; // all lines: how long the listing will be, and the listing
 mod entry; // 12, and the whole
 
 pub use entry::read_people;
-pub use lines::line_length;

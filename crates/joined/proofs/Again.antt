@@ -6,10 +6,12 @@ use Prim.Native.Nat.{ℕ, ◌*◌, ◌≤◌, ◌<◌}
 use native.Mathlib.Omega.{arith}
 use lib.ListN.{length}
 use borrow.Author.Tests.{le-leb}
+use Rattle.rules.specs.declared.Refusal.{Refusal}
+use Rattle.rules.specs.declared.Sizes.{Sizes}
+use Rattle.std.specs.Prelude.{Result}
 use Rattle.laws.specs.Lists.{total}
 use Rattle.laws.proofs.Tests.{lt_or_le}
 use Rattle.laws.proofs.Stores.{front_take}
-use Rattle.rules.specs.declared.Answer.{Answer}
 use Rattle.rules.specs.declared.Refusal.TheVariants.{Limit}
 use Rattle.rules.specs.Answers.{at_place, Judged, ok, no}
 use Rattle.rules.specs.Programs.{Program}
@@ -29,10 +31,10 @@ use Rattle.joined.proofs.Made.{made, old_listing}
 use Rattle.joined.proofs.Whole.{alone, listing_own, text_read, text_passes}
 
 -- what an entry wrote that answered with a text
-written_back : (x : Judged (List ℕ)) (t : List ℕ) (a : Answer) (room room' : List ℕ) → x ≡ ok t → Left x a room room' → written a room' ≡ t
+written_back : (x : Judged (List ℕ)) (t : List ℕ) (a : Result Sizes Refusal) (room room' : List ℕ) → x ≡ ok t → Left x a room room' → written a room' ≡ t
 written_back x t a room room' e l =
     let r : Left (ok t) a room room' = subst (λ (y : Judged (List ℕ)). Left y a room room') e l in
-    ap (λ (b : Answer). written b room') r.answer ∙ front_take t room room' (length t) r.room refl
+    ap (λ (b : Result Sizes Refusal). written b room') r.answer ∙ front_take t room room' (length t) r.room refl
 
 module _ (listing : List ℕ) (p : Program) (e : read_listing listing ≡ ok p) where
   -- by the definitions: a text of all statements is read, and their listing is written
@@ -53,7 +55,7 @@ module _ (listing : List ℕ) (p : Program) (e : read_listing listing ≡ ok p) 
 
   -- ---- at the entries, for rooms that are never too short
 
-  module _ (text text' out out' : List ℕ) (a b : Answer) (long : 86016 ≤ length text) (r : Ran listing text text' out out' a b) where
+  module _ (text text' out out' : List ℕ) (a b : Result Sizes Refusal) (long : 86016 ≤ length text) (r : Ran listing text text' out out' a b) where
     is_text : written a text' ≡ text_of p
     is_text = written_back (readable listing (length text)) (text_of p) a text text' (not_refused listing p (length text) e long) r.writes
 

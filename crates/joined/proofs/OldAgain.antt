@@ -3,8 +3,10 @@ use mathlib.Core.Path.{◌≡◌, subst}
 use mathlib.Core.List.{List}
 use Prim.Native.Nat.{ℕ, ◌*◌, ◌≤◌}
 use lib.ListN.{length}
+use Rattle.rules.specs.declared.Refusal.{Refusal}
+use Rattle.rules.specs.declared.Sizes.{Sizes}
+use Rattle.std.specs.Prelude.{Result}
 use Rattle.laws.specs.Lists.{total}
-use Rattle.rules.specs.declared.Answer.{Answer}
 use Rattle.rules.specs.Answers.{ok}
 use Rattle.rules.specs.Programs.{Program}
 use Rattle.rules.specs.Listing.{ListingForm, old_form, most_characters, lines_of, form_in, read_listing}
@@ -15,7 +17,7 @@ use Rattle.joined.proofs.Again.{read_again}
 
 -- a listing of the old form keeps the total: it comes back byte for byte, with no condition
 pub old_again : (listing : List ℕ) (p : Program) → read_listing listing ≡ ok p → form_in (lines_of listing) ≡ old_form
-    → (text text' out out' : List ℕ) (a b : Answer) → 86016 ≤ length text → 50176 ≤ length out → Ran listing text text' out out' a b
+    → (text text' out out' : List ℕ) (a b : Result Sizes Refusal) → 86016 ≤ length text → 50176 ≤ length out → Ran listing text text' out out' a b
     → written b out' ≡ listing
 old_again listing p e o text text' out out' a b long wide r =
     let m = (read_limits listing p e).1 in

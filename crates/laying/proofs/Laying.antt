@@ -7,15 +7,15 @@ use native.Mathlib.Numerals.{add-one}
 use native.Mathlib.Omega.{arith}
 use lib.Dec.{leb}
 use lib.ListN.{length, take, drop, set, length-append, length-set, length-drop}
-use lib.Seq.{take-suc-set, drop-drop, length-take-le}
+use lib.Seq.{take-suc-set, length-take-le}
 use borrow.Author.Tests.{le-leb, lt-leb, leb-true, leb-false}
 use borrow.Rule.Slice.PartMut.{put_mid, same_len_mid}
+use Rattle.std.specs.Prelude.{Result, Err, Ok}
 use Rattle.std.proofs.lemmas.Slice.{take-put_mid}
 use Rattle.rules.specs.Expressions.{Expr, bytes_of}
-use Rattle.grammar.specs.Going.{got, stuck, whole, Goes}
-use Rattle.leaves.specs.declared.Found.{Found}
-use Rattle.leaves.specs.declared.Found.TheVariants.{Ends, Stuck}
+use Rattle.grammar.specs.Going.{whole}
 use Rattle.leaves.specs.Answering.{Put, Answered}
+use Rattle.sums.proofs.Readings.{Reached}
 use Rattle.laying.specs.Laying.{long, Stands, Added, Copied, Termed}
 
 pub nothing_stands : (a : List ℕ) → length a ≡ 120 → Stands a 0 [] 0
@@ -129,30 +129,19 @@ copying_all b room y at n e q h k =
 
 -- ---- from the part of a line to the line
 
-pub term_ends : (s : List ℕ) (k : ℕ) (b a : List ℕ) (at : ℕ) (c room : List ℕ) (r : Found) (n end to : ℕ) → k ≤ length s
-    → r ≡ Ends n end → Answered (whole 5) (drop k s) c room 0 r → Copied b a at to room end → Termed s k b a at (Ends (k + n) to)
-term_ends s k b a at c room r n end to h q x w =
-    let y = subst (λ z. Answered (whole 5) (drop k s) c room 0 z) q x in
-    let e : Expr = y.0 in (
-      e,
-      (
-        subst (λ z. Goes (whole 5) (drop k s) (got e z)) (drop-drop n k s) y.1.0,
-        (omega (arith, y.1.1.0, length-drop k s), w.adds e c y.1.1.1),
-      ),
-    )
+pub term_ends : (s : List ℕ) (k : ℕ) (b a : List ℕ) (at : ℕ) (c room : List ℕ) (n end to : ℕ) → Reached (whole 5) k s c room 0 (Ok (n, end))
+    → Copied b a at to room end → Termed s k b a at (Ok (n, to))
+term_ends s k b a at c room n end to (e, (g, (h, p))) w = (e, (g, (h, w.adds e c p)))
 
-pub term_stuck : (s : List ℕ) (k : ℕ) (b a : List ℕ) (at : ℕ) (c room : List ℕ) (r : Found) (n : ℕ) → k ≤ length s
-    → r ≡ Stuck n → Answered (whole 5) (drop k s) c room 0 r → Termed s k b a at (Stuck (k + n))
-term_stuck s k b a at c room r n h q x =
-    let y = subst (λ z. Answered (whole 5) (drop k s) c room 0 z) q x in
-    (subst (λ z. Goes (whole 5) (drop k s) (stuck z)) (drop-drop n k s) y.0, omega (arith, y.1, length-drop k s))
+pub term_stuck : (s : List ℕ) (k : ℕ) (b a : List ℕ) (at : ℕ) (c room : List ℕ) (n : ℕ) → Reached (whole 5) k s c room 0 (Err n)
+    → (x : Result (ℕ × ℕ) ℕ) → x ≡ Err n → Termed s k b a at x
+term_stuck s k b a at c room n g x q = subst (λ y. Termed s k b a at y) (sym q) g
 
--- what is known of the room and of the bytes taken
-pub room_size : (t b a : List ℕ) (r : Found) (n to : ℕ) → r ≡ Ends n to → Answered (whole 5) t b a 0 r → length a ≡ 32
+pub room_size : (t b a : List ℕ) (r : Result (ℕ × ℕ) ℕ) (n to : ℕ) → r ≡ Ok (n, to) → Answered (whole 5) t b a 0 r → length a ≡ 32
 room_size t b a r n to q x = (subst (λ z. Answered (whole 5) t b a 0 z) q x).1.1.1.size
 
-pub ends_most : (t b a : List ℕ) (r : Found) (n to : ℕ) → r ≡ Ends n to → Answered (whole 5) t b a 0 r → n ≤ length t
+pub ends_most : (t b a : List ℕ) (r : Result (ℕ × ℕ) ℕ) (n to : ℕ) → r ≡ Ok (n, to) → Answered (whole 5) t b a 0 r → n ≤ length t
 ends_most t b a r n to q x = (subst (λ z. Answered (whole 5) t b a 0 z) q x).1.1.0
 
-pub stuck_most : (t b a : List ℕ) (r : Found) (n : ℕ) → r ≡ Stuck n → Answered (whole 5) t b a 0 r → n ≤ length t
+pub stuck_most : (t b a : List ℕ) (r : Result (ℕ × ℕ) ℕ) (n : ℕ) → r ≡ Err n → Answered (whole 5) t b a 0 r → n ≤ length t
 stuck_most t b a r n q x = (subst (λ z. Answered (whole 5) t b a 0 z) q x).1

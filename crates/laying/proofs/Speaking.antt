@@ -1,5 +1,5 @@
 -- A line by its plan: its end, one byte, a number, a name. Assumes nothing.
-use mathlib.Core.Path.{◌≡◌, refl, sym, ap, ◌∙◌, subst}
+use mathlib.Core.Path.{◌≡◌, refl, sym, ap, subst}
 use mathlib.Core.List.{List, [], ◌∷◌}
 use mathlib.Core.Option.{Option, none}
 use mathlib.Core.Bool.{Bool, true, false, cond}
@@ -9,28 +9,25 @@ use lib.Dec.{ltb}
 use lib.ListN.{length, drop, length-drop, drop_of_length-le}
 use lib.Seq.{drop-drop}
 use borrow.Author.Tests.{ltb-true, ltb-false}
+use Rattle.std.specs.Prelude.{Result, Ok, Err}
 use Rattle.laws.proofs.Tests.{clash}
 use Rattle.rules.specs.Expressions.{pair}
 use Rattle.rules.specs.Programs.{Stmt}
 use Rattle.grammar.specs.Reading.{is_decimal, look}
 use Rattle.grammar.specs.Going.{Read, got, stuck, digits, fixed}
-use Rattle.leaves.specs.declared.Value.{Value}
-use Rattle.leaves.specs.declared.Value.TheVariants.{Is, Not}
 use Rattle.leaves.specs.Answering.{Valued}
 use Rattle.plans.specs.Plans as plans
 use Rattle.plans.specs.Plans.{Plan, done, fork, decimal, five, Walks}
 use Rattle.laying.specs.Laying.{Stands, Added}
 use Rattle.laying.proofs.Laying.{nothing_stands}
-use Rattle.laying.specs.declared.Told.{Told}
-use Rattle.laying.specs.declared.Told.TheVariants.{Frame, Wrong}
 use Rattle.laying.specs.Speaking.{Held, Spoken, ends_at, number_of, Counted}
 
 -- ---- a plan that is reached from another
 
-pub through : (P Q : Plan) (s : List ℕ) (k n : ℕ) (a : List ℕ) (r : Told) → ((o : Read Stmt) → Walks Q (drop n s) o → Walks P (drop k s) o)
+pub through : (P Q : Plan) (s : List ℕ) (k n : ℕ) (a : List ℕ) (r : Result ℕ ℕ) → ((o : Read Stmt) → Walks Q (drop n s) o → Walks P (drop k s) o)
     → Spoken Q s n a r → Spoken P s k a r
-through P Q s k n a (Frame to) f (x, (w, h)) = (x, (f (got x []) w, h))
-through P Q s k n a (Wrong c) f (w, h) = (f (stuck (drop c s)) w, h)
+through P Q s k n a (Ok to) f (x, (w, h)) = (x, (f (got x []) w, h))
+through P Q s k n a (Err c) f (w, h) = (f (stuck (drop c s)) w, h)
 
 -- ---- the end
 
@@ -42,7 +39,7 @@ pub done_spoken : (x : Stmt) (s : List ℕ) (k : ℕ) (a : List ℕ) (to : ℕ) 
     → Spoken (done x) s k a (ends_at (length s) k to)
 done_spoken x s k a to h w = on (ltb k (length s)) refl
   where
-    on : (b : Bool) → ltb k (length s) ≡ b → Spoken (done x) s k a (cond b (Wrong k) (Frame to))
+    on : (b : Bool) → ltb k (length s) ≡ b → Spoken (done x) s k a (cond b (Err k) (Ok to))
     on true q = (over_walk x (drop k s) (omega (arith, length-drop k s, ltb-true k (length s) q)), h)
     on false q =
         let l : length s ≤ k = ltb-false k (length s) q in
@@ -95,41 +92,26 @@ decimal_stuck most f t r e = on (is_decimal (look t)) refl e
     on false q e = subst (λ y. Walks (decimal most f) t (stuck y)) (same e) (plans.Walks.valueless q)
 
 -- the code's number, from the part of the line to the line
-pub no_number : (s : List ℕ) (k most : ℕ) → k ≤ length s → is_decimal (look (drop k s)) ≡ false → Counted s k most (Not k)
+pub no_number : (s : List ℕ) (k most : ℕ) → k ≤ length s → is_decimal (look (drop k s)) ≡ false → Counted s k most (Err k)
 unfolding number_of
 no_number s k most h e = (rw e, h)
 
-pub number_is : (s : List ℕ) (k most n v : ℕ) (r : Value) → k ≤ length s → is_decimal (look (drop k s)) ≡ true
-    → Valued (drop k s) (digits most 0 (drop k s)) most r → r ≡ Is n v
-    → Counted s k most (Is (k + n) v)
+pub number_is : (s : List ℕ) (k most : ℕ) (r : Result (ℕ × ℕ) ℕ) → is_decimal (look (drop k s)) ≡ true
+    → Valued s (digits most 0 (drop k s)) most r → Counted s k most r
 unfolding number_of
-number_is s k most n v r h e w q =
-    let y = subst (λ z. Valued (drop k s) (digits most 0 (drop k s)) most z) q w in
-    (rw e (y.0 ∙ ap (λ t. got v t) (drop-drop n k s)), (omega (arith, y.1, length-drop k s), y.2))
+number_is s k most (Ok (n, v)) e w = (rw e w.0, (w.1, w.2))
+number_is s k most (Err n) e w = (rw e w.0, w.1)
 
-pub number_not : (s : List ℕ) (k most n : ℕ) (r : Value) → k ≤ length s → is_decimal (look (drop k s)) ≡ true
-    → Valued (drop k s) (digits most 0 (drop k s)) most r → r ≡ Not n
-    → Counted s k most (Not (k + n))
-unfolding number_of
-number_not s k most n r h e w q =
-    let y = subst (λ z. Valued (drop k s) (digits most 0 (drop k s)) most z) q w in
-    (rw e (y.0 ∙ ap stuck (drop-drop n k s)), omega (arith, y.1, length-drop k s))
-
-module _ (f : ℕ → Plan) (s : List ℕ) (k : ℕ) (h : k ≤ length s) (a : List ℕ) (r : Value)
-    (w : Valued (drop k s) (fixed 32767 5 0 (drop k s)) 32767 r) where
-  pub name_is : (n v : ℕ) → r ≡ Is n v → (k + n ≤ length s) × (v ≤ 32767)
-  name_is n v q =
-      let y = subst (λ z. Valued (drop k s) (fixed 32767 5 0 (drop k s)) 32767 z) q w in (omega (arith, y.1, length-drop k s), y.2)
-
-  pub name_spoken : (n v : ℕ) (x : Told) → r ≡ Is n v → Spoken (f v) s (k + n) a x → Spoken (five f) s k a x
+module _ (f : ℕ → Plan) (s : List ℕ) (k : ℕ) (a : List ℕ) (r : Result (ℕ × ℕ) ℕ) (w : Valued s (fixed 32767 5 0 (drop k s)) 32767 r) where
+  pub name_spoken : (n v : ℕ) (x : Result ℕ ℕ) → r ≡ Ok (n, v) → Spoken (f v) s n a x → Spoken (five f) s k a x
   name_spoken n v x q g =
-      let y = subst (λ z. Valued (drop k s) (fixed 32767 5 0 (drop k s)) 32767 z) q w in
-      through (five f) (f v) s k (k + n) a x (λ o m. plans.Walks.digits (y.0 ∙ ap (λ t. got v t) (drop-drop n k s)) m) g
+      let y = subst (λ z. Valued s (fixed 32767 5 0 (drop k s)) 32767 z) q w in
+      through (five f) (f v) s k n a x (λ o m. plans.Walks.digits y.0 m) g
 
-  pub name_wrong : (n : ℕ) → r ≡ Not n → Spoken (five f) s k a (Wrong (k + n))
-  name_wrong n q =
-      let y = subst (λ z. Valued (drop k s) (fixed 32767 5 0 (drop k s)) 32767 z) q w in
-      (plans.Walks.nameless (y.0 ∙ ap stuck (drop-drop n k s)), omega (arith, y.1, length-drop k s))
+  pub name_wrong : (n : ℕ) → r ≡ Err n → (x : Result ℕ ℕ) → x ≡ Err n → Spoken (five f) s k a x
+  name_wrong n q x e =
+      let y = subst (λ z. Valued s (fixed 32767 5 0 (drop k s)) 32767 z) q w in
+      subst (λ z. Spoken (five f) s k a z) (sym e) (plans.Walks.nameless y.0, y.1)
 
 -- ---- a frame's first bytes
 

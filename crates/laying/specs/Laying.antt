@@ -1,9 +1,7 @@
 -- "then a good line whose expression passes 32 bytes or whose frame passes 120 is 2": a frame that is laid byte by byte, and its limits.
-use Rattle.std.specs.Prelude.{◌≡◌, List, ◌++◌, cond, ℕ, ◌+◌, ◌≤◌, ◌<◌, leb, length, take, drop}
+use Rattle.std.specs.Prelude.{◌≡◌, List, ◌++◌, cond, ℕ, ◌+◌, ◌≤◌, ◌<◌, leb, length, take, drop, Result, Err, Ok}
 use Rattle.rules.specs.Expressions.{Expr, bytes_of}
 use Rattle.grammar.specs.Going.{got, stuck, whole, Goes}
-use Rattle.leaves.specs.declared.Found.{Found}
-use Rattle.leaves.specs.declared.Found.TheVariants.{Ends, Stuck}
 use Rattle.leaves.specs.Answering.{Put}
 
 -- 1 for an expression of over 32 bytes
@@ -32,7 +30,7 @@ pub record Copied (b a : List ℕ) (at to : ℕ) (room : List ℕ) (n : ℕ) : T
   pub adds : (e : Expr) (c : List ℕ) → Put c room 0 (bytes_of e) n → Added b a at to (bytes_of e) (long e)
 
 -- an expression of the line s at k, up to n
-abbrev pub Termed : (s : List ℕ) (k : ℕ) (b a : List ℕ) (at : ℕ) → Found → Type 0
-Termed s k b a at (Ends n to) =
+abbrev pub Termed : (s : List ℕ) (k : ℕ) (b a : List ℕ) (at : ℕ) → Result (ℕ × ℕ) ℕ → Type 0
+Termed s k b a at (Ok (n, to)) =
     (e : Expr) × (Goes (whole 5) (drop k s) (got e (drop n s)) × ((n ≤ length s) × Added b a at to (bytes_of e) (long e)))
-Termed s k b a at (Stuck n) = Goes (whole 5) (drop k s) (stuck (drop n s)) × (n ≤ length s)
+Termed s k b a at (Err n) = Goes (whole 5) (drop k s) (stuck (drop n s)) × (n ≤ length s)

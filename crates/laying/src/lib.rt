@@ -6,14 +6,11 @@ ghost use Rattle.std.specs.Prelude.{◌≡◌, [], ◌∷◌, ℕ, ◌+◌, ◌�
 ghost use Rattle.laying.specs.Laying.{Added, Copied, Termed};
 
 use leaves::Found;
+use leaves::lexing::after;
 use sums::expression;
 
-// The frame's end in its room, 121 where it passes a limit; or the byte that no good line could have there.
-#[derive(Clone, Copy)]
-pub enum Told {
-    Frame(usize),
-    Wrong(usize),
-}
+// A line: where its frame ends in the room, 121 where it passes a limit; or the byte that no good line could have there.
+pub type Told = Result<usize, usize>;
 
 pub fn put(out: &mut [u8; 120], at: usize, b: u8) -> usize
     requires { (length out.old ≡ 120) × (at ≤ 121) }
@@ -44,12 +41,6 @@ pub fn term(s: &[u8], k: usize, out: &mut [u8; 120], at: usize) -> Found
     ensures { Termed s.now k out.old out.new at result }
 {
     let mut room = [0u8; 32];
-    let r = expression(&s[k..], &mut room);
-    match r {
-        Found::Ends(n, end) => {
-            let to = put_term(out, at, &room, end);
-            Found::Ends(k + n, to)
-        }
-        Found::Stuck(n) => Found::Stuck(k + n),
-    }
+    let (n, end) = after(k, expression(&s[k..], &mut room))?;
+    Ok((n, put_term(out, at, &room, end)))
 }

@@ -12,18 +12,16 @@ use lib.Seq.{drop-drop, take_all}
 use mir.Syntax.{w32}
 use mir.Val.{of_z}
 use borrow.Author.Tests.{ne_eqb, eq-eqb, eqb-true}
+use Rattle.std.specs.Prelude.{Err, Result, Ok}
 use Rattle.laws.proofs.Tests.{clash, both_ways}
 use Rattle.rules.specs.declared.Op1.TheVariants.{Negate}
 use Rattle.rules.specs.declared.Op2.{Op2}
 use Rattle.rules.specs.declared.Op2.TheVariants.{Plus, Minus, Times, Divide, Xor, And, Or}
 use Rattle.rules.specs.Expressions.{Expr, num, name, bytes_of, code2}
-use Rattle.leaves.specs.declared.Found.TheVariants.{Ends, Stuck}
-use Rattle.leaves.specs.declared.Value.{Value}
-use Rattle.leaves.specs.declared.Value.TheVariants.{Is, Not}
 use Rattle.grammar.specs.Reading.{is_decimal, look, level_of}
 use Rattle.grammar.specs.Going as going
 use Rattle.grammar.specs.Going.{Read, got, stuck, on_got, digits, fixed, Class, class_of, leaf, sign, nothing, led_by, led, start_by, start, skip, infix_of, op_at, alone, Goes, leafs, nones}
-use Rattle.leaves.specs.Answering.{Valued, Put, Answered, code_of, sign_code}
+use Rattle.leaves.specs.Answering.{Valued, Put, Answered, code_of, sign_code, takes, after_of}
 use Rattle.grammar.proofs.Classes as classes
 use Rattle.grammar.proofs.Classes.{class_is, class_digit}
 use Rattle.grammar.proofs.Starts.{start_global, start_local, start_dot}
@@ -208,28 +206,33 @@ none_starts (c ∷ t) d m g o b l z = by (class_of c) (class_is c) z
 
 -- ---- answers
 
-module _ (s b a : List ℕ) (at k : ℕ) (f : ℕ → Expr) (rd : Read ℕ) (most : ℕ) (starts : start s ≡ leaf (on_got f rd)) (long : k ≤ length s)
+-- what a number's reader says of the part from k on, as of the whole text
+pub valued_after : (k : ℕ) (s : List ℕ) (rd : List ℕ → Read ℕ) (most : ℕ) (r x : Result (ℕ × ℕ) ℕ) → k ≤ length s
+    → Valued (take (length s - k) (drop k s)) (rd (take (length s - k) (drop k s))) most r → x ≡ after_of k r
+    → Valued s (rd (drop k s)) most x
+valued_after k s rd most r x h g e = subst (λ y. Valued s (rd (drop k s)) most y) (sym e) (on r (subst (λ t. Valued t (rd t) most r) (rest_is k s) g))
   where
-    pub leaf_ends : (r : Value) (n v to : ℕ) → r ≡ Is n v → Valued (drop k s) rd most r → Put b a at (bytes_of (f v)) to
-        → Answered alone s b a at (Ends (n + k) to)
-    leaf_ends r n v to e g p =
-        let h = subst (λ x. Valued (drop k s) rd most x) e g in (
-          f v,
-          (
-            leafs (starts ∙ ap (λ x. leaf (on_got f x)) h.0 ∙ ap (λ x. leaf (got (f v) x)) (drop_plus k n s)),
-            (omega (arith, length-drop k s, h.1), p),
-          ),
-        )
+    on : (r : Result (ℕ × ℕ) ℕ) → Valued (drop k s) (rd (drop k s)) most r → Valued s (rd (drop k s)) most (after_of k r)
+    on (Ok (n, v)) w = (w.0 ∙ ap (λ t. got v t) (drop-drop n k s), omega (arith, w.1, length-drop k s), w.2)
+    on (Err n) w = (w.0 ∙ ap (λ t. stuck t) (drop-drop n k s), omega (arith, w.1, length-drop k s))
 
-    pub leaf_stuck : (r : Value) (n : ℕ) → r ≡ Not n → Valued (drop k s) rd most r → Answered alone s b a at (Stuck (n + k))
-    leaf_stuck r n e g =
-        let h = subst (λ x. Valued (drop k s) rd most x) e g in
-        (leafs (starts ∙ ap (λ x. leaf (on_got f x)) h.0 ∙ ap (λ x. leaf (stuck x)) (drop_plus k n s)), omega (arith, length-drop k s, h.1))
+pub valued_takes : (t : List ℕ) (o : Read ℕ) (most : ℕ) (r : Result (ℕ × ℕ) ℕ) → Valued t o most r → takes r ≤ length t
+valued_takes t o most (Ok (n, v)) w = w.1
+valued_takes t o most (Err n) w = w.1
 
--- what a number's reader says of a part it says of the rest
-pub valued_rest : (k : ℕ) (s : List ℕ) (rd : List ℕ → Read ℕ) (most : ℕ) (r : Value)
-    → Valued (take (length s - k) (drop k s)) (rd (take (length s - k) (drop k s))) most r → Valued (drop k s) (rd (drop k s)) most r
-valued_rest k s rd most r g = subst (λ x. Valued x (rd x) most r) (rest_is k s) g
+-- a leaf's answer, from that of its number x
+module _ (s b a : List ℕ) (at : ℕ) (f : ℕ → Expr) (rd : Read ℕ) (most : ℕ) (starts : start s ≡ leaf (on_got f rd)) (x : Result (ℕ × ℕ) ℕ)
+    (w : Valued s rd most x)
+  where
+    pub leaf_ends : (n v to : ℕ) → x ≡ Ok (n, v) → Put b a at (bytes_of (f v)) to → Answered alone s b a at (Ok (n, to))
+    leaf_ends n v to e p =
+        let h = subst (λ y. Valued s rd most y) e w in
+        (f v, (leafs (starts ∙ ap (λ y. leaf (on_got f y)) h.0), (h.1, p)))
+
+    pub leaf_stuck : (n : ℕ) → x ≡ Err n → (r : Result (ℕ × ℕ) ℕ) → r ≡ Err n → Answered alone s b a at r
+    leaf_stuck n e r q =
+        let h = subst (λ y. Valued s rd most y) e w in
+        subst (λ y. Answered alone s b a at y) (sym q) (leafs (starts ∙ ap (λ y. leaf (on_got f y)) h.0), h.1)
 
 pub negative_is : (v : ℕ) → 1 ≤ v → v ≤ 2147483648 → of_z w32 (neg_ℤ (pos v)) ≡ 4294967296 - v
 negative_is zero h k = absurd (omega arith)

@@ -1,11 +1,11 @@
 // Bytes, spaces and digits at the front of a text.
-ghost use Rattle.std.specs.Prelude.{◌≡◌, true, ℕ, ◌+◌, ◌*◌, ◌-◌, ◌≤◌, ◌<◌, length, drop};
+ghost use Rattle.std.specs.Prelude.{◌≡◌, true, ℕ, ◌+◌, ◌*◌, ◌-◌, ◌^◌, ◌≤◌, ◌<◌, length, drop};
 ghost use Rattle.grammar.specs.Reading.{is_decimal, look};
 ghost use Rattle.text.specs.Text.{tens};
-ghost use Rattle.grammar.specs.Going.{skip, digits, fixed, op_at};
-ghost use Rattle.leaves.specs.Answering.{Valued, code_of};
+ghost use Rattle.grammar.specs.Going.{skip, digits, fixed};
+ghost use Rattle.leaves.specs.Answering.{Valued, takes, after_of};
 
-use crate::Value;
+use crate::Found;
 
 // The first byte; 0 at the end.
 pub fn look(s: &[u8]) -> u8
@@ -35,22 +35,22 @@ pub fn spaces(s: &[u8]) -> usize
 }
 
 // The digits that come first, as a number of at most `most`.
-pub fn digits(s: &[u8], most: usize) -> Value
+pub fn digits(s: &[u8], most: usize) -> Found
     requires { most ≤ 2147483648 }
     ensures { Valued s.now (digits most 0 s.now) most result }
 {
     let mut v = 0;
     for (i, &c) in s.iter().enumerate() {
         if !is_decimal(c) {
-            return Value::Is(i, v);
+            return Ok((i, v));
         }
         let w = 10 * v + digit(c);
         if w > most {
-            return Value::Not(i);
+            return Err(i);
         }
         v = w;
     }
-    Value::Is(s.len(), v)
+    Ok((s.len(), v))
 }
 
 // A match: `pow` would take k as a u32.
@@ -68,19 +68,27 @@ fn tens(k: usize) -> usize
 }
 
 // The five digits of a name.
-pub fn fixed(s: &[u8]) -> Value
+pub fn fixed(s: &[u8]) -> Found
     ensures { Valued s.now (fixed 32767 5 0 s.now) 32767 result }
 {
     let mut v = 0;
     for i in 0..5 {
         if s.len() <= i || !is_decimal(s[i]) {
-            return Value::Not(i);
+            return Err(i);
         }
         let w = 10 * v + digit(s[i]);
         if w * tens(4 - i) > 32767 {
-            return Value::Not(i);
+            return Err(i);
         }
         v = w;
     }
-    Value::Is(5, v)
+    Ok((5, v))
+}
+
+// What was found behind k bytes, as of the whole text.
+pub fn after(k: usize, r: Found) -> Found
+    requires { k + takes r < 2 ^ 64 }
+    ensures { result ≡ after_of k r }
+{
+    r.map(|(n, v)| (k + n, v)).map_err(|n| k + n)
 }

@@ -6,9 +6,9 @@ ghost use Rattle.grammar.specs.Reading.{is_decimal, look};
 ghost use Rattle.grammar.specs.Going.{nothing, led, start, alone};
 ghost use Rattle.leaves.specs.Answering.{Answered, sign_code};
 
-use crate::lexing::{digits, fixed, is_decimal, look, spaces};
+use crate::Found;
+use crate::lexing::{after, digits, fixed, is_decimal, look, spaces};
 use crate::storing::{put_name, put_number};
-use crate::{Found, Value};
 
 // The byte of the prefix sign that comes first; 0 where none does.
 fn sign_at(s: &[u8]) -> u8
@@ -46,40 +46,24 @@ fn plain(s: &[u8], out: &mut [u8; 32], at: usize) -> Found
     requires { (length out.old ≡ 32) × (at ≤ 33) × (is_decimal (look s.now) ≡ true) }
     ensures { Answered alone s.now out.old out.new at result }
 {
-    match digits(s, 2147483647) {
-        Value::Is(n, v) => {
-            let to = put_number(out, at, v as u32);
-            Found::Ends(n, to)
-        }
-        Value::Not(n) => Found::Stuck(n),
-    }
+    let (n, v) = digits(s, 2147483647)?;
+    Ok((n, put_number(out, at, v as u32)))
 }
 
 fn minus(s: &[u8], out: &mut [u8; 32], at: usize) -> Found
     requires { (length out.old ≡ 32) × (at ≤ 33) × (look s.now ≡ 45) × (is_decimal (look (drop 1 s.now)) ≡ true) }
     ensures { Answered alone s.now out.old out.new at result }
 {
-    match digits(&s[1..], 2147483648) {
-        Value::Is(n, v) => {
-            let bits = negative(v);
-            let to = put_number(out, at, bits);
-            Found::Ends(n + 1, to)
-        }
-        Value::Not(n) => Found::Stuck(n + 1),
-    }
+    let (n, v) = after(1, digits(&s[1..], 2147483648))?;
+    Ok((n, put_number(out, at, negative(v))))
 }
 
 fn global(s: &[u8], out: &mut [u8; 32], at: usize) -> Found
     requires { (length out.old ≡ 32) × (at ≤ 33) × (look s.now ≡ 103) }
     ensures { Answered alone s.now out.old out.new at result }
 {
-    match fixed(&s[1..]) {
-        Value::Is(n, v) => {
-            let to = put_name(out, at, v as u32);
-            Found::Ends(n + 1, to)
-        }
-        Value::Not(n) => Found::Stuck(n + 1),
-    }
+    let (n, v) = after(1, fixed(&s[1..]))?;
+    Ok((n, put_name(out, at, v as u32)))
 }
 
 fn local(s: &[u8], out: &mut [u8; 32], at: usize) -> Found
@@ -87,15 +71,10 @@ fn local(s: &[u8], out: &mut [u8; 32], at: usize) -> Found
     ensures { Answered alone s.now out.old out.new at result }
 {
     if look(&s[1..]) != b'l' {
-        return Found::Stuck(1);
+        return Err(1);
     }
-    match fixed(&s[2..]) {
-        Value::Is(n, v) => {
-            let to = put_name(out, at, 0x8000 + v as u32);
-            Found::Ends(n + 2, to)
-        }
-        Value::Not(n) => Found::Stuck(n + 2),
-    }
+    let (n, v) = after(2, fixed(&s[2..]))?;
+    Ok((n, put_name(out, at, 0x8000 + v as u32)))
 }
 
 // An operand that is neither in parentheses nor behind a sign.
@@ -108,8 +87,8 @@ pub fn leaf(s: &[u8], out: &mut [u8; 32], at: usize) -> Found
         b'-' => minus(s, out, at),
         b'g' => global(s, out, at),
         b'.' => local(s, out, at),
-        b' ' => Found::Stuck(blank(s)),
-        _ => Found::Stuck(0),
+        b' ' => Err(blank(s)),
+        _ => Err(0),
     }
 }
 

@@ -10,6 +10,7 @@ use lib.ListN.{length}
 use borrow.Author.Tests.{lt-leb, eqb-true}
 use types.Run.{OneOf, miss}
 use denote.Enum.Declared.{tag_of}
+use Rattle.std.specs.Prelude.{Err, Result, Ok}
 use Rattle.rules.specs.contracts.Refusal.{the_type}
 use Rattle.laws.specs.Lists.{every, same}
 use Rattle.laws.proofs.Tests.{and_true, or_true, clash}
@@ -20,8 +21,6 @@ use Rattle.rules.specs.Refusals.{fault_of}
 use Rattle.rules.specs.Answers.{at_place, Judged, ok, no, require, ◌>>=◌}
 use Rattle.rules.specs.Programs.{Program}
 use Rattle.rules.specs.Listing.{Line, lines_of, unhex, old_form, new_form, is_mark, form_in, statement_lines, within_limits, well_formed, take_byte, read_frame, read_lines, read_listing}
-use Rattle.listing.specs.declared.Listed.{Listed}
-use Rattle.listing.specs.declared.Listed.TheVariants.{Read, Refused}
 use Rattle.listing.specs.Lines.{first_line}
 use Rattle.listing.specs.Form.{form_of, is_marked}
 use Rattle.listing.specs.Tables.{ListedAs}
@@ -106,18 +105,18 @@ not_limit Unknown h = refl
 not_limit Full h = refl
 not_limit Store h = refl
 
-pub read_number : (frames starts text : List ℕ) (n : ℕ) (r : Listed) → r ≡ Read n
+pub read_number : (frames starts text : List ℕ) (n : ℕ) (r : Result ℕ Refusal) → r ≡ Ok n
     → ListedAs frames starts r (read_listing text) → Numbered (read_listing text) 0
 read_number frames starts text n r e h = on (read_listing text) (rw e at h)
   where
-    on : (j : Judged Program) → ListedAs frames starts (Read n) j → Numbered j 0
+    on : (j : Judged Program) → ListedAs frames starts (Ok n) j → Numbered j 0
     on (ok p) h = refl
     on (no q) h = absurd h
 
-pub refused_number : (frames starts text : List ℕ) (q : Refusal) (r : Listed) → r ≡ Refused q → ListedAs frames starts r (read_listing text)
+pub refused_number : (frames starts text : List ℕ) (q : Refusal) (r : Result ℕ Refusal) → r ≡ Err q → ListedAs frames starts r (read_listing text)
     → Numbered (read_listing text) (one_or_two q)
 refused_number frames starts text q r e h = on (read_listing text) refl (rw e at h)
   where
-    on : (j : Judged Program) → read_listing text ≡ j → ListedAs frames starts (Refused q) j → Numbered j (one_or_two q)
+    on : (j : Judged Program) → read_listing text ≡ j → ListedAs frames starts (Err q) j → Numbered j (one_or_two q)
     on (ok p) f h = absurd h
     on (no s) f h = rw h (one_two (fault_of s).number (read_refuses text s f))

@@ -7,7 +7,7 @@ ghost use Rattle.lines.specs.Alone.{by_itself};
 ghost use Rattle.lines.specs.Turns.{Numbered, one_or_two, OneLine};
 
 use crate::texts::put_text;
-use listing::{Listed, new_form, read_listing};
+use listing::{new_form, read_listing};
 use rules::Refusal;
 
 // A listing is refused with 1 or 2 when it is read.
@@ -28,8 +28,8 @@ fn number_of(text: &[u8]) -> u8
     let mut starts = [0u16; 4100];
     let mut lines = [0u32; 1024];
     match read_listing(text, &mut frames, &mut starts, &mut lines) {
-        Listed::Read(_) => 0,
-        Listed::Refused(r) => one_or_two(r),
+        Ok(_) => 0,
+        Err(r) => one_or_two(r),
     }
 }
 

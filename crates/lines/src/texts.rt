@@ -5,7 +5,7 @@ ghost use Rattle.rules.specs.Output.{line_of};
 ghost use Rattle.digits.specs.Digits.{laid};
 ghost use Rattle.lines.specs.Alone.{left_from};
 
-use digits::put_line;
+use digits::{low_byte, put_line};
 use rules::Place;
 
 // The bytes of s as they are, from `at` on.
@@ -14,12 +14,6 @@ pub fn put_text(out: &mut [u8], at: usize, s: &[u8])
     ensures { out.new ≡ laid out.old at s.now }
 {
     out[at..at + s.len()].copy_from_slice(s);
-}
-
-fn low_byte(x: usize) -> u8
-    ensures { result ≡ x % 256 }
-{
-    (x % 256) as u8
 }
 
 // 7B, the number, the place in two bytes: nine characters.

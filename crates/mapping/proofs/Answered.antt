@@ -8,6 +8,8 @@ use native.Mathlib.Omega.{arith}
 use lib.Dec.{leb}
 use lib.ListN.{length}
 use borrow.Author.Tests.{le-leb, lt-leb}
+use Rattle.mapping.specs.declared.Counts.{Counts}
+use Rattle.std.specs.Prelude.{Err, Result, Ok}
 use Rattle.rules.specs.declared.Settings.{Settings}
 use Rattle.rules.specs.declared.Refusal.{Refusal}
 use Rattle.rules.specs.declared.Refusal.TheVariants.{Room}
@@ -20,8 +22,6 @@ use Rattle.starting.specs.Begun.{accepted}
 use Rattle.starting.proofs.Accepts.{accepted_run}
 use Rattle.digits.specs.Digits.{laid}
 use Rattle.digits.proofs.Rooms.{laid_front}
-use Rattle.mapping.specs.declared.Mapped.{Mapped}
-use Rattle.mapping.specs.declared.Mapped.TheVariants.{Done, Refused}
 use Rattle.mapping.specs.Rows.{Row, rows_to, rows}
 use Rattle.mapping.specs.Entry.{row_lines, fitted, mapped, Leaves, Fits}
 use Rattle.mapping.proofs.Listed.{length_lines}
@@ -34,13 +34,13 @@ module _ (p e : Program) (count k : ℕ) (room : List ℕ) (lp : length p ≡ co
   pub lines_fit : 37 * k ≤ length room → length (row_lines (rows_to p e count)) ≤ length room
   lines_fit h = omega (arith, length_lines (rows_to p e count))
 
-  pub fits_short : length room < 37 * k → Fits p e (Refused (Room count)) room room
+  pub fits_short : length room < 37 * k → Fits p e (Err (Room count)) room room
   unfolding fitted require
   fits_short h =
       rw (lt-leb (length (row_lines (rows_to p e (length p)))) (length room) (omega (arith, size)))
-      (record { answer = ap (λ (n : ℕ). Refused (Room n)) (sym lp); room = refl })
+      (record { answer = ap (λ (n : ℕ). Err (Room n)) (sym lp); room = refl })
 
-  pub fits_whole : (out : List ℕ) → 37 * k ≤ length room → out ≡ laid room 0 (row_lines (rows_to p e count)) → Fits p e (Done (record { bytes = 37 * k; rows = k })) room out
+  pub fits_whole : (out : List ℕ) → 37 * k ≤ length room → out ≡ laid room 0 (row_lines (rows_to p e count)) → Fits p e (Ok (record { bytes = 37 * k; rows = k })) room out
   unfolding fitted require
   fits_whole out h o =
       let z : rows_to p e count ≡ rows_to p e (length p) = ap (rows_to p e) (sym lp) in
@@ -48,19 +48,19 @@ module _ (p e : Program) (count k : ℕ) (room : List ℕ) (lp : length p ≡ co
       (record { answer = rw (size, c, z); room = o ∙ laid_front room (row_lines (rows_to p e count)) ∙ rw z })
 
 -- the same programs under other names
-pub fits_as : (p q e f : Program) (r : Mapped) (a b : List ℕ) → p ≡ q → e ≡ f → Fits p e r a b → Fits q f r a b
+pub fits_as : (p q e f : Program) (r : Result Counts Refusal) (a b : List ℕ) → p ≡ q → e ≡ f → Fits p e r a b → Fits q f r a b
 fits_as p q e f r a b x y h = subst (λ (z : Program). Fits q z r a b) y (subst (λ (z : Program). Fits z e r a b) x h)
 
-pub fits_read : (asked : Settings) (p q : Program) {r : Mapped} {a b : List ℕ} → p ≡ q → Fits p (optimized asked p).program r a b → Fits q (optimized asked q).program r a b
+pub fits_read : (asked : Settings) (p q : Program) {r : Result Counts Refusal} {a b : List ℕ} → p ≡ q → Fits p (optimized asked p).program r a b → Fits q (optimized asked q).program r a b
 fits_read asked p q {r} {a} {b} e h = subst (λ (z : Program). Fits z (optimized asked z).program r a b) e h
 
 -- ---- of a listing
 module _ (asked : Settings) (text room : List ℕ) where
-  pub mapped_refused : (q : Refusal) → accepted text ≡ no q → Leaves (mapped asked text (length room)) (Refused q) room room
+  pub mapped_refused : (q : Refusal) → accepted text ≡ no q → Leaves (mapped asked text (length room)) (Err q) room room
   unfolding mapped ◌>>=◌
   mapped_refused q e = rw e (record { answer = refl; room = refl })
 
-  pub mapped_fits : (p : Program) (r : Mapped) (out : List ℕ) → accepted text ≡ ok p → Fits p (optimized asked p).program r room out
+  pub mapped_fits : (p : Program) (r : Result Counts Refusal) (out : List ℕ) → accepted text ≡ ok p → Fits p (optimized asked p).program r room out
       → Leaves (mapped asked text (length room)) r room out
   unfolding mapped ◌>>=◌ rows
   mapped_fits p r out e h = rw e h
@@ -84,6 +84,6 @@ module _ (asked : Settings) (text : List ℕ) (room : ℕ) (r : Refusal) (h : ma
       on (no q) e = let z : ◌≡◌ {A = Judged (List Row)} (no q) (no r) = rw e at h in let y : q ≡ r = cc in inl (λ a b. accepted_run text asked r a b (e ∙ ap no y))
 
 -- coincide: two results that the contract allows are the same
-pub coincide : (asked : Settings) (text room : List ℕ) (r q : Mapped) (a b : List ℕ) → Leaves (mapped asked text (length room)) r room a → Leaves (mapped asked text (length room)) q room b
+pub coincide : (asked : Settings) (text room : List ℕ) (r q : Result Counts Refusal) (a b : List ℕ) → Leaves (mapped asked text (length room)) r room a → Leaves (mapped asked text (length room)) q room b
     → (r ≡ q) × (a ≡ b)
 coincide asked text room r q a b h k = (h.answer ∙ sym k.answer, h.room ∙ sym k.room)

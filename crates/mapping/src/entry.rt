@@ -11,13 +11,13 @@ ghost use Rattle.attempts.specs.Standing.{Standing};
 ghost use Rattle.starting.specs.Begun.{Holds};
 ghost use Rattle.mapping.specs.Entry.{mapped, Leaves, Fits, Addressed};
 
+use crate::Counts;
 use crate::laying::find_positions;
 use crate::writing::{count_rows, write_rows};
-use crate::{Counts, Mapped};
 use optimize::optimize;
 use rules::{Refusal, Settings};
 use slots::State;
-use starting::{Begun, begin};
+use starting::begin;
 
 // The rows of an end form. `before` has the addresses of the listing as it was read.
 fn tell_rows(
@@ -27,7 +27,7 @@ fn tell_rows(
     links: &[u16; 28672],
     before: &[u32; 1025],
     out: &mut [u8],
-) -> Mapped
+) -> Result<Counts, Refusal>
     requires { let t : Slots = table_of frames.now state.now count in
         Standing t × (assembles (program_of t) ≡ true) × Beside frames.now (starts_in state.now) count links.now
         × Addressed (input_of frames.now (starts_in state.now) count) count before.now }
@@ -37,12 +37,12 @@ fn tell_rows(
 {
     let n = count_rows(frames, state, count);
     if out.len() / 37 < n {
-        return Mapped::Refused(Refusal::Room(count));
+        return Err(Refusal::Room(count));
     }
     let mut after = [0u32; 1025];
     find_positions(frames, state, count, links, &mut after);
     write_rows(frames, state, count, before, &after, out);
-    Mapped::Done(Counts {
+    Ok(Counts {
         bytes: 37 * n,
         rows: n,
     })
@@ -56,7 +56,7 @@ fn rewrite_and_tell(
     count: usize,
     links: &[u16; 28672],
     out: &mut [u8],
-) -> Mapped
+) -> Result<Counts, Refusal>
     requires { let p : Program = input_of frames.now (starts_in state.old) count in
         Holds p (table_of frames.now state.old count) links.now }
     ensures { let p : Program = input_of frames.now (starts_in state.old) count in
@@ -68,15 +68,14 @@ fn rewrite_and_tell(
     tell_rows(frames, state, count, links, &before, out)
 }
 
-// Where each instruction and each piece of data stands before and after, one line each. On refusal no lent byte changes.
-pub fn mapping(asked: Settings, listing: &[u8], out: &mut [u8]) -> Mapped
+// Where each instruction and each piece of data stands before and after, one line each. The lines stand in the lent room; or
+// the refusal, and no lent byte changes.
+pub fn mapping(asked: Settings, listing: &[u8], out: &mut [u8]) -> Result<Counts, Refusal>
     ensures { Leaves (mapped asked listing.now (length out.old)) result out.old out.new }
 {
     let mut frames = [0u8; 28672];
     let mut state = [[0u16; 1025]; 8];
     let mut links = [0u16; 28672];
-    match begin(listing, &mut frames, &mut state, &mut links) {
-        Begun::Refused(r) => Mapped::Refused(r),
-        Begun::Read(count) => rewrite_and_tell(asked, &frames, &mut state, count, &links, out),
-    }
+    let count = begin(listing, &mut frames, &mut state, &mut links)?;
+    rewrite_and_tell(asked, &frames, &mut state, count, &links, out)
 }

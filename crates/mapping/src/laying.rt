@@ -23,5 +23,6 @@ pub fn find_positions(
     ensures { Addressed (program_of (table_of frames.now state.now count)) count positions.new }
 {
     let mut values = [0i64; 1024];
+    // good, since the program assembles: its positions are what is wanted
     let _ = judge_linked(frames, state, count, links, positions, &mut values);
 }

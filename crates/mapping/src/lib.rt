@@ -7,18 +7,10 @@ mod rows; // one row
 mod writing; // row by row
 
 pub use entry::mapping;
-use rules::Refusal;
 
 // How many bytes of lines there are, and for how many rows.
 #[derive(Clone, Copy)]
 pub struct Counts {
     pub bytes: usize,
     pub rows: usize,
-}
-
-// The lines stand in the lent room; or the refusal.
-#[derive(Clone, Copy)]
-pub enum Mapped {
-    Done(Counts),
-    Refused(Refusal),
 }

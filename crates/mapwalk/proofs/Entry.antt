@@ -3,7 +3,7 @@ use mathlib.Core.Path.{◌≡◌, sym, subst}
 use mathlib.Core.List.{List}
 use Prim.Native.Nat.{ℕ}
 use lib.ListN.{take}
-use Rattle.rules.specs.declared.Answer.TheVariants.{Done}
+use Rattle.std.specs.Prelude.{Ok}
 use Rattle.rules.specs.declared.Sizes.{Sizes}
 use Rattle.rules.specs.declared.Settings.{Settings}
 use Rattle.rules.specs.Programs.{Program}
@@ -16,8 +16,8 @@ use Rattle.mapwalk.specs.Entry.{ImagesAlike}
 use Rattle.mapwalk.proofs.SameImages.{same_images}
 use Rattle.mapwalk.proofs.MapRows.{rows_are}
 
--- images-alike: `Done sizes` says that the front of the image room walks as the image of the input, by the map that `mapping` hands out
-pub images_alike : (asked : Settings) (text listing image : List ℕ) (sizes : Sizes) (listing' image' : List ℕ) → Answered asked text listing image (Done sizes) listing' image'
+-- images-alike: `Ok sizes` says that the front of the image room walks as the image of the input, by the map that `mapping` hands out
+pub images_alike : (asked : Settings) (text listing image : List ℕ) (sizes : Sizes) (listing' image' : List ℕ) → Answered asked text listing image (Ok sizes) listing' image'
     → ImagesAlike asked text (take sizes.image image')
 images_alike asked text listing image sizes listing' image' x =
     let a = (on_acceptance asked text listing image sizes listing' image' x).promised in

@@ -9,9 +9,10 @@ use lib.Dec.{eqb}
 use lib.ListN.{length}
 use lib.IntN.{pos, negsuc}
 use borrow.Author.Tests.{le-leb, not-false}
+use Rattle.rules.specs.declared.Unvalued.TheVariants.{Unknown, Nothing}
+use Rattle.rules.specs.declared.Unvalued.{Unvalued}
+use Rattle.std.specs.Prelude.{ℤ, Result, Err, Ok}
 use Rattle.laws.proofs.Tests.{false_true, clash}
-use Rattle.rules.specs.declared.Outcome.{Outcome}
-use Rattle.rules.specs.declared.Outcome.TheVariants.{Is, Unknown, Nothing}
 use Rattle.rules.specs.Answers.{ok}
 use Rattle.rules.specs.Expressions.{Expr, num, name, two, one, eval_tree}
 use Rattle.rules.specs.Forms.{size_at, is_transfer}
@@ -36,17 +37,17 @@ last_of_map f [] h = sym h
 last_of_map f (x ∷ []) h = refl
 last_of_map f (x ∷ y ∷ xs) h = last_of_map f (y ∷ xs) h
 
-spot_value : (names : List Entry) (k : ℕ) (e : Expr) (v : Outcome) → worth names k e ≡ v → spot_of (as_worth e v) ≡ to_spot v
+spot_value : (names : List Entry) (k : ℕ) (e : Expr) (v : Result ℤ Unvalued) → worth names k e ≡ v → spot_of (as_worth e v) ≡ to_spot v
 unfolding eval_tree
-spot_value names k e (Is z) h = refl
-spot_value names k (num z) Unknown h = clash (cc)
-spot_value names k (name n) Unknown h = refl
-spot_value names k (two o e d) Unknown h = refl
-spot_value names k (one o e) Unknown h = refl
-spot_value names k (num z) Nothing h = clash (cc)
-spot_value names k (name n) Nothing h = refl
-spot_value names k (two o e d) Nothing h = refl
-spot_value names k (one o e) Nothing h = refl
+spot_value names k e (Ok z) h = refl
+spot_value names k (num z) (Err Unknown) h = clash (cc)
+spot_value names k (name n) (Err Unknown) h = refl
+spot_value names k (two o e d) (Err Unknown) h = refl
+spot_value names k (one o e) (Err Unknown) h = refl
+spot_value names k (num z) (Err Nothing) h = clash (cc)
+spot_value names k (name n) (Err Nothing) h = refl
+spot_value names k (two o e d) (Err Nothing) h = refl
+spot_value names k (one o e) (Err Nothing) h = refl
 
 front_map : (g : Operand → Operand) (xs : List Operand) → front (map g xs) ≡ map g (front xs)
 front_map g [] = refl
@@ -132,11 +133,11 @@ module _ (base : Program) where
       split true = front_map (tell_operand i) xs
       split false = refl
 
-  spot_tell : (v : Outcome) → to_spot v ≡ tell_spot (to_spot v)
-  spot_tell (Is (pos a)) = refl
-  spot_tell (Is (negsuc a)) = refl
-  spot_tell Unknown = refl
-  spot_tell Nothing = refl
+  spot_tell : (v : Result ℤ Unvalued) → to_spot v ≡ tell_spot (to_spot v)
+  spot_tell (Ok (pos a)) = refl
+  spot_tell (Ok (negsuc a)) = refl
+  spot_tell (Err Unknown) = refl
+  spot_tell (Err Nothing) = refl
 
   -- where a target leads, by its number in the image
   target_tell : (p : Program) (k : ℕ) (x : Operand) → target_as (cond (followed p k x) as_code as_aside) (numbered (names_of p) p k x) ≡ tell_spot (aim_at p k x)

@@ -1,4 +1,4 @@
--- Down to the entries: what an answer `Done` of `optimize_jumps` says of the two images and of the map that `mapping` hands out.
+-- Down to the entries: what an answer `Ok` of `optimize_jumps` says of the two images and of the map that `mapping` hands out.
 use Rattle.std.specs.Prelude.{◌≡◌, List, ℕ}
 use Rattle.rules.specs.declared.Settings.{Settings}
 use Rattle.rules.specs.Answers.{ok}

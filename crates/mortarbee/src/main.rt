@@ -6,7 +6,7 @@ ghost use Rattle.rules.specs.Settings.{by_default};
 
 use desk::{put_page, put_refusal, read_full};
 use printing::{page_length, print_run};
-use rules::{Answer, Settings};
+use rules::Settings;
 use std::io;
 
 // A text that is longer than the buffer is refused within it: 57,344 characters, 1,024 line feeds and the first line are the most that is accepted.
@@ -32,7 +32,7 @@ fn print_answer(rt: &impl Print, text: &[u8]) -> io::Result<()> {
     let mut image = [0u8; 65536];
     let answer = print_run(by_default(), text, &mut page, &mut image);
     match answer {
-        Answer::Done(_) => put_page(rt, &page, page_length(answer)),
-        Answer::Refused(r) => put_refusal(rt, r),
+        Ok(_) => put_page(rt, &page, page_length(answer)),
+        Err(r) => put_refusal(rt, r),
     }
 }

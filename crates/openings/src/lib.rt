@@ -2,7 +2,7 @@
 // common with any of them is as far as it is good.
 #![tactic(auto)]
 
-ghost use Rattle.std.specs.Prelude.{◌≡◌, ◌++◌, ◌&&◌, cond, ℕ, ◌+◌, ◌≤◌, ◌<◌, eqb, leb, length, take, drop};
+ghost use Rattle.std.specs.Prelude.{◌≡◌, ◌++◌, ◌&&◌, ℕ, ◌+◌, ◌≤◌, ◌<◌, eqb, length, take, drop};
 ghost use Rattle.grammar.specs.Reading.{look};
 ghost use Rattle.plans.specs.Fronts.{opens};
 ghost use Rattle.openings.specs.Numbered.{word_at, Spells};

@@ -78,6 +78,7 @@ fn fold_with(
 {
     let form = usize::from(branch_of(p));
     let mut i = usize::from(first[form]);
+    // along the places of the branch's form
     while i < count {
         if try_pattern(frames, state, count, links, p, Place(i)) {
             return true;

@@ -19,7 +19,7 @@ use asm::lay_and_define;
 use attempts::{fill_deepest, try_form};
 use instruction::tables::{BR, CALL, CALLF, JMP, JMPF};
 use rules::{Place, Settings};
-use slots::{Checked, Slot, State, slot_at};
+use slots::{Slot, State, slot_at};
 
 // "tries Br, then Jmp"
 fn try_br_then_jmp(
@@ -159,10 +159,8 @@ pub fn shrink(
     let mut values = [0i64; 1024];
     let mut deepest = [0u32; 1024];
     fill_deepest(frames, state, count, &mut deepest);
-    match lay_and_define(frames, state, count, links, &mut positions, &mut values) {
-        Checked::Refused(_) => false,
-        Checked::Passes => shrink_first(
+    lay_and_define(frames, state, count, links, &mut positions, &mut values).is_ok()
+        && shrink_first(
             asked, frames, state, count, links, &values, &positions, &deepest,
-        ),
-    }
+        )
 }

@@ -7,6 +7,7 @@ use native.Mathlib.Omega.{arith}
 use lib.Dec.{leb, ltb, eqb}
 use lib.ListN.{length, get_or}
 use borrow.Author.Tests.{leb-true, ltb-true, eqb-true}
+use Rattle.std.specs.Prelude.{Err, Ok, Result}
 use Rattle.laws.specs.Lists.{every}
 use Rattle.laws.proofs.Tests.{and_true, clash}
 use Rattle.rules.specs.declared.Refusal.{Refusal}
@@ -15,10 +16,7 @@ use Rattle.rules.specs.Answers.{at_place, Judged, ok, no, ◌>>=◌, require, is
 use Rattle.rules.specs.Programs.{Program}
 use Rattle.rules.specs.Listing.{Line, lines_of, statement_lines, form_in, is_digit, unhex, ListingForm, old_form}
 use Rattle.rules.specs.Listing.{new_form, widest, within_limits, well_formed, read_frame_in, read_lines, read_listing}
-use Rattle.listing.specs.declared.Listed.{Listed}
-use Rattle.listing.specs.declared.Listed.TheVariants.{Read as Listed-as-Read, Refused as Listed-as-Refused}
 use Rattle.listing.specs.Tables.{ListedAs}
-use Rattle.pairing.specs.declared.lines.Counted.TheVariants.{Are, Refused}
 use Rattle.pairing.specs.Lines.{chars_of, line_in, Written, CountedAs}
 
 -- an answer that is not refused
@@ -118,18 +116,18 @@ accepted_lines text p e =
     }
 
 -- ---- how many were read
-module _ (frames starts : List ℕ) (r : Listed) (x : Judged Program) (h : ListedAs frames starts r x) where
-  pub counted_read : (n : ℕ) → r ≡ Listed-as-Read n → CountedAs (Are n) x
+module _ (frames starts : List ℕ) (r : Result ℕ Refusal) (x : Judged Program) (h : ListedAs frames starts r x) where
+  pub counted_read : (n : ℕ) → r ≡ Ok n → CountedAs (Ok n) x
   counted_read n e = on x (rw e at h)
     where
-      on : (y : Judged Program) → ListedAs frames starts (Listed-as-Read n) y → CountedAs (Are n) y
+      on : (y : Judged Program) → ListedAs frames starts (Ok n) y → CountedAs (Ok n) y
       on (ok p) g = g.count
       on (no q) g = g
 
-  pub counted_refused : (q : Refusal) → r ≡ Listed-as-Refused q → CountedAs (Refused q) x
+  pub counted_refused : (q : Refusal) → r ≡ Err q → CountedAs (Err q) x
   counted_refused q e = on x (rw e at h)
     where
-      on : (y : Judged Program) → ListedAs frames starts (Listed-as-Refused q) y → CountedAs (Refused q) y
+      on : (y : Judged Program) → ListedAs frames starts (Err q) y → CountedAs (Err q) y
       on (ok p) g = g
       on (no s) g = g
 

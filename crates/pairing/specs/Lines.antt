@@ -1,12 +1,11 @@
 -- The lines of a listing where they stand in its text, as the code finds them.
-use Rattle.std.specs.Prelude.{◌≡◌, true, List, [], map, ℕ, suc, ◌+◌, ◌≤◌, ◌<◌, ◌%◌, length, get_or, take, drop}
+use Rattle.rules.specs.declared.Refusal.{Refusal}
+use Rattle.std.specs.Prelude.{◌≡◌, true, List, [], map, ℕ, suc, ◌+◌, ◌≤◌, ◌<◌, ◌%◌, length, get_or, take, drop, Result, Err, Ok}
 use Rattle.laws.specs.Lists.{every}
 use Rattle.rules.specs.Answers.{Judged, ok, no}
 use Rattle.rules.specs.Programs.{Placeℕ, Program}
 use Rattle.rules.specs.Listing.{lines_of, statement_lines, is_digit}
 use Rattle.listing.specs.Form.{after_mark}
-use Rattle.pairing.specs.declared.lines.Counted.{Counted}
-use Rattle.pairing.specs.declared.lines.Counted.TheVariants.{Are, Refused}
 
 -- the characters of the lines that are statements
 unfoldable pub chars_of : (text : List ℕ) → List (List ℕ)
@@ -32,11 +31,11 @@ abbrev pub FirstAt : (text : List ℕ) (at : ℕ) → Type 0
 FirstAt text at = (drop at text ≡ after_mark text) × (at ≤ length text) × (at ≤ 5)
 
 -- how many statements were read
-abbrev pub CountedAs : Counted → Judged Program → Type 0
-CountedAs (Are n) (ok p) = n ≡ length p
-CountedAs (Are n) (no r) = ⊥
-CountedAs (Refused q) (ok p) = ⊥
-CountedAs (Refused q) (no r) = q ≡ r
+abbrev pub CountedAs : Result ℕ Refusal → Judged Program → Type 0
+CountedAs (Ok n) (ok p) = n ≡ length p
+CountedAs (Ok n) (no r) = ⊥
+CountedAs (Err q) (ok p) = ⊥
+CountedAs (Err q) (no r) = q ≡ r
 
 -- an accepted listing of n statements, and where each of its lines begins
 pub record Lined (text starts : List ℕ) (n : ℕ) : Type 0 where

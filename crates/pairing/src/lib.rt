@@ -7,4 +7,4 @@ mod lines; // where the lines of a listing begin
 
 pub use entries::{entry_count, take_entries};
 pub use found::pair_alike;
-pub use lines::{Counted, find_lines, line_at, same_bytes, statements_of};
+pub use lines::{find_lines, line_at, same_bytes, statements_of};

@@ -5,26 +5,17 @@ ghost use Rattle.rules.specs.Answers.{is_ok};
 ghost use Rattle.rules.specs.Listing.{read_listing};
 ghost use Rattle.pairing.specs.Lines.{chars_of, line_in, FirstAt, CountedAs, Lined};
 
-use listing::{Listed, new_form, read_listing, take_line};
+use listing::{new_form, read_listing, take_line};
 use rules::Refusal;
 
 // How many statements a listing has, or its first refusal.
-#[derive(Clone, Copy)]
-pub enum Counted {
-    Are(usize),
-    Refused(Refusal),
-}
-
-pub fn statements_of(text: &[u8]) -> Counted
+pub fn statements_of(text: &[u8]) -> Result<usize, Refusal>
     ensures { CountedAs result (read_listing text.now) }
 {
     let mut frames = [0u8; 28672];
     let mut starts = [0u16; 4100];
     let mut lines = [0u32; 1024];
-    match read_listing(text, &mut frames, &mut starts, &mut lines) {
-        Listed::Refused(r) => Counted::Refused(r),
-        Listed::Read(n) => Counted::Are(n),
-    }
+    read_listing(text, &mut frames, &mut starts, &mut lines)
 }
 
 // Where the first line begins that is a statement.

@@ -8,10 +8,10 @@ use Prim.Native.Nat.{ℕ, zero, suc, ◌≤◌, ◌<◌}
 use native.Mathlib.Omega.{arith}
 use lib.ListN.{length}
 use lib.IntN.{ℤ, pos}
+use Rattle.rules.specs.declared.Unvalued.{Unvalued}
+use Rattle.std.specs.Prelude.{Result, Ok}
 use Rattle.laws.proofs.Tests.{false_true, true_false, clash, or_first, or_second, or_true, lt_or_le, decide}
 use Rattle.laws.proofs.Stores.{get_in}
-use Rattle.rules.specs.declared.Outcome.{Outcome}
-use Rattle.rules.specs.declared.Outcome.TheVariants.{Is}
 use Rattle.rules.specs.Answers.{ok}
 use Rattle.rules.specs.Expressions.{Expr, num, name, two, one, eval_tree}
 use Rattle.rules.specs.Programs.{Placeℕ, Stmt, gone, label, variable, Naming, unnamed, labels, binds, naming_of, name_in, Program, at, as_name}
@@ -112,13 +112,13 @@ module _ (p : Program) where
 -- ---- what such a name is worth
 -- every name that has a value is one of those seen
 abbrev Covers : List Key → List Entry → Type 0
-Covers seen above = (key : Key) (z : ℤ) → lookup above key ≡ Is z → is_seen seen key ≡ true
+Covers seen above = (key : Key) (z : ℤ) → lookup above key ≡ Ok z → is_seen seen key ≡ true
 
 covers_more : (seen : List Key) (above : List Entry) (k n : ℕ) (v : ℤ) → Covers seen above → Covers (keys_in k (some n) ++ seen) (entry k n v ∷ above)
 unfolding lookup is_seen
 covers_more seen above k n v c key z e = split (same_key (key_of k n) key) refl e
   where
-    split : (b : Bool) → same_key (key_of k n) key ≡ b → cond b (Is v) (lookup above key) ≡ Is z → is_seen (key_of k n ∷ seen) key ≡ true
+    split : (b : Bool) → same_key (key_of k n) key ≡ b → cond b (Ok v) (lookup above key) ≡ Ok z → is_seen (key_of k n ∷ seen) key ≡ true
     split true h e = or_first (same_key (key_of k n) key) (is_seen seen key) h
     split false h e = or_second (same_key (key_of k n) key) (is_seen seen key) (c key z e)
 
@@ -139,20 +139,20 @@ module _ (seen : List Key) (above : List Entry) (i k q : ℕ) (p : Program) (nam
       let r = require_ok _ _ _ tt t in
       let a = then_ok (define above i k q (variable n (name l))) _ names e in
       let b = then_ok (value_at i (worth above k (name l))) _ a.0 a.1 in
-      let value : lookup above (key_of k l) ≡ Is b.0 = value_ok i (lookup above (key_of k l)) b.0 b.1 in
+      let value : lookup above (key_of k l) ≡ Ok b.0 = value_ok i (lookup above (key_of k l)) b.0 b.1 in
       let z : entry k n b.0 ∷ above ≡ a.0 = cc b.2 in
       let own_seen : is_seen (key_of k n ∷ seen) (key_of k n) ≡ true = or_first (same_key (key_of k n) (key_of k n)) (is_seen seen (key_of k n)) (key_same (key_of k n) (key_of k n) refl) in
       let its_seen : is_seen (key_of k n ∷ seen) (key_of k l) ≡ true = or_second (same_key (key_of k n) (key_of k l)) (is_seen seen (key_of k l)) (c (key_of k l) b.0 value) in
-      let up : (key : Key) → is_seen (key_of k n ∷ seen) key ≡ true → lookup names key ≡ cond (same_key (key_of k n) key) (Is b.0) (lookup above key) =
+      let up : (key : Key) → is_seen (key_of k n ∷ seen) key ≡ true → lookup names key ≡ cond (same_key (key_of k n) key) (Ok b.0) (lookup above key) =
       λ key s. later (key_of k n ∷ seen) a.0 (suc i) k q p names key r.1 s a.2 ∙ ap (λ (x : List Entry). lookup x key) (sym z) in
       up (key_of k n) own_seen ∙ hit b.0 (lookup above (key_of k n)) (same_key (key_of k n) (key_of k n)) (key_same (key_of k n) (key_of k n) refl)
       ∙ sym (up (key_of k l) its_seen ∙ either b.0 (lookup above (key_of k l)) (same_key (key_of k n) (key_of k l)) value)
     where
-      hit : (v : ℤ) (o : Outcome) (b : Bool) → b ≡ true → cond b (Is v) o ≡ Is v
+      hit : (v : ℤ) (o : Result ℤ Unvalued) (b : Bool) → b ≡ true → cond b (Ok v) o ≡ Ok v
       hit v o true e = refl
       hit v o false e = false_true e
 
-      either : (v : ℤ) (o : Outcome) (b : Bool) → o ≡ Is v → cond b (Is v) o ≡ Is v
+      either : (v : ℤ) (o : Result ℤ Unvalued) (b : Bool) → o ≡ Ok v → cond b (Ok v) o ≡ Ok v
       either v o true e = refl
       either v o false e = e
 
@@ -175,7 +175,7 @@ module _ (p : Program) (names : List Entry) (once : no_name_twice [] (placed p) 
   bound_worth v n l h = rw (names_are p names defined) (bound_from [] [] 0 0 0 p names (λ key z e. unfold lookup in clash (cc)) once defined v n l h)
 
   -- stands-worth: the label's position
-  pub stands_worth : {key : Key} {b d : ℕ} → Stands p key b d → lookup (names_of p) key ≡ Is (pos (position p d))
+  pub stands_worth : {key : Key} {b d : ℕ} → Stands p key b d → lookup (names_of p) key ≡ Ok (pos (position p d))
   stands_worth (own d n s k) = rw (← k) (label_worth p names once defined d n s)
   stands_worth (other b v n l s k h r) = rw (← k) (bound_worth v n l s ∙ stands_worth r)
 

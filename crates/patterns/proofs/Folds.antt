@@ -9,6 +9,8 @@ use native.Mathlib.Omega.{arith}
 use lib.Dec.{eqb, leb}
 use lib.ListN.{get_or, set}
 use borrow.Author.Tests.{eqb-true, lt-leb}
+use Rattle.std.specs.Prelude.{None, Some, Option as AnOption}
+use Rattle.std.specs.Bool.{then_some}
 use Rattle.laws.specs.Options.{is_some, given, bind}
 use Rattle.laws.proofs.Options.{bind_no}
 use Rattle.laws.proofs.Tests.{clash, none_some, false_true, or_true, lt_or_le}
@@ -20,16 +22,9 @@ use Rattle.rules.specs.Programs.{gone, Instruction, Program, at, as_label}
 use Rattle.rules.specs.Rewriting.{next, branch, unconditional, local_label, names_bare, references, aimed, drop_all}
 use Rattle.listing.specs.Tables.{Held}
 use Rattle.slots.specs.Slots.{Slots, gone_form, program_of}
-use Rattle.patterns.specs.declared.LocalLabel.TheVariants.{Name, Nothing}
 use Rattle.patterns.specs.Targets.{stands_at, form_in, instr_at, label_as}
 use Rattle.patterns.specs.Shapes.{inverted_shape, trampoline_shape}
 use Rattle.patterns.specs.Matches.{Moves, JumpFound, JumpAfter, LandingFound, LandingAfter, OpeningFound, OpeningIs}
-use Rattle.patterns.specs.declared.shapes.Opening.{Opening}
-use Rattle.patterns.specs.declared.shapes.Opening.TheVariants.{At as Opening-as-At, Nothing as Opening-as-Nothing}
-use Rattle.patterns.specs.declared.shapes.Jump.{Jump}
-use Rattle.patterns.specs.declared.shapes.Jump.TheVariants.{At as Jump-as-At, Nothing as Jump-as-Nothing}
-use Rattle.patterns.specs.declared.shapes.Landing.{Landing}
-use Rattle.patterns.specs.declared.shapes.Landing.TheVariants.{At as Landing-as-At, Nothing as Landing-as-Nothing}
 use Rattle.patterns.proofs.Programs.{at_program, past_program}
 use Rattle.patterns.proofs.Instructions.{slot_form, slot_self, branch_form, unconditional_form, branch_found, unconditional_found, transfer_slot}
 
@@ -88,11 +83,11 @@ bind_nothing none f e = refl
 bind_nothing (some a) f e = e a
 
 -- a local label by the code's answer
-pub named_label : (o : Option ℕ) (n : ℕ) → Name n ≡ label_as o → o ≡ some n
+pub named_label : (o : Option ℕ) (n : ℕ) → Some n ≡ label_as o → o ≡ some n
 named_label none n e = clash (cc)
 named_label (some m) n e = cc
 
-pub no_label : (o : Option ℕ) → Nothing ≡ label_as o → o ≡ none
+pub no_label : (o : Option ℕ) → None ≡ label_as o → o ≡ none
 no_label none e = refl
 no_label (some m) e = clash (cc)
 
@@ -102,23 +97,29 @@ label_inside t h m n e = stands_inside t h m (λ g. none_some n (ap local_label 
 
 -- ---- the code's answers, by the case that they are
 
+-- what holds of a test's answer, whichever it is
+pub told_by : {A : Type 0} (P : AnOption A → Type 0) {r : AnOption A} (b : Bool) (x : A) → r ≡ then_some b x → (b ≡ true → P (Some x))
+    → (b ≡ false → P None) → P r
+told_by P true x e f g = subst P (sym e) (f refl)
+told_by P false x e f g = subst P (sym e) (g refl)
+
 module _ (t : Slots) (i : ℕ) where
-  pub jump_found : {r : Jump} {j : Place} → r ≡ Jump-as-At j → JumpAfter t i r → JumpFound t i j.0
+  pub jump_found : {r : AnOption Place} {j : Place} → r ≡ Some j → JumpAfter t i r → JumpFound t i j.0
   jump_found e h = subst (JumpAfter t i) e h
 
-  pub jump_none : {r : Jump} → r ≡ Jump-as-Nothing → JumpAfter t i r → unconditional (stands_at t (next (program_of t) (suc i))) ≡ none
+  pub jump_none : {r : AnOption Place} → r ≡ None → JumpAfter t i r → unconditional (stands_at t (next (program_of t) (suc i))) ≡ none
   jump_none e h = subst (JumpAfter t i) e h
 
-  pub landing_found : {r : Landing} {m : Place} {n : ℕ} → r ≡ Landing-as-At m n → LandingAfter t i r → LandingFound t i m.0 n
+  pub landing_found : {r : AnOption (Place × ℕ)} {m : Place} {n : ℕ} → r ≡ Some (m, n) → LandingAfter t i r → LandingFound t i m.0 n
   landing_found e h = subst (LandingAfter t i) e h
 
-  pub landing_none : {r : Landing} → r ≡ Landing-as-Nothing → LandingAfter t i r → local_label (stands_at t (next (program_of t) (suc i))) ≡ none
+  pub landing_none : {r : AnOption (Place × ℕ)} → r ≡ None → LandingAfter t i r → local_label (stands_at t (next (program_of t) (suc i))) ≡ none
   landing_none e h = subst (LandingAfter t i) e h
 
-  pub opening_found : (f : ℕ) {r : Opening} {j m : Place} {n : ℕ} → r ≡ Opening-as-At j m n → OpeningIs t f i r → OpeningFound t f i j.0 m.0 n
+  pub opening_found : (f : ℕ) {r : AnOption (Place × Place × ℕ)} {j m : Place} {n : ℕ} → r ≡ Some (j, m, n) → OpeningIs t f i r → OpeningFound t f i j.0 m.0 n
   opening_found f e h = subst (OpeningIs t f i) e h
 
-  pub opening_none : (f : ℕ) {r : Opening} → r ≡ Opening-as-Nothing → OpeningIs t f i r → ((to : ℕ) → inverted_shape f to (program_of t) i ≡ none) × (trampoline_shape f (program_of t) i ≡ none)
+  pub opening_none : (f : ℕ) {r : AnOption (Place × Place × ℕ)} → r ≡ None → OpeningIs t f i r → ((to : ℕ) → inverted_shape f to (program_of t) i ≡ none) × (trampoline_shape f (program_of t) i ≡ none)
   opening_none f e h = subst (OpeningIs t f i) e h
 
 -- ---- inverted, for any form that takes the branch's place

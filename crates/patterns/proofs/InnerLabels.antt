@@ -8,6 +8,7 @@ use native.Mathlib.Omega.{arith}
 use lib.Dec.{eqb, leb, ltb}
 use lib.ListN.{length, get_or}
 use borrow.Author.Tests.{lt-ltb, le-ltb, le-leb, lt-leb, eq-eqb, ne_eqb}
+use Rattle.std.specs.Prelude.{Option, None, Some}
 use Rattle.laws.specs.Counts.{all_to}
 use Rattle.laws.specs.Lists.{every}
 use Rattle.laws.proofs.Tests.{false_true, eq_or_not, lt_or_le, and_true}
@@ -22,8 +23,6 @@ use Rattle.rules.specs.Rewriting.{of_inner, every_inner_label}
 use Rattle.rules.specs.Statements.{arg_at, argument_at, operand_at}
 use Rattle.slots.specs.Slots.{Slots, no_owner, slot_at, program_of, target_of, Sound}
 use Rattle.slots.proofs.Frames.{InstrFrame}
-use Rattle.patterns.specs.declared.InnerLabel.{InnerLabel}
-use Rattle.patterns.specs.declared.InnerLabel.TheVariants.{Of, Nothing}
 use Rattle.patterns.specs.Labels.{label_of, label_at, of_label}
 use Rattle.patterns.specs.Targets.{stands_at, form_in, TargetIn}
 use Rattle.patterns.proofs.Programs.{at_program}
@@ -98,7 +97,7 @@ module _ (f : ℕ → ℕ → Bool) where
   of_label_lem (inner i o) = refl
 
 -- the last operand of what carries no target is no inner label
-plain_label : (x : Operand) → is_plain x ≡ true → label_of x ≡ Nothing
+plain_label : (x : Operand) → is_plain x ≡ true → label_of x ≡ None
 plain_label (register r) e = refl
 plain_label (value d) e = refl
 plain_label (inner i o) e = false_true e
@@ -109,7 +108,7 @@ last_plain [] p = refl
 last_plain (x ∷ []) p = (and_true (is_plain x) true p).0
 last_plain (x ∷ y ∷ xs) p = last_plain (y ∷ xs) (and_true (is_plain x) (every is_plain (y ∷ xs)) p).1
 
-none_label : (s : Stmt) → (kind_of s ≡ 1 → ⊥) → label_of (last_of (args_of s)) ≡ Nothing
+none_label : (s : Stmt) → (kind_of s ≡ 1 → ⊥) → label_of (last_of (args_of s)) ≡ None
 none_label gone n = refl
 none_label (instr g xs c) n = absurd (n refl)
 none_label (label m) n = refl
@@ -149,11 +148,11 @@ labels_by t s f =
 
 module _ (t : Slots) (s : Sound t) (i : ℕ) (l : i < t.count) where
   -- what is no transfer carries no target
-  pub label_none : is_transfer (form_in (stands_at t i)) ≡ false → label_at t i ≡ Nothing
+  pub label_none : is_transfer (form_in (stands_at t i)) ≡ false → label_at t i ≡ None
   unfolding label_at
   label_none n = ⊎_elim on (none_label (slot_at t i)) (eq_or_not (kind_of (slot_at t i)) 1)
     where
-      on : kind_of (slot_at t i) ≡ 1 → label_of (last_of (args_of (slot_at t i))) ≡ Nothing
+      on : kind_of (slot_at t i) ≡ 1 → label_of (last_of (args_of (slot_at t i))) ≡ None
       on e =
           let o = own t s.held i l e in
           let m : is_transfer (get_or t.forms i 0) ≡ false = ap is_transfer (sym (ap form_in (at_program t i l) ∙ slot_form t s.held i l e)) ∙ n in
@@ -168,10 +167,10 @@ module _ (t : Slots) (s : Sound t) (i : ℕ) (l : i < t.count) where
     label_target = let h = transfer_slot t s.held i l n in carried_target t s i l h.0 h.1
 
     pub label_inner : get_or t.owners (get_or t.carry i 0) 0 < no_owner
-        → label_at t i ≡ Of (record { 0 = get_or t.owners (get_or t.carry i 0) 0 }) (get_or t.offsets (get_or t.carry i 0) 0)
+        → label_at t i ≡ Some ((record { 0 = get_or t.owners (get_or t.carry i 0) 0 }), (get_or t.offsets (get_or t.carry i 0) 0))
     label_inner m = carries ∙ ap label_of (target_inner t (get_or t.carry i 0) m)
 
-    pub label_written : no_owner ≤ get_or t.owners (get_or t.carry i 0) 0 → label_at t i ≡ Nothing
+    pub label_written : no_owner ≤ get_or t.owners (get_or t.carry i 0) 0 → label_at t i ≡ None
     label_written m =
         let c = get_or t.carry i 0 in
         carries ∙ ap label_of (target_written t c m ∙ (target_reads t.frames t.starts t.count s.held c label_target).2)
@@ -181,8 +180,8 @@ module _ (t : Slots) (s : Sound t) (i : ℕ) (l : i < t.count) where
 above : (a b : ℕ) → ltb a b ≡ not (leb b a)
 above a b = ⊎_elim (λ l. rw (lt-ltb a b l, lt-leb b a l)) (λ l. rw (le-ltb a b l, le-leb b a l)) (lt_or_le a b)
 
-module _ (i m : ℕ) {l : InnerLabel} {w : Place} {o : ℕ} (e : l ≡ Of w o) where
-  abbrev pub outside : InnerLabel → Bool
+module _ (i m : ℕ) {l : Option (Place × ℕ)} {w : Place} {o : ℕ} (e : l ≡ Some (w, o)) where
+  abbrev pub outside : Option (Place × ℕ) → Bool
   outside x = of_label (λ owner k. not (ltb i owner && leb owner m)) x
 
   pub outside_behind : i < w.0 → ltb m w.0 ≡ outside l
@@ -191,8 +190,8 @@ module _ (i m : ℕ) {l : InnerLabel} {w : Place} {o : ℕ} (e : l ≡ Of w o) w
   pub outside_before : w.0 ≤ i → true ≡ outside l
   outside_before h = sym (ap outside e ∙ rw (le-ltb i w.0 h))
 
-module _ (i : ℕ) {l : InnerLabel} {w : Place} {o : ℕ} (e : l ≡ Of w o) where
-  abbrev pub not_interior : InnerLabel → Bool
+module _ (i : ℕ) {l : Option (Place × ℕ)} {w : Place} {o : ℕ} (e : l ≡ Some (w, o)) where
+  abbrev pub not_interior : Option (Place × ℕ) → Bool
   not_interior x = of_label (λ owner k. not (eqb owner i && leb 1 k)) x
 
   pub interior_here : w.0 ≡ i → ltb o 1 ≡ not_interior l

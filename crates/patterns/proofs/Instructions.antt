@@ -9,6 +9,7 @@ use native.Mathlib.Omega.{arith}
 use lib.Dec.{eqb}
 use lib.ListN.{length, get_or}
 use borrow.Author.Tests.{ne_eqb, lt-ltb, le-ltb, lt-leb, le-leb}
+use Rattle.std.specs.Prelude.{None, Some}
 use Rattle.laws.specs.Options.{is_some, given, bind}
 use Rattle.laws.proofs.Tests.{false_true, true_false, cond_true, cond_false, lt_or_le}
 use Rattle.rules.specs.declared.Kind.{Kind}
@@ -27,7 +28,6 @@ use Rattle.slots.proofs.Slots.{slot_gone, kind_kept, kind_read, slot_instr, not_
 use Rattle.instruction.proofs.Rows.{has_target}
 use Rattle.patterns.proofs.Programs.{at_program}
 use Rattle.patterns.specs.Targets.{stands_at, form_in, instr_at, label_as, TargetIn, last_bytes}
-use Rattle.patterns.specs.declared.LocalLabel.TheVariants.{Name, Nothing}
 
 -- ---- a statement by its form
 
@@ -254,7 +254,7 @@ module _ (t : Slots) (s : Sound t) (i : ℕ) (l : i < t.count) (e : kind_of (slo
 
 -- ---- local labels
 
-pub no_label : (s : Stmt) → (kind_of s ≡ 2 → ⊥) → label_as (local_label s) ≡ Nothing
+pub no_label : (s : Stmt) → (kind_of s ≡ 2 → ⊥) → label_as (local_label s) ≡ None
 unfolding local_label as_label bind
 no_label gone n = refl
 no_label (instr f xs c) n = refl
@@ -266,11 +266,11 @@ no_label (bytes es) n = refl
 no_label (words es) n = refl
 no_label (pad add m) n = refl
 
-pub low_label : (n : ℕ) → n < 0x8000 → label_as (local_label (label n)) ≡ Nothing
+pub low_label : (n : ℕ) → n < 0x8000 → label_as (local_label (label n)) ≡ None
 unfolding local_label as_label bind given
 low_label n l = rw (lt-leb 0x8000 n l)
 
-pub high_label : (n : ℕ) → 0x8000 ≤ n → label_as (local_label (label n)) ≡ Name n
+pub high_label : (n : ℕ) → 0x8000 ≤ n → label_as (local_label (label n)) ≡ Some n
 unfolding local_label as_label bind given
 high_label n l = rw (le-leb 0x8000 n l)
 

@@ -9,6 +9,7 @@ use native.Mathlib.Omega.{arith}
 use lib.Dec.{eqb}
 use lib.ListN.{length, get_or, length-drop}
 use borrow.Author.Tests.{eq-eqb, ne_eqb, eqb-true}
+use Rattle.std.specs.Prelude.{None, Some}
 use Rattle.laws.proofs.Tests.{clash, and_true, and_both, second_false, same_test, eq_or_not, lt_or_le}
 use Rattle.rules.specs.Forms.{operands_at}
 use Rattle.rules.specs.Names.{context_at}
@@ -29,7 +30,6 @@ use Rattle.slots.proofs.Tables.{length_frame, bytes_frame}
 use Rattle.patterns.specs.Matches.{Moves}
 use Rattle.patterns.specs.Mentions.{Short, Refers, Told}
 use Rattle.patterns.specs.Targets.{stands_at, label_as, last_bytes, last_links}
-use Rattle.patterns.specs.declared.LocalLabel.TheVariants.{Name, Nothing}
 use Rattle.patterns.proofs.Instructions.{no_label, low_label, high_label}
 use Rattle.patterns.proofs.Mentions.{means}
 use Rattle.patterns.proofs.Programs.{at_program}
@@ -63,11 +63,11 @@ module _ (t : Slots) (h : Held t.frames t.starts t.count) (m n : ℕ) (l : m < t
   abbrev there : List ℕ
   there = frame_at t.frames t.starts m
 
-  said : Name n ≡ label_as (local_label (slot_at t m))
+  said : Some n ≡ label_as (local_label (slot_at t m))
   said = sym (ap (λ s. label_as (local_label s)) (sym (at_program t m l)) ∙ ap label_as is)
 
   kind_there : kind_of (slot_at t m) ≡ 2
-  kind_there = ⊎_elim (λ e. e) (λ e. let z : Name n ≡ Nothing = said ∙ no_label (slot_at t m) e in clash (cc)) (eq_or_not (kind_of (slot_at t m)) 2)
+  kind_there = ⊎_elim (λ e. e) (λ e. let z : Some n ≡ None = said ∙ no_label (slot_at t m) e in clash (cc)) (eq_or_not (kind_of (slot_at t m)) 2)
 
   slot_there : slot_at t m ≡ label (pair_at there 1)
   slot_there = slot_data t m 0 kind_there ∙ (written_frame t h m l 1 kind_there).is
@@ -75,9 +75,9 @@ module _ (t : Slots) (h : Held t.frames t.starts t.count) (m n : ℕ) (l : m < t
   -- "Names 8000 and up are local"
   named : (0x8000 ≤ pair_at there 1) × (pair_at there 1 ≡ n)
   named =
-      let here : Name n ≡ label_as (local_label (label (pair_at there 1))) = said ∙ ap (λ s. label_as (local_label s)) slot_there in
-      ⊎_elim (λ g. let z : Name n ≡ Nothing = here ∙ low_label (pair_at there 1) g in clash (cc))
-      (λ g. (g, let z : Name n ≡ Name (pair_at there 1) = here ∙ high_label (pair_at there 1) g in cc)) (lt_or_le (pair_at there 1) 0x8000)
+      let here : Some n ≡ label_as (local_label (label (pair_at there 1))) = said ∙ ap (λ s. label_as (local_label s)) slot_there in
+      ⊎_elim (λ g. let z : Some n ≡ None = here ∙ low_label (pair_at there 1) g in clash (cc))
+      (λ g. (g, let z : Some n ≡ Some (pair_at there 1) = here ∙ high_label (pair_at there 1) g in cc)) (lt_or_le (pair_at there 1) 0x8000)
 
   pub label_is : stands_at t m ≡ label n
   label_is = at_program t m l ∙ slot_there ∙ ap label named.1

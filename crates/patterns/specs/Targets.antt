@@ -1,13 +1,11 @@
 -- What stands at a place, as a pattern asks: a form, a local label, the target of a transfer.
-use Rattle.std.specs.Prelude.{◌≡◌, true, List, ℕ, ◌-◌, ◌<◌, length, get_or, drop}
+use Rattle.std.specs.Prelude.{◌≡◌, true, List, ℕ, ◌-◌, ◌<◌, length, get_or, drop, Option as AnOption, None, Some}
 use Rattle.std.proofs.Math.Option.{Option, none, some}
 use Rattle.rules.specs.Forms.{is_transfer, operands_at}
 use Rattle.rules.specs.Programs.{Placeℕ, Stmt, Instruction, on_instr, args_of, at}
 use Rattle.rules.specs.Statements.{argument_at}
 use Rattle.listing.specs.Tables.{frame_at}
 use Rattle.slots.specs.Slots.{Slots, gone_form, slot_at, program_of}
-use Rattle.patterns.specs.declared.LocalLabel.{LocalLabel}
-use Rattle.patterns.specs.declared.LocalLabel.TheVariants.{Name, Nothing}
 
 -- the statement at a place of the program; `gone` past the end
 abbrev pub stands_at : Slots → (i : Placeℕ) → Stmt
@@ -21,9 +19,9 @@ form_in s = on_instr gone_form (λ x. x.form) s
 abbrev pub instr_at : Slots → (i : Placeℕ) → Instruction
 instr_at t i = record { form = get_or t.forms i 0; args = args_of (slot_at t i); carried = get_or t.carry i 0 }
 
-abbrev pub label_as : Option ℕ → LocalLabel
-label_as none = Nothing
-label_as (some n) = Name n
+abbrev pub label_as : Option ℕ → AnOption ℕ
+label_as none = None
+label_as (some n) = Some n
 
 -- ---- the target that was written at a place: the last argument of its frame
 

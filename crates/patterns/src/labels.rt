@@ -6,37 +6,38 @@ ghost use Rattle.slots.specs.Slots.{program_of, Positioned, Sound};
 ghost use Rattle.patterns.specs.Labels.{label_at, of_label, OwnerIn};
 ghost use Rattle.slots.specs.State.{table_of};
 
-use crate::InnerLabel;
 use crate::targets::form_at;
 use instruction::tables::is_transfer;
 use rules::{Address, Place};
 use slots::{NO_OWNER, State, carry_at, offset_at, owner_at, size_at};
 
-// The inner label that the target of the transfer in a slot became.
-pub fn inner_label_at(frames: &[u8], state: &State, count: usize, at: Place) -> InnerLabel
+// The inner label that the target of the transfer in a slot became: its owner's place, and its offset.
+pub fn inner_label_at(
+    frames: &[u8],
+    state: &State,
+    count: usize,
+    at: Place,
+) -> Option<(Place, usize)>
     requires { Sound (table_of frames.now state.now count) × (at.0 < count) }
     ensures { let t = table_of frames.now state.now count in
         (result ≡ label_at t at.0) × OwnerIn count result }
 {
     if !is_transfer(form_at(frames, state, count, at)) {
-        return InnerLabel::Nothing;
+        return None;
     }
     let written = carry_at(state, at);
     let owner = owner_at(state, written);
     if owner < NO_OWNER {
-        return InnerLabel::Of(Place(owner), offset_at(state, written));
+        return Some((Place(owner), offset_at(state, written)));
     }
-    InnerLabel::Nothing
+    None
 }
 
 // Not right before an owner from i + 1 to m.
-fn is_outside(label: InnerLabel, i: Place, m: Place) -> bool
+fn is_outside(label: Option<(Place, usize)>, i: Place, m: Place) -> bool
     ensures { result ≡ of_label (λ owner o. not (ltb i.0 owner && leb owner m.0)) label }
 {
-    match label {
-        InnerLabel::Of(owner, _) => !(i.0 < owner.0 && owner.0 <= m.0),
-        InnerLabel::Nothing => true,
-    }
+    label.is_none_or(|(owner, _)| !(i.0 < owner.0 && owner.0 <= m.0))
 }
 
 // No inner label stands behind place i and before place m.
@@ -55,13 +56,10 @@ pub fn no_inner_label_between(
 }
 
 // Not of offset 1 or more in the run right before place i.
-fn is_not_interior(label: InnerLabel, i: Place) -> bool
+fn is_not_interior(label: Option<(Place, usize)>, i: Place) -> bool
     ensures { result ≡ of_label (λ owner o. not (eqb owner i.0 && leb 1 o)) label }
 {
-    match label {
-        InnerLabel::Of(owner, offset) => !(owner.0 == i.0 && 1 <= offset),
-        InnerLabel::Nothing => true,
-    }
+    label.is_none_or(|(owner, offset)| !(owner.0 == i.0 && 1 <= offset))
 }
 
 // "A replaced instruction may have no inner label with offset 1 or more in the run right before it."
@@ -86,12 +84,13 @@ fn fits_owner(
     ensures { let t = table_of frames.now state.now count in
         result ≡ of_label (λ owner o. ltb o (size_in (program_of t) owner)) (label_at t at.0) }
 {
+    // two steps with the label: a match reads plainer than `is_none_or` over a block
     match inner_label_at(frames, state, count, at) {
-        InnerLabel::Of(owner, offset) => {
+        Some((owner, offset)) => {
             let q = Address(positions[owner.0] as usize);
             offset < size_at(frames, state, count, owner, q)
         }
-        InnerLabel::Nothing => true,
+        None => true,
     }
 }
 

@@ -10,7 +10,6 @@ ghost use Rattle.slots.specs.Slots.{slots, slot_at, target_of, Sound};
 ghost use Rattle.patterns.specs.Targets.{stands_at, form_in, instr_at, label_as, TargetIn, last_bytes, last_links};
 ghost use Rattle.slots.specs.State.{starts_in, forms_in, carry_in, owners_in};
 
-use crate::LocalLabel;
 use expression::is_bare;
 use instruction::tables::{is_unconditional, operand_count};
 use rules::{Place, Statement};
@@ -53,7 +52,8 @@ pub fn unconditional_at(frames: &[u8], state: &State, count: usize, at: Place) -
     is_unconditional(form_at(frames, state, count, at))
 }
 
-pub fn local_label_at(frames: &[u8], state: &State, count: usize, at: Place) -> LocalLabel
+// The name of the label at a place, if it is local.
+pub fn local_label_at(frames: &[u8], state: &State, count: usize, at: Place) -> Option<u16>
     requires { Held frames.now (starts_in state.now) count }
     ensures { (carry owners offsets : List ℕ) →
         (let t = slots frames.now (starts_in state.now) count (forms_in state.now) carry owners offsets in
@@ -61,18 +61,18 @@ pub fn local_label_at(frames: &[u8], state: &State, count: usize, at: Place) -> 
 {
     let i = at.0;
     if count <= i {
-        return LocalLabel::Nothing;
+        return None;
     }
     let Slot::Holds(statement) = slot_at(frames, state, count, at) else {
-        return LocalLabel::Nothing;
+        return None;
     };
     let Statement::Label(name) = statement else {
-        return LocalLabel::Nothing;
+        return None;
     };
     if name < 0x8000 {
-        return LocalLabel::Nothing;
+        return None;
     }
-    LocalLabel::Name(name)
+    Some(name)
 }
 
 // The bytes of a transfer's frame from its target on.

@@ -4,16 +4,15 @@ use mathlib.Core.List.{List, []}
 use Prim.Native.Nat.{ℕ, ◌-◌, ◌≤◌}
 use native.Mathlib.Omega.{arith}
 use lib.ListN.{length, drop, length-drop}
+use Rattle.std.specs.Prelude.{Ok, Err, Result}
 use Rattle.grammar.specs.Reading.{WrongAt}
 use Rattle.plans.specs.Lines.{line_plan}
 use Rattle.plans.proofs.Wholes.{reads_line, column}
-use Rattle.laying.specs.declared.Told.{Told}
-use Rattle.laying.specs.declared.Told.TheVariants.{Frame, Wrong}
 use Rattle.laying.specs.Speaking.{Spoken}
 use Rattle.people.specs.Reading.{Answers}
 
-pub answers : (s a : List ℕ) (r : Told) → Spoken line_plan s 0 a r → Answers s a r
-answers s a (Frame to) (x, (w, h)) =
+pub answers : (s a : List ℕ) (r : Result ℕ ℕ) → Spoken line_plan s 0 a r → Answers s a r
+answers s a (Ok to) (x, (w, h)) =
     record {
       x = x;
       line = (reads_line x s [] w).0;
@@ -24,5 +23,5 @@ answers s a (Frame to) (x, (w, h)) =
       frame = h.front;
       passes = λ l f. omega (arith, h.over l f.0, f.1);
     }
-answers s a (Wrong c) (w, h) =
+answers s a (Err c) (w, h) =
     let e : length s - length (drop c s) ≡ c = omega (arith, length-drop c s) in subst (λ n. WrongAt s n) e (column s (drop c s) w)

@@ -6,6 +6,7 @@ use Prim.Native.Nat.{ℕ, ◌≤◌, ◌<◌}
 use native.Mathlib.Omega.{arith}
 use lib.ListN.{length, drop}
 use lib.Seq.{drop-drop}
+use Rattle.std.specs.Prelude.{Ok, Err, Result}
 use Rattle.laws.specs.Lists.{each, total}
 use Rattle.instruction.proofs.Entries.{NoneIn}
 use Rattle.rules.specs.Patterns.{codes}
@@ -25,20 +26,18 @@ use Rattle.openings.specs.Numbered.{word_at}
 use Rattle.openings.proofs.Numbered.{number_in}
 use Rattle.laying.specs.Laying.{Added}
 use Rattle.laying.proofs.Laying.{nothing_stands}
-use Rattle.laying.specs.declared.Told.{Told}
-use Rattle.laying.specs.declared.Told.TheVariants.{Frame, Wrong}
 use Rattle.laying.specs.Speaking.{Held, Spoken}
 use Rattle.laying.proofs.Speaking.{through, first_byte}
 
 -- ---- a word that opens the line, and one that is the line
 
-opened : (x : List ℕ) (P : Plan) (s : List ℕ) (n : ℕ) (a : List ℕ) (r : Told) → In (opening x P) word_list → s ≡ x ++ drop n s
+opened : (x : List ℕ) (P : Plan) (s : List ℕ) (n : ℕ) (a : List ℕ) (r : Result ℕ ℕ) → In (opening x P) word_list → s ≡ x ++ drop n s
     → Spoken P s n a r → Spoken line_plan s 0 a r
 opened x P s n a r i e g = through line_plan P s 0 n a r (λ o w. subst (λ t. Walks line_plan t o) (sym e) (line_opens x P (drop n s) o i w))
     g
 
 closed : (x : List ℕ) (y : Stmt) (s : List ℕ) (a : List ℕ) (to : ℕ) → In (closing x y) word_list → s ≡ x → Held a to y
-    → Spoken line_plan s 0 a (Frame to)
+    → Spoken line_plan s 0 a (Ok to)
 closed x y s a to i e h = (y, (subst (λ t. Walks line_plan t (got y [])) (sym e) (line_closes x y i), h))
 
 -- ---- by number
@@ -50,10 +49,10 @@ module _ (s : List ℕ) (n i : ℕ) (l : i < 76) (m : Matches (opens (word_at i)
   pub row_within : (x : List ℕ) (P : Plan) → word_at i ≡ opening x P → n ≤ length s
   row_within x P e = (opening_at x P e).1.0
 
-  pub row_opens : (x : List ℕ) (P : Plan) (a : List ℕ) (r : Told) → word_at i ≡ opening x P → Spoken P s n a r → Spoken line_plan s 0 a r
+  pub row_opens : (x : List ℕ) (P : Plan) (a : List ℕ) (r : Result ℕ ℕ) → word_at i ≡ opening x P → Spoken P s n a r → Spoken line_plan s 0 a r
   row_opens x P a r e g = let y = opening_at x P e in opened x P s n a r y.0 y.1.1 g
 
-  pub row_closes : (x : List ℕ) (y : Stmt) (a : List ℕ) (to : ℕ) → word_at i ≡ closing x y → Held a to y → Spoken line_plan s 0 a (Frame to)
+  pub row_closes : (x : List ℕ) (y : Stmt) (a : List ℕ) (to : ℕ) → word_at i ≡ closing x y → Held a to y → Spoken line_plan s 0 a (Ok to)
   row_closes x y a to e h = closed x y s a to (subst (λ w. In w word_list) e (number_in i l))
       (subst (λ w. Matches (opens w) (spelling w) s n) e m) h
 
@@ -98,16 +97,16 @@ dot_in : (w : Word) → In w dot_words → In w word_list
 unfolding word_list
 dot_in w i = in_first w dot_words mnemonics i
 
-pub global_spoken : (s : List ℕ) (a : List ℕ) (r : Told) → look s ≡ 103 → Spoken global_plan s 1 a r → Spoken line_plan s 0 a r
+pub global_spoken : (s : List ℕ) (a : List ℕ) (r : Result ℕ ℕ) → look s ≡ 103 → Spoken global_plan s 1 a r → Spoken line_plan s 0 a r
 global_spoken s a r e g = opened (codes "g") global_plan s 1 a r (dot_in (opening (codes "g") global_plan) here) (first_byte s 102 e) g
 
-pub local_spoken : (s : List ℕ) (a : List ℕ) (r : Told) → look s ≡ 46 → look (drop 1 s) ≡ 108 → Spoken local_plan s 2 a r
+pub local_spoken : (s : List ℕ) (a : List ℕ) (r : Result ℕ ℕ) → look s ≡ 46 → look (drop 1 s) ≡ 108 → Spoken local_plan s 2 a r
     → Spoken line_plan s 0 a r
 local_spoken s a r e q g =
     opened (codes ".l") local_plan s 2 a r (dot_in (opening (codes ".l") local_plan) (there here))
     (first_byte s 45 e ∙ ap (λ t. 46 ∷ t) (first_byte (drop 1 s) 107 q ∙ ap (λ t. 108 ∷ t) (drop-drop 1 1 s))) g
 
-pub none_spoken : (s : List ℕ) (a : List ℕ) (c : ℕ) → Far word_list s c → Spoken line_plan s 0 a (Wrong c)
+pub none_spoken : (s : List ℕ) (a : List ℕ) (c : ℕ) → Far word_list s c → Spoken line_plan s 0 a (Err c)
 none_spoken s a c f = (line_misses s c f, on f.some)
   where
     on : (c ≡ 0) ⊎ ((w : Word) × (In w word_list × (common (spelling w) s ≡ c))) → c ≤ length s

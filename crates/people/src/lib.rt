@@ -26,7 +26,7 @@ fn form_line(s: &[u8], n: usize, form: u8, out: &mut [u8; 120]) -> Told
         return arguments(s, n, form, out);
     }
     let a = put(out, 0, 1);
-    Told::Frame(put(out, a, form))
+    Ok(put(out, a, form))
 }
 
 // A dot word, by its number, which ends at n.
@@ -40,7 +40,7 @@ fn dot_line(s: &[u8], n: usize, row: u8, out: &mut [u8; 120]) -> Told
         72 => bytes_line(s, n, out),
         73 => words_line(s, n, out),
         74 => align_line(s, n, out),
-        _ => Told::Frame(put(out, 0, 4)),
+        _ => Ok(put(out, 0, 4)),
     }
 }
 
@@ -58,6 +58,6 @@ pub fn read_line(s: &[u8], out: &mut [u8; 120]) -> Told
             }
             dot_line(s, n, row, out)
         }
-        Begun::Nothing(c) => Told::Wrong(c),
+        Begun::Nothing(c) => Err(c),
     }
 }

@@ -8,32 +8,29 @@ use native.Mathlib.Omega.{arith}
 use lib.Dec.{eqb}
 use lib.ListN.{length, drop, length-drop, drop_of_length-le}
 use borrow.Author.Tests.{ne_eqb}
+use Rattle.std.specs.Prelude.{Result, Ok, Err}
 use Rattle.rules.specs.Expressions.{pair}
 use Rattle.rules.specs.Programs.{Stmt, org, pad}
 use Rattle.rules.specs.Output.{frame_of}
 use Rattle.grammar.specs.Reading.{is_decimal, look}
 use Rattle.grammar.specs.Going.{Read, got, stuck, digits}
-use Rattle.leaves.specs.declared.Value.{Value}
-use Rattle.leaves.specs.declared.Value.TheVariants.{Is, Not}
 use Rattle.plans.specs.Plans as plans
 use Rattle.plans.specs.Plans.{Plan, done, fork, decimal, finish, Walks}
 use Rattle.plans.specs.Finals.{counted, multiples}
 use Rattle.plans.specs.Lines.{org_plan, align_plan}
 use Rattle.laying.specs.Laying.{Stands, Added}
 use Rattle.laying.proofs.Laying.{nothing_stands}
-use Rattle.laying.specs.declared.Told.{Told}
-use Rattle.laying.specs.declared.Told.TheVariants.{Frame, Wrong}
 use Rattle.laying.specs.Speaking.{Held, Spoken, ends_at, number_of, Counted}
 use Rattle.laying.proofs.Speaking.{through, done_spoken, fork_byte, fork_wrong, decimal_got, decimal_stuck}
 
-pub counted_most : (s : List ℕ) (k most : ℕ) (r : Value) (n v : ℕ) → r ≡ Is n v → Counted s k most r → v ≤ most
+pub counted_most : (s : List ℕ) (k most : ℕ) (r : Result (ℕ × ℕ) ℕ) (n v : ℕ) → r ≡ Ok (n, v) → Counted s k most r → v ≤ most
 counted_most s k most r n v q c = (subst (λ x. Counted s k most x) q c).1.1
 
 org_held : (a : List ℕ) (to n : ℕ) → Stands a to (5 ∷ pair n) 0 → Held a to (org n)
 unfolding frame_of
 org_held a to n w = w
 
-pub org_ends : (s : List ℕ) (k : ℕ) (a : List ℕ) (r : Value) (n v to : ℕ) → r ≡ Is n v → Counted s k 65535 r → Stands a to (5 ∷ pair v) 0
+pub org_ends : (s : List ℕ) (k : ℕ) (a : List ℕ) (r : Result (ℕ × ℕ) ℕ) (n v to : ℕ) → r ≡ Ok (n, v) → Counted s k 65535 r → Stands a to (5 ∷ pair v) 0
     → Spoken org_plan s k a (ends_at (length s) n to)
 unfolding org_plan
 org_ends s k a r n v to q c w =
@@ -41,7 +38,7 @@ org_ends s k a r n v to q c w =
     through (decimal 65535 (λ l. done (org l))) (done (org v)) s k n a (ends_at (length s) n to)
     (λ o g. decimal_got 65535 (λ l. done (org l)) (drop k s) (drop n s) v o y.0 g) (done_spoken (org v) s n a to y.1.0 (org_held a to v w))
 
-pub org_wrong : (s : List ℕ) (k : ℕ) (a : List ℕ) (r : Value) (n : ℕ) → r ≡ Not n → Counted s k 65535 r → Spoken org_plan s k a (Wrong n)
+pub org_wrong : (s : List ℕ) (k : ℕ) (a : List ℕ) (r : Result (ℕ × ℕ) ℕ) (n : ℕ) → r ≡ Err n → Counted s k 65535 r → Spoken org_plan s k a (Err n)
 unfolding org_plan
 org_wrong s k a r n q c =
     let y = subst (λ x. Counted s k 65535 x) q c in (decimal_stuck 65535 (λ l. done (org l)) (drop k s) (drop n s) y.0, y.1)
@@ -66,17 +63,17 @@ multiples_is f t o e = on (is_decimal (look t)) refl e
     on true q e = ap (counted f) e
     on false q e = ap (counted f) e
 
-module _ (add : ℕ) (s : List ℕ) (k : ℕ) (a : List ℕ) (r : Value) (c : Counted s k 256 r) where
-  pub multiple_not : (n : ℕ) → r ≡ Not n → Spoken (finish (multiples 256 (pad add))) s k a (Wrong n)
+module _ (add : ℕ) (s : List ℕ) (k : ℕ) (a : List ℕ) (r : Result (ℕ × ℕ) ℕ) (c : Counted s k 256 r) where
+  pub multiple_not : (n : ℕ) → r ≡ Err n → Spoken (finish (multiples 256 (pad add))) s k a (Err n)
   multiple_not n q =
       let y = subst (λ x. Counted s k 256 x) q c in
       (plans.Walks.finishes (multiples_is (pad add) (drop k s) (stuck (drop n s)) y.0), y.1)
 
-  module _ (n v : ℕ) (q : r ≡ Is n v) where
+  module _ (n v : ℕ) (q : r ≡ Ok (n, v)) where
     pub multiple_sizes : (n ≤ length s) × (v ≤ 256)
     multiple_sizes = let y = subst (λ x. Counted s k 256 x) q c in y.1
 
-    pub multiple_more : n < length s → Spoken (finish (multiples 256 (pad add))) s k a (Wrong n)
+    pub multiple_more : n < length s → Spoken (finish (multiples 256 (pad add))) s k a (Err n)
     multiple_more h =
         let y = subst (λ x. Counted s k 256 x) q c in (
           plans.Walks.finishes (multiples_is (pad add) (drop k s) (got v (drop n s)) y.0
@@ -89,7 +86,7 @@ module _ (add : ℕ) (s : List ℕ) (k : ℕ) (a : List ℕ) (r : Value) (c : Co
         on zero (d ∷ t) l = refl
         on (suc v) (d ∷ t) l = refl
 
-    pub multiple_zero : length s ≤ n → v < 1 → Spoken (finish (multiples 256 (pad add))) s k a (Wrong n)
+    pub multiple_zero : length s ≤ n → v < 1 → Spoken (finish (multiples 256 (pad add))) s k a (Err n)
     multiple_zero h z =
         let y = subst (λ x. Counted s k 256 x) q c in
         let e : drop n s ≡ [] = drop_of_length-le s h in (
@@ -103,7 +100,7 @@ module _ (add : ℕ) (s : List ℕ) (k : ℕ) (a : List ℕ) (r : Value) (c : Co
         on (suc v) l = absurd (omega arith)
 
     pub multiple_ends : (to : ℕ) → length s ≤ n → 1 ≤ v → Stands a to (frame_of (pad add v)) 0
-        → Spoken (finish (multiples 256 (pad add))) s k a (Frame to)
+        → Spoken (finish (multiples 256 (pad add))) s k a (Ok to)
     multiple_ends to h z w =
         let y = subst (λ x. Counted s k 256 x) q c in
         let e : drop n s ≡ [] = drop_of_length-le s h in (
@@ -124,17 +121,17 @@ module _ (add : ℕ) (s : List ℕ) (k : ℕ) (a : List ℕ) (r : Value) (c : Co
 abbrev Comma : ℕ → Plan
 Comma n = fork none (λ c. eqb c 44) (λ c. finish (multiples 256 (pad n)))
 
-module _ (s : List ℕ) (k : ℕ) (a : List ℕ) (r : Value) (c : Counted s k 255 r) where
-  pub align_not : (n : ℕ) → r ≡ Not n → Spoken (align_plan pad) s k a (Wrong n)
+module _ (s : List ℕ) (k : ℕ) (a : List ℕ) (r : Result (ℕ × ℕ) ℕ) (c : Counted s k 255 r) where
+  pub align_not : (n : ℕ) → r ≡ Err n → Spoken (align_plan pad) s k a (Err n)
   unfolding align_plan
   align_not n q =
       let y = subst (λ x. Counted s k 255 x) q c in (decimal_stuck 255 Comma (drop k s) (drop n s) y.0, y.1)
 
-  module _ (n v : ℕ) (q : r ≡ Is n v) where
+  module _ (n v : ℕ) (q : r ≡ Ok (n, v)) where
     pub align_sizes : (n ≤ length s) × (v ≤ 255)
     align_sizes = let y = subst (λ x. Counted s k 255 x) q c in y.1
 
-    pub align_comma : (x : Told) → look (drop n s) ≡ 44 → Spoken (finish (multiples 256 (pad v))) s (n + 1) a x
+    pub align_comma : (x : Result ℕ ℕ) → look (drop n s) ≡ 44 → Spoken (finish (multiples 256 (pad v))) s (n + 1) a x
         → Spoken (align_plan pad) s k a x
     unfolding align_plan
     align_comma x e g =
@@ -144,7 +141,7 @@ module _ (s : List ℕ) (k : ℕ) (a : List ℕ) (r : Value) (c : Counted s k 25
         decimal_got 255 Comma (drop k s) (drop n s) v o y.0 (fork_byte none (λ c. eqb c 44) (λ c. finish (multiples 256 (pad v))) s n 43 o e
         refl w)) g
 
-    pub align_wrong : (look (drop n s) ≡ 44 → ⊥) → Spoken (align_plan pad) s k a (Wrong n)
+    pub align_wrong : (look (drop n s) ≡ 44 → ⊥) → Spoken (align_plan pad) s k a (Err n)
     unfolding align_plan
     align_wrong e =
         let y = subst (λ x. Counted s k 255 x) q c in (

@@ -6,39 +6,31 @@ ghost use Rattle.plans.specs.Plans.{done, expression};
 ghost use Rattle.laying.specs.Laying.{Stands};
 ghost use Rattle.laying.specs.Speaking.{Spoken, Counted, ends_at};
 
-use laying::{Told, put, term};
-use leaves::lexing::{digits, is_decimal, look};
-use leaves::{Found, Value};
+use digits::low_byte;
+use laying::{Told, put};
+use leaves::Found;
+use leaves::lexing::{after, digits, is_decimal, look};
 
 // The line has to end at k.
 pub fn ended(s: &[u8], k: usize, to: usize) -> Told
     ensures { result ≡ ends_at (length s.now) k to }
 {
     if k < s.len() {
-        return Told::Wrong(k);
+        return Err(k);
     }
-    Told::Frame(to)
+    Ok(to)
 }
 
 // The number at k, of at most `most`.
-pub fn number(s: &[u8], k: usize, most: usize) -> Value
+pub fn number(s: &[u8], k: usize, most: usize) -> Found
     requires { (k ≤ length s.now) × (most ≤ 2147483648) }
     ensures { Counted s.now k most result }
 {
     let t = &s[k..];
     if !is_decimal(look(t)) {
-        return Value::Not(k);
+        return Err(k);
     }
-    match digits(t, most) {
-        Value::Is(n, v) => Value::Is(k + n, v),
-        Value::Not(n) => Value::Not(k + n),
-    }
-}
-
-fn low_byte(x: usize) -> u8
-    ensures { result ≡ x % 256 }
-{
-    (x % 256) as u8
+    after(k, digits(t, most))
 }
 
 // A kind and two bytes behind it.

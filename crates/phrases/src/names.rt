@@ -10,8 +10,7 @@ ghost use Rattle.laying.specs.Speaking.{Spoken};
 
 use crate::ends::{ended, put_head};
 use laying::{Told, term};
-use leaves::lexing::{fixed, look};
-use leaves::{Found, Value};
+use leaves::lexing::{after, fixed, look};
 
 // A variable's expression, which ends the line.
 fn bound(s: &[u8], k: usize, out: &mut [u8; 120], at: usize) -> Told
@@ -19,10 +18,8 @@ fn bound(s: &[u8], k: usize, out: &mut [u8; 120], at: usize) -> Told
     ensures { (n : ℕ) → Stands out.old at (3 ∷ pair n) 0
         → Spoken (expression (λ e. done (variable n e))) s.now k out.new result }
 {
-    match term(s, k, out, at) {
-        Found::Ends(n, to) => ended(s, n, to),
-        Found::Stuck(n) => Told::Wrong(n),
-    }
+    let (n, to) = term(s, k, out, at)?;
+    ended(s, n, to)
 }
 
 // What follows a global name.
@@ -39,7 +36,7 @@ fn after_global(s: &[u8], k: usize, name: usize, out: &mut [u8; 120]) -> Told
         let at = put_head(out, 3, name);
         return bound(s, k + 1, out, at);
     }
-    Told::Wrong(k)
+    Err(k)
 }
 
 // What follows a local name.
@@ -51,25 +48,21 @@ fn after_local(s: &[u8], k: usize, name: usize, out: &mut [u8; 120]) -> Told
         let at = put_head(out, 2, 0x8000 + name);
         return ended(s, k + 1, at);
     }
-    Told::Wrong(k)
+    Err(k)
 }
 
 pub fn global_line(s: &[u8], k: usize, out: &mut [u8; 120]) -> Told
     requires { (k ≤ length s.now) × (length out.old ≡ 120) }
     ensures { Spoken global_plan s.now k out.new result }
 {
-    match fixed(&s[k..]) {
-        Value::Is(n, v) => after_global(s, k + n, v, out),
-        Value::Not(n) => Told::Wrong(k + n),
-    }
+    let (n, v) = after(k, fixed(&s[k..]))?;
+    after_global(s, n, v, out)
 }
 
 pub fn local_line(s: &[u8], k: usize, out: &mut [u8; 120]) -> Told
     requires { (k ≤ length s.now) × (length out.old ≡ 120) }
     ensures { Spoken local_plan s.now k out.new result }
 {
-    match fixed(&s[k..]) {
-        Value::Is(n, v) => after_local(s, k + n, v, out),
-        Value::Not(n) => Told::Wrong(k + n),
-    }
+    let (n, v) = after(k, fixed(&s[k..]))?;
+    after_local(s, n, v, out)
 }

@@ -11,20 +11,15 @@ ghost use Rattle.laying.specs.Speaking.{Spoken};
 
 use crate::ends::{ended, number, put_head};
 use laying::{Told, put};
-use leaves::Value;
 use leaves::lexing::look;
 
 pub fn org_line(s: &[u8], k: usize, out: &mut [u8; 120]) -> Told
     requires { (k ≤ length s.now) × (length out.old ≡ 120) }
     ensures { Spoken org_plan s.now k out.new result }
 {
-    match number(s, k, 65535) {
-        Value::Is(n, v) => {
-            let at = put_head(out, 5, v);
-            ended(s, n, at)
-        }
-        Value::Not(n) => Told::Wrong(n),
-    }
+    let (n, v) = number(s, k, 65535)?;
+    let at = put_head(out, 5, v);
+    ended(s, n, at)
 }
 
 // The frame of a pad.
@@ -43,28 +38,20 @@ fn multiple_line(s: &[u8], k: usize, add: usize, out: &mut [u8; 120]) -> Told
     requires { (k ≤ length s.now) × (length out.old ≡ 120) × (add ≤ 255) }
     ensures { Spoken (finish (multiples 256 (pad add))) s.now k out.new result }
 {
-    match number(s, k, 256) {
-        Value::Is(n, v) => {
-            if n < s.len() || v == 0 {
-                return Told::Wrong(n);
-            }
-            Told::Frame(put_pad(out, add, v))
-        }
-        Value::Not(n) => Told::Wrong(n),
+    let (n, v) = number(s, k, 256)?;
+    if n < s.len() || v == 0 {
+        return Err(n);
     }
+    Ok(put_pad(out, add, v))
 }
 
 pub fn align_line(s: &[u8], k: usize, out: &mut [u8; 120]) -> Told
     requires { (k ≤ length s.now) × (length out.old ≡ 120) }
     ensures { Spoken (align_plan pad) s.now k out.new result }
 {
-    match number(s, k, 255) {
-        Value::Is(n, v) => {
-            if look(&s[n..]) == b',' {
-                return multiple_line(s, n + 1, v, out);
-            }
-            Told::Wrong(n)
-        }
-        Value::Not(n) => Told::Wrong(n),
+    let (n, v) = number(s, k, 255)?;
+    if look(&s[n..]) == b',' {
+        return multiple_line(s, n + 1, v, out);
     }
+    Err(n)
 }

@@ -5,9 +5,8 @@ use Prim.Native.Nat.{ℕ}
 use native.Mathlib.Omega.{arith}
 use lib.ListN.{length, take, drop}
 use lib.Seq.{take_at}
+use Rattle.std.specs.Prelude.{Err, Result, Ok}
 use Rattle.laws.proofs.Tests.{clash}
-use Rattle.rules.specs.declared.Answer.{Answer}
-use Rattle.rules.specs.declared.Answer.TheVariants.{Done, Refused}
 use Rattle.rules.specs.declared.Sizes.{Sizes}
 use Rattle.rules.specs.declared.Settings.{Settings}
 use Rattle.rules.specs.declared.Refusal.{Refusal}
@@ -50,12 +49,12 @@ module _ (asked : Settings) (text page image page' image' : List ℕ) where
   not_twelve Full e n = absurd (omega (arith, n))
   not_twelve Store e n = absurd (omega (arith, n))
 
-  refused_so : (s : Refusal) (j : Judged Output) → Refused s ≡ answer_of j → j ≡ no s
+  refused_so : (s : Refusal) (j : Judged Output) → Err s ≡ answer_of j → j ≡ no s
   refused_so s (ok o) e = clash (cc)
   refused_so s (no r) e = cc
 
   -- prints: the front of the page, or the 7E line, is what the program prints, the rest of the page is what it was, and 12 is never printed
-  pub prints : (r : Answer) → PrintedRun asked text page image r page' image' → Prints asked text page r page'
+  pub prints : (r : Result Sizes Refusal) → PrintedRun asked text page image r page' image' → Prints asked text page r page'
   unfolding program
   prints r x =
       let page_is = in_front_lem (on_page whole) page page' (page_length r) x.page_length_is x.page_is in
@@ -65,19 +64,19 @@ module _ (asked : Settings) (text page image page' image' : List ℕ) where
         never_12 = λ s e. not_twelve s (refused_so s whole (sym e ∙ x.answers));
       }
     where
-      told : (a : Answer) (j : Judged Output) → whole ≡ j → a ≡ answer_of j → take (page_length a) page' ≡ on_page j → printed_of a page' ≡ program asked text
-      told (Done z) (ok o) e d f = f ∙ sym (ap printed e)
-      told (Done z) (no s) e d f = clash (cc)
-      told (Refused s) (ok o) e d f = clash (cc)
-      told (Refused s) (no t) e d f =
+      told : (a : Result Sizes Refusal) (j : Judged Output) → whole ≡ j → a ≡ answer_of j → take (page_length a) page' ≡ on_page j → printed_of a page' ≡ program asked text
+      told (Ok z) (ok o) e d f = f ∙ sym (ap printed e)
+      told (Ok z) (no s) e d f = clash (cc)
+      told (Err s) (ok o) e d f = clash (cc)
+      told (Err s) (no t) e d f =
           let so = refused_so s whole (d ∙ sym (ap answer_of e)) in
           line_of_run asked text listing_room_of_program image_room_of_program s so ∙ sym (ap printed so)
 
   -- printed-promised: the demands hold of the listing that is printed, of the image and of the count
-  pub printed_promised : (sizes : Sizes) → PrintedRun asked text page image (Done sizes) page' image' → Promised asked text (take sizes.listing page') (take sizes.image image') sizes.rewrites
+  pub printed_promised : (sizes : Sizes) → PrintedRun asked text page image (Ok sizes) page' image' → Promised asked text (take sizes.listing page') (take sizes.image image') sizes.rewrites
   printed_promised sizes x = on whole refl x.answers x.page_is x.image_is
     where
-      on : (j : Judged Output) → whole ≡ j → Done sizes ≡ answer_of j → page' ≡ front (on_page j) page → image' ≡ image_after j image
+      on : (j : Judged Output) → whole ≡ j → Ok sizes ≡ answer_of j → page' ≡ front (on_page j) page → image' ≡ image_after j image
           → Promised asked text (take sizes.listing page') (take sizes.image image') sizes.rewrites
       on (ok o) e d f g =
           let z : sizes ≡ record { listing = length o.listing; rewrites = o.count; image = length o.image } = cc in
@@ -91,7 +90,7 @@ module _ (asked : Settings) (text page image page' image' : List ℕ) where
       on (no s) e d f g = clash (cc)
 
   -- printed-refused: "a refusal changes no byte we lent"; "On refusal it writes only 7E, number, place in two bytes" and what C-12 adds: `refusal_line`
-  pub printed_refused : (s : Refusal) → PrintedRun asked text page image (Refused s) page' image'
+  pub printed_refused : (s : Refusal) → PrintedRun asked text page image (Err s) page' image'
       → (page' ≡ page) × (image' ≡ image) × (refusal_line s ≡ refused_line (fault_of s))
   printed_refused s x =
       let e = refused_so s whole x.answers in (

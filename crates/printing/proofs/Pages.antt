@@ -7,10 +7,10 @@ use lib.Dec.{leb}
 use lib.ListN.{length, take, drop, length-append, length-take, length-drop, take-append-drop, drop_of_length-le}
 use lib.Seq.{drop-append-le}
 use borrow.Author.Tests.{le-leb}
+use Rattle.rules.specs.declared.Refusal.{Refusal}
+use Rattle.std.specs.Prelude.{Result, Ok}
 use Rattle.laws.proofs.Tests.{cond_true}
 use Rattle.laws.proofs.Stores.{rest_is, front_put}
-use Rattle.rules.specs.declared.Answer.{Answer}
-use Rattle.rules.specs.declared.Answer.TheVariants.{Done}
 use Rattle.rules.specs.declared.Sizes.{Sizes}
 use Rattle.rules.specs.declared.Settings.{Settings}
 use Rattle.rules.specs.Answers.{Judged, ok, no}
@@ -30,8 +30,8 @@ unfolding done_line
 length_done count len = length_line (0x7F ∷ (pair count ++ (len / 65536 ∷ len / 256 % 256 ∷ len % 256 ∷ [])))
 
 -- what is asked of an answer, by its kind
-pub done_fits : (a : Answer) (s : Sizes) (room : ℕ) → a ≡ Done s → Printable a room → LineFits s room
-done_fits a s room e h = subst (λ (x : Answer). Printable x room) e h
+pub done_fits : (a : Result Sizes Refusal) (s : Sizes) (room : ℕ) → a ≡ Ok s → Printable a room → LineFits s room
+done_fits a s room e h = subst (λ (x : Result Sizes Refusal). Printable x room) e h
 
 -- the part from n on, and a line in it
 pub part_room : (page : List ℕ) (n k : ℕ) → n + k ≤ length page → k ≤ length (take (length page - n) (drop n page))
@@ -61,7 +61,7 @@ module _ (asked : Settings) (text : List ℕ) where
       on (ok o) e = front_part o.listing page n ((accepted_iff asked text n image_room o).0 e).listing_fits h
       on (no r) e = take-append-drop n page
 
-  pub lent_front : (page image part image' : List ℕ) (r : Answer) → listing_room_of_program ≤ length page → Answered asked text (take listing_room_of_program page) image r part image'
+  pub lent_front : (page image part image' : List ℕ) (r : Result Sizes Refusal) → listing_room_of_program ≤ length page → Answered asked text (take listing_room_of_program page) image r part image'
       → Lent asked text page image r (part ++ drop listing_room_of_program page) image'
   lent_front page image part image' r h a =
       let size : length (take listing_room_of_program page) ≡ listing_room_of_program = omega (arith, length-take listing_room_of_program page) in
@@ -106,7 +106,7 @@ module _ (asked : Settings) (text : List ℕ) where
   answer_length (no r) e = refl
 
   -- ---- both together
-  module _ (page image page₁ image₁ : List ℕ) (r : Answer) (room : length image ≡ image_room_of_program) (lent : Lent asked text page image r page₁ image₁) where
+  module _ (page image page₁ image₁ : List ℕ) (r : Result Sizes Refusal) (room : length image ≡ image_room_of_program) (lent : Lent asked text page image r page₁ image₁) where
     answered : r ≡ answer_of whole
     answered = lent.answers ∙ ap (λ (m : ℕ). answer_of (run asked text listing_room_of_program m)) room
 
@@ -118,7 +118,7 @@ module _ (asked : Settings) (text : List ℕ) where
         let after : page₁ ≡ listing_after whole page = lent.page_is ∙ ap (λ (m : ℕ). listing_after (run asked text listing_room_of_program m) page) room in
         record {
           answers = answered;
-          page_is = e ∙ ap (λ (x : Answer). last_after x page₁) answered ∙ ap (last_after (answer_of whole)) after ∙ answer_page page whole;
+          page_is = e ∙ ap (λ (x : Result Sizes Refusal). last_after x page₁) answered ∙ ap (last_after (answer_of whole)) after ∙ answer_page page whole;
           image_is = lent.image_is ∙ ap (λ (m : ℕ). image_after (run asked text listing_room_of_program m) image) room;
           page_length_is = ap page_length answered ∙ answer_length whole refl;
         }

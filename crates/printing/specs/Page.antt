@@ -1,7 +1,5 @@
 -- What the program prints: the listing and the last line, as the bytes of one page, or the 7E line of a refusal.
-use Rattle.std.specs.Prelude.{◌≡◌, List, [], ◌++◌, cond, ℕ, ◌+◌, ◌%◌, ◌≤◌, ◌<◌, leb, length, take, drop}
-use Rattle.rules.specs.declared.Answer.{Answer}
-use Rattle.rules.specs.declared.Answer.TheVariants.{Done, Refused}
+use Rattle.std.specs.Prelude.{◌≡◌, List, [], ◌++◌, cond, ℕ, ◌+◌, ◌%◌, ◌≤◌, ◌<◌, leb, length, take, drop, Err, Result, Ok}
 use Rattle.rules.specs.declared.Sizes.{Sizes}
 use Rattle.rules.specs.declared.Refusal.{Refusal}
 use Rattle.rules.specs.declared.Settings.{Settings}
@@ -11,7 +9,7 @@ use Rattle.rules.specs.Output.{done_line, refused_line}
 use Rattle.rules.specs.Run.{Output, run, answer_of, front, listing_after, image_after, printed, listing_room_of_program, image_room_of_program, program}
 
 -- a run that is lent the page's first 62,469 bytes for its listing
-pub record Lent (asked : Settings) (text page image : List ℕ) (r : Answer) (page' image' : List ℕ) : Type 0 where
+pub record Lent (asked : Settings) (text page image : List ℕ) (r : Result Sizes Refusal) (page' image' : List ℕ) : Type 0 where
   pub answers : r ≡ answer_of (run asked text listing_room_of_program (length image))
   pub page_is : page' ≡ listing_after (run asked text listing_room_of_program (length image)) page
   pub image_is : image' ≡ image_after (run asked text listing_room_of_program (length image)) image
@@ -23,19 +21,19 @@ pub record LineFits (s : Sizes) (room : ℕ) : Type 0 where
   pub listing : s.listing + 13 ≤ room
 
 -- the numbers of an answer fit in its last line, and the line on the page; a refusal puts nothing there
-abbrev pub Printable : Answer → (room : ℕ) → Type 0
-Printable (Done s) room = LineFits s room
-Printable (Refused r) room = Unit
+abbrev pub Printable : Result Sizes Refusal → (room : ℕ) → Type 0
+Printable (Ok s) room = LineFits s room
+Printable (Err r) room = Unit
 
 -- the page after an answer's last line
-abbrev pub last_after : Answer → (page : List ℕ) → List ℕ
-last_after (Done s) page = take s.listing page ++ front (done_line s.rewrites s.image) (drop s.listing page)
-last_after (Refused r) page = page
+abbrev pub last_after : Result Sizes Refusal → (page : List ℕ) → List ℕ
+last_after (Ok s) page = take s.listing page ++ front (done_line s.rewrites s.image) (drop s.listing page)
+last_after (Err r) page = page
 
 -- how much of the page an answer fills; no run fills more than the listing's room and the last line
-abbrev pub page_length : Answer → ℕ
-page_length (Done s) = cond (leb s.listing listing_room_of_program) (s.listing + 13) (listing_room_of_program + 13)
-page_length (Refused r) = 0
+abbrev pub page_length : Result Sizes Refusal → ℕ
+page_length (Ok s) = cond (leb s.listing listing_room_of_program) (s.listing + 13) (listing_room_of_program + 13)
+page_length (Err r) = 0
 
 -- what is put on the page: "a refusal changes no byte we lent"
 abbrev pub on_page : Judged Output → List ℕ
@@ -43,7 +41,7 @@ on_page (ok o) = printed (ok o)
 on_page (no r) = []
 
 -- "The program reads a listing .. and writes the new one and a last line": the page's front is what is printed, and the rest is unchanged
-pub record PrintedRun (asked : Settings) (text page image : List ℕ) (r : Answer) (page' image' : List ℕ) : Type 0 where
+pub record PrintedRun (asked : Settings) (text page image : List ℕ) (r : Result Sizes Refusal) (page' image' : List ℕ) : Type 0 where
   pub answers : r ≡ answer_of (run asked text listing_room_of_program image_room_of_program)
   pub page_is : page' ≡ front (on_page (run asked text listing_room_of_program image_room_of_program)) page
   pub image_is : image' ≡ image_after (run asked text listing_room_of_program image_room_of_program) image
@@ -58,12 +56,12 @@ abbrev pub refusal_line : Refusal → List ℕ
 refusal_line r = refused_line (low_bytes (fault_of r))
 
 -- what an answer gives to print: the page's front, or `refusal_line`
-abbrev pub printed_of : Answer → (page : List ℕ) → List ℕ
-printed_of (Done s) page = take (page_length (Done s)) page
-printed_of (Refused r) page = refusal_line r
+abbrev pub printed_of : Result Sizes Refusal → (page : List ℕ) → List ℕ
+printed_of (Ok s) page = take (page_length (Ok s)) page
+printed_of (Err r) page = refusal_line r
 
 -- that is what the program prints; the rest of the page is unchanged, all of it on refusal, and the program never gives 12
-pub record Prints (asked : Settings) (text page : List ℕ) (r : Answer) (page' : List ℕ) : Type 0 where
+pub record Prints (asked : Settings) (text page : List ℕ) (r : Result Sizes Refusal) (page' : List ℕ) : Type 0 where
   pub printed_is : printed_of r page' ≡ program asked text
   pub beyond : drop (page_length r) page' ≡ drop (page_length r) page
-  pub never_12 : (s : Refusal) → r ≡ Refused s → (fault_of s).number ≡ 12 → ⊥
+  pub never_12 : (s : Refusal) → r ≡ Err s → (fault_of s).number ≡ 12 → ⊥

@@ -9,12 +9,12 @@ use native.Mathlib.Omega.{arith}
 use lib.Dec.{ltb}
 use lib.IntN.{pos}
 use borrow.Author.Tests.{lt-ltb}
+use Rattle.rules.specs.declared.Unvalued.{Unvalued}
+use Rattle.std.specs.Prelude.{ℤ, Result, Ok}
 use Rattle.laws.specs.Lists.{total, every}
 use Rattle.laws.proofs.Tests.{and_true, and_both, false_true}
 use Rattle.laws.proofs.Lists.{every_all, every_weaken}
 use Rattle.rules.specs.declared.Settings.{Settings}
-use Rattle.rules.specs.declared.Outcome.{Outcome}
-use Rattle.rules.specs.declared.Outcome.TheVariants.{Is}
 use Rattle.rules.specs.Answers.{ok}
 use Rattle.rules.specs.Expressions.{Expr}
 use Rattle.rules.specs.Programs.{Placeℕ, Operand, register, value, inner, Stmt, gone, Program, at, args_of, on_last, retarget}
@@ -50,7 +50,7 @@ module _ (p : Program) where
 
   -- a target among the names of p, in the context where it stands
   module _ (i : Placeℕ) where
-    here : Expr → Outcome
+    here : Expr → Result ℤ Unvalued
     here e = worth (names_of p) (context_at p i) e
 
     anchor_changed : KeptBy (names_of p) (context_at p i) (anchor_in p i) p (anchor p)
@@ -63,7 +63,7 @@ module _ (p : Program) where
         aimed_at (some g) d =
             let w = origin_of p (here e) g d in
             let there : position (anchor p) g.place + g.offset ≡ w.0 = omega (arith, position_same p (anchor p) anchor_room g.place, w.2.address_is) in
-            ap (λ (a : ℕ). Is (pos a)) there ∙ sym w.1
+            ap (λ (a : ℕ). Ok (pos a)) there ∙ sym w.1
 
         on : (b : Bool) → worth_of (names_of p) (anchor p) (context_at p i) (cond b (value e) (inner_at e (origin p (here e)))) ≡ here e
         on true = refl

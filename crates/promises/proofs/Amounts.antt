@@ -8,11 +8,12 @@ use native.Mathlib.Omega.{arith}
 use lib.Dec.{eqb}
 use lib.IntN.{ℤ, pos, ◌-ℤ◌}
 use lib.ListN.{length, get_or}
+use Rattle.rules.specs.declared.Unvalued.TheVariants.{Unknown, Nothing}
+use Rattle.rules.specs.declared.Unvalued.{Unvalued}
+use Rattle.std.specs.Prelude.{Result, Err, Ok}
 use Rattle.laws.proofs.Tests.{clash}
 use Rattle.rules.specs.declared.Kind.{Kind}
 use Rattle.rules.specs.declared.Kind.TheVariants.{Reg, I8, D9, Bit, Rel8, A12, A16, Rel16}
-use Rattle.rules.specs.declared.Outcome.{Outcome}
-use Rattle.rules.specs.declared.Outcome.TheVariants.{Is, Unknown, Nothing}
 use Rattle.rules.specs.declared.Refusal.{Refusal}
 use Rattle.rules.specs.declared.Refusal.TheVariants.{Range}
 use Rattle.rules.specs.Answers.{at_place, Judged, ok, no, ◌>>=◌, require}
@@ -47,22 +48,22 @@ field_amount i j n Rel8 v =
 field_amount i j n Rel16 v = says_require Any (Amounts n i j v) (below 65536 v) _ _ outside (λ t. tt)
 
 -- what refuses from argument j on: a value, or the argument m of those that are left
-abbrev Of : {X : Type 0} → (X → Outcome) → X → (n : Addressℕ) (i : Placeℕ) (j : ℕ) → List X → Refusal → Type 0
-Of worth d n i j xs r = (has_number (4 ∷ 7 ∷ []) r ≡ true) ⊎ ((m : ℕ) × (v : ℤ) × (m < length xs) × (worth (get_or xs m d) ≡ Is v) × Amounts n i (j + m) v r)
+abbrev Of : {X : Type 0} → (X → Result ℤ Unvalued) → X → (n : Addressℕ) (i : Placeℕ) (j : ℕ) → List X → Refusal → Type 0
+Of worth d n i j xs r = (has_number (4 ∷ 7 ∷ []) r ≡ true) ⊎ ((m : ℕ) × (v : ℤ) × (m < length xs) × (worth (get_or xs m d) ≡ Ok v) × Amounts n i (j + m) v r)
 
 -- the first of them
-of_first : {X : Type 0} (worth : X → Outcome) (d : X) (n : Addressℕ) (i : Placeℕ) (j : ℕ) (x : X) (xs : List X) (v : ℤ) (r : Refusal) → worth x ≡ Is v → Amounts n i j v r → Of worth d n i j (x ∷ xs) r
+of_first : {X : Type 0} (worth : X → Result ℤ Unvalued) (d : X) (n : Addressℕ) (i : Placeℕ) (j : ℕ) (x : X) (xs : List X) (v : ℤ) (r : Refusal) → worth x ≡ Ok v → Amounts n i j v r → Of worth d n i j (x ∷ xs) r
 of_first worth d n i j x xs v r e a = let z : j ≡ j + 0 = omega arith in inr (0, v, omega arith, e, subst (λ (k : ℕ). Amounts n i k v r) z a)
 
 -- a later one
-of_later : {X : Type 0} (worth : X → Outcome) (d : X) (n : Addressℕ) (i : Placeℕ) (j : ℕ) (x : X) (xs : List X) (r : Refusal) → Of worth d n i (suc j) xs r → Of worth d n i j (x ∷ xs) r
+of_later : {X : Type 0} (worth : X → Result ℤ Unvalued) (d : X) (n : Addressℕ) (i : Placeℕ) (j : ℕ) (x : X) (xs : List X) (r : Refusal) → Of worth d n i (suc j) xs r → Of worth d n i j (x ∷ xs) r
 of_later worth d n i j x xs r (inl h) = inl h
 of_later worth d n i j x xs r (inr h) = let z : suc j + h.0 ≡ j + suc h.0 = omega arith in inr (suc h.0, h.1, omega (arith, h.2), h.3, subst (λ (k : ℕ). Amounts n i k h.1 r) z h.4)
 
-value_says : (i : Placeℕ) (o : Outcome) → Says (λ v. o ≡ Is v) (λ r. has_number (4 ∷ 7 ∷ []) r ≡ true) (value_at i o)
-value_says i (Is z) = refl
-value_says i Unknown = refl
-value_says i Nothing = refl
+value_says : (i : Placeℕ) (o : Result ℤ Unvalued) → Says (λ v. o ≡ Ok v) (λ r. has_number (4 ∷ 7 ∷ []) r ≡ true) (value_at i o)
+value_says i (Ok z) = refl
+value_says i (Err Unknown) = refl
+value_says i (Err Nothing) = refl
 
 -- ---- the arguments of an instruction, and the items of data
 bind_says : {A B : Type 0} (P : A → Type 0) (Q R : Refusal → Type 0) (x : Judged A) (f : A → Judged B) → Says P Q x → ((r : Refusal) → Q r → R r) → ((a : A) → P a → Says Any R (f a)) → Says Any R (x >>= f)
@@ -76,9 +77,9 @@ unfolding fields
 fields_amount names p i k n j [] xs = tt
 fields_amount names p i k n j (d ∷ ds) [] = tt
 fields_amount names p i k n j (d ∷ ds) (x ∷ xs) =
-    let w : Operand → Outcome = worth_of names p k in
+    let w : Operand → Result ℤ Unvalued = worth_of names p k in
     let R : Refusal → Type 0 = Of w (register 0) n i j (x ∷ xs) in
-    bind_says (λ v. w x ≡ Is v) (λ r. has_number (4 ∷ 7 ∷ []) r ≡ true) R (value_at i (w x)) _ (value_says i (w x)) (λ r h. inl h) (λ v e.
+    bind_says (λ v. w x ≡ Ok v) (λ r. has_number (4 ∷ 7 ∷ []) r ≡ true) R (value_at i (w x)) _ (value_says i (w x)) (λ r h. inl h) (λ v e.
     bind_says Any (Amounts n i j v) R (field i j n d v) _ (field_amount i j n d v) (λ r a. of_first w (register 0) n i j x xs v r e a) (λ b t.
     bind_says Any (Of w (register 0) n i (suc j) xs) R (fields names p i k n (suc j) ds xs) _ (fields_amount names p i k n (suc j) ds xs) (λ r h. of_later w (register 0) n i j x xs r h) (λ bs u. tt)))
 
@@ -87,9 +88,9 @@ items_amount : (names : List Entry) (bound : ℕ) (write : ℕ → List ℕ) (n 
 unfolding items
 items_amount names bound write n i k j [] = tt
 items_amount names bound write n i k j (e ∷ es) =
-    let w : Expr → Outcome = worth names k in
+    let w : Expr → Result ℤ Unvalued = worth names k in
     let R : Refusal → Type 0 = Of w (num (pos 0)) n i j (e ∷ es) in
-    bind_says (λ v. w e ≡ Is v) (λ r. has_number (4 ∷ 7 ∷ []) r ≡ true) R (value_at i (w e)) _ (value_says i (w e)) (λ r h. inl h) (λ v h.
+    bind_says (λ v. w e ≡ Ok v) (λ r. has_number (4 ∷ 7 ∷ []) r ≡ true) R (value_at i (w e)) _ (value_says i (w e)) (λ r h. inl h) (λ v h.
     bind_says Any R R (require (below bound v) (Range (at_place i) j v) (items names bound write i k (suc j) es)) _
     (says_require Any R (below bound v) (Range (at_place i) j v) (items names bound write i k (suc j) es) (of_first w (num (pos 0)) n i j e es v (Range (at_place i) j v) h out_of_range)
     (λ t. later (items names bound write i k (suc j) es) (items_amount names bound write n i k (suc j) es)))

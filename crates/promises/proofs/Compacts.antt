@@ -5,10 +5,11 @@ use mathlib.Core.Bool.{Bool, true, false}
 use Prim.Native.Nat.{ℕ, suc, ◌+◌}
 use lib.Dec.{leb, eqb}
 use lib.IntN.{ℤ, pos, ◌-ℤ◌}
+use Rattle.rules.specs.declared.Unvalued.TheVariants.{Unknown, Nothing}
+use Rattle.rules.specs.declared.Unvalued.{Unvalued}
+use Rattle.std.specs.Prelude.{Result, Err, Ok}
 use Rattle.laws.specs.Lists.{every}
 use Rattle.laws.proofs.Tests.{and_true, false_true}
-use Rattle.rules.specs.declared.Outcome.{Outcome}
-use Rattle.rules.specs.declared.Outcome.TheVariants.{Is, Unknown, Nothing}
 use Rattle.rules.specs.declared.Refusal.{Refusal}
 use Rattle.rules.specs.declared.Refusal.TheVariants.{Range}
 use Rattle.rules.specs.declared.Kind.{Kind}
@@ -71,10 +72,10 @@ settles_moved i j q s = on (space_at q s)
     on (exactly n) e = reaches_moved i j (q + n) e
     on (from l) e = require_moved (leb q l) _ _ (ok tt) (ok tt) tt (λ z. z) e
 
-value_moved : (i j : Placeℕ) (o : Outcome) (z : ℤ) → value_at i o ≡ ok z → value_at j o ≡ ok z
-value_moved i j (Is v) z e = e
-value_moved i j Unknown z e = no_ok _ z e
-value_moved i j Nothing z e = no_ok _ z e
+value_moved : (i j : Placeℕ) (o : Result ℤ Unvalued) (z : ℤ) → value_at i o ≡ ok z → value_at j o ≡ ok z
+value_moved i j (Ok v) z e = e
+value_moved i j (Err Unknown) z e = no_ok _ z e
+value_moved i j (Err Nothing) z e = no_ok _ z e
 
 define_moved : (above : List Entry) (i j : Placeℕ) (k : ℕ) (q : Addressℕ) (s : Stmt) (names : List Entry) → define above i k q s ≡ ok names → define above j k q s ≡ ok names
 define_moved above i j k q s names = on (naming_of s)

@@ -4,9 +4,8 @@ use mathlib.Core.List.{List}
 use Prim.Native.Nat.{ℕ, ◌+◌, ◌≤◌}
 use native.Mathlib.Omega.{arith}
 use lib.ListN.{length, take}
+use Rattle.std.specs.Prelude.{Err, Result, Ok}
 use Rattle.rules.specs.declared.Settings.{Settings}
-use Rattle.rules.specs.declared.Answer.{Answer}
-use Rattle.rules.specs.declared.Answer.TheVariants.{Done, Refused}
 use Rattle.rules.specs.declared.Sizes.{Sizes}
 use Rattle.rules.specs.declared.Refusal.{Refusal}
 use Rattle.rules.specs.Answers.{ok}
@@ -83,8 +82,8 @@ promised asked text listing_room image_room o e =
     subst (λ (x : Output). Promised asked text x.listing x.image x.count) (sym a.result) (of_output asked text a.program a.image a.keeps_rules a.assembles)
 
 module _ (asked : Settings) (text listing image : List ℕ) where
-  -- on-acceptance: `Done sizes` says that the demands hold of the front of each room, and that the rest of it is what it was
-  pub on_acceptance : (sizes : Sizes) (listing' image' : List ℕ) → Answered asked text listing image (Done sizes) listing' image'
+  -- on-acceptance: `Ok sizes` says that the demands hold of the front of each room, and that the rest of it is what it was
+  pub on_acceptance : (sizes : Sizes) (listing' image' : List ℕ) → Answered asked text listing image (Ok sizes) listing' image'
       → OnAcceptance asked text listing image sizes listing' image'
   on_acceptance sizes listing' image' x =
       let d = acceptance_delivers asked text listing image sizes listing' image' x in
@@ -106,14 +105,14 @@ module _ (asked : Settings) (text listing image : List ℕ) where
       kept result room room' n e h f = rw e (record { holds = h; beyond = f.beyond; as_long = f.as_long })
 
   -- accepts: a text that keeps the listing rules, assembles as given and has room for its result is answered so. With on-acceptance: "exactly when"
-  pub accepts : (o : Output) (answer : Answer) (listing' image' : List ℕ) → Answered asked text listing image answer listing' image'
+  pub accepts : (o : Output) (answer : Result Sizes Refusal) (listing' image' : List ℕ) → Answered asked text listing image answer listing' image'
       → Accepted asked text (length listing) (length image) o → answer ≡ answer_of (ok o)
   accepts o answer listing' image' x a = x.answers ∙ ap answer_of ((accepted_iff asked text (length listing) (length image) o).1 a)
 
   -- ---- refusal
 
-  -- on-refusal: `Refused r` says that no lent byte changed, and that r has its cause, at the first statement at fault, and nothing else has one
-  pub on_refusal : (r : Refusal) (listing' image' : List ℕ) → Answered asked text listing image (Refused r) listing' image' → OnRefusal asked text listing image r listing' image'
+  -- on-refusal: `Err r` says that no lent byte changed, and that r has its cause, at the first statement at fault, and nothing else has one
+  pub on_refusal : (r : Refusal) (listing' image' : List ℕ) → Answered asked text listing image (Err r) listing' image' → OnRefusal asked text listing image r listing' image'
   on_refusal r listing' image' x =
       let same = refusal_changes_nothing asked text listing image r listing' image' x in
       let e = refused_by asked text listing image r listing' image' x in
@@ -128,6 +127,6 @@ module _ (asked : Settings) (text listing image : List ℕ) where
       }
 
   -- refuses: what has a cause is answered so
-  pub refuses : (r : Refusal) (answer : Answer) (listing' image' : List ℕ) → Answered asked text listing image answer listing' image'
-      → Cause asked text (length listing) (length image) r → answer ≡ Refused r
+  pub refuses : (r : Refusal) (answer : Result Sizes Refusal) (listing' image' : List ℕ) → Answered asked text listing image answer listing' image'
+      → Cause asked text (length listing) (length image) r → answer ≡ Err r
   refuses r answer listing' image' x c = x.answers ∙ ap answer_of ((refused_once asked text (length listing) (length image) r).1 c)

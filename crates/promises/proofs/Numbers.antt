@@ -7,8 +7,9 @@ use native.Mathlib.Omega.{arith}
 use lib.Dec.{leb, eqb}
 use lib.ListN.{length}
 use lib.IntN.{ℤ, pos, ◌-ℤ◌}
-use Rattle.rules.specs.declared.Outcome.{Outcome}
-use Rattle.rules.specs.declared.Outcome.TheVariants.{Is, Unknown, Nothing}
+use Rattle.rules.specs.declared.Unvalued.TheVariants.{Unknown, Nothing}
+use Rattle.rules.specs.declared.Unvalued.{Unvalued}
+use Rattle.std.specs.Prelude.{Result, Err, Ok}
 use Rattle.rules.specs.declared.Refusal.{Refusal}
 use Rattle.rules.specs.declared.Refusal.TheVariants.{Again, Back, Beyond, Range, Outside, Far, Page}
 use Rattle.rules.specs.declared.Kind.{Kind}
@@ -62,10 +63,10 @@ module _ (P : Placeℕ → Type 0) where
       on (from l) = says_require Any (Laying P) (leb q l) (Back (at_place i)) (ok tt) (record { number = refl; place = h }) (λ t. tt)
 
   -- 4 and 7
-  value_defines : (i : Placeℕ) (o : Outcome) → P i → Says Any (Defining P) (value_at i o)
-  value_defines i (Is z) h = tt
-  value_defines i Unknown h = record { number = refl; place = h }
-  value_defines i Nothing h = record { number = refl; place = h }
+  value_defines : (i : Placeℕ) (o : Result ℤ Unvalued) → P i → Says Any (Defining P) (value_at i o)
+  value_defines i (Ok z) h = tt
+  value_defines i (Err Unknown) h = record { number = refl; place = h }
+  value_defines i (Err Nothing) h = record { number = refl; place = h }
 
   pub define_says : (above : List Entry) (i : Placeℕ) (k : ℕ) (q : Addressℕ) (s : Stmt) → P i → Says Any (Defining P) (define above i k q s)
   define_says above i k q s h = on (naming_of s)
@@ -76,10 +77,10 @@ module _ (P : Placeℕ → Type 0) where
       on (binds m e) = says_bind Any Any (Defining P) (value_at i (worth above k e)) _ (value_defines i (worth above k e) h) (λ z t. tt)
 
   -- 4, 7 and 8 to 11
-  value_encodes : (i : Placeℕ) (o : Outcome) → P i → Says Any (Encoding P) (value_at i o)
-  value_encodes i (Is z) h = tt
-  value_encodes i Unknown h = record { number = refl; place = h }
-  value_encodes i Nothing h = record { number = refl; place = h }
+  value_encodes : (i : Placeℕ) (o : Result ℤ Unvalued) → P i → Says Any (Encoding P) (value_at i o)
+  value_encodes i (Ok z) h = tt
+  value_encodes i (Err Unknown) h = record { number = refl; place = h }
+  value_encodes i (Err Nothing) h = record { number = refl; place = h }
 
   range_says : (i : Placeℕ) (j : ℕ) (v : ℤ) (t : Bool) (y : Judged ℕ) → P i → Says Any (Encoding P) y → Says Any (Encoding P) (require t (Range (at_place i) j v) y)
   range_says i j v t y h k = says_require Any (Encoding P) t (Range (at_place i) j v) y (record { number = refl; place = h }) (λ e. k)

@@ -9,9 +9,10 @@ use lib.Dec.{leb, ltb}
 use lib.ListN.{length}
 use lib.IntN.{pos, negsuc}
 use borrow.Author.Tests.{leb-true, ltb-true, le-leb, lt-ltb, le-ltb}
+use Rattle.rules.specs.declared.Unvalued.TheVariants.{Unknown, Nothing}
+use Rattle.rules.specs.declared.Unvalued.{Unvalued}
+use Rattle.std.specs.Prelude.{ℤ, Result, Err, Ok}
 use Rattle.laws.proofs.Tests.{none_some, and_true}
-use Rattle.rules.specs.declared.Outcome.{Outcome}
-use Rattle.rules.specs.declared.Outcome.TheVariants.{Is, Unknown, Nothing}
 use Rattle.rules.specs.Answers.{ok, check_each}
 use Rattle.rules.specs.Programs.{on_last, instr, Placeℕ, Addressℕ, Operand, Stmt, Program, at, byte_count, retarget, Space, empty, exactly, from, space_at, bytes_in}
 use Rattle.rules.specs.Layout.{after, position_from, position, Origin, origin_from, origin, behind, size_in}
@@ -63,12 +64,12 @@ origin_from_same i q (s ∷ l) (t ∷ m) h a =
     rw ((h.1 0).as_big q, (h.1 0).goes_on q, origin_from_same (suc i) (after q s) l m (omega (arith, h.0), λ j. h.1 (suc j)) a)
 
 -- and the origins
-pub origin_same : (p p' : Program) → AllSameRoom p p' → (v : Outcome) → origin p' v ≡ origin p v
+pub origin_same : (p p' : Program) → AllSameRoom p p' → (v : Result ℤ Unvalued) → origin p' v ≡ origin p v
 unfolding origin
-origin_same p p' h (Is (pos a)) = origin_from_same 0 0 p p' h a
-origin_same p p' h (Is (negsuc a)) = refl
-origin_same p p' h Unknown = refl
-origin_same p p' h Nothing = refl
+origin_same p p' h (Ok (pos a)) = origin_from_same 0 0 p p' h a
+origin_same p p' h (Ok (negsuc a)) = refl
+origin_same p p' h (Err Unknown) = refl
+origin_same p p' h (Err Nothing) = refl
 
 -- ---- an origin lies in a statement, at the address
 pub record Lies (p : Program) (a : Addressℕ) (g : Origin) : Type 0 where
@@ -97,7 +98,7 @@ lies_from i q (s ∷ p) a g e = on (leb q a && ltb a (q + byte_count q s)) refl 
     on false d e below = let b = below e in record { n = suc b.n; place_is = omega (arith, b.place_is); has_byte = b.has_byte; address_is = b.address_is }
 
 -- over a whole program
-pub origin_lies : (p : Program) (a : Addressℕ) (g : Origin) → origin p (Is (pos a)) ≡ some g → Lies p a g
+pub origin_lies : (p : Program) (a : Addressℕ) (g : Origin) → origin p (Ok (pos a)) ≡ some g → Lies p a g
 unfolding origin position
 origin_lies p a g e =
     let l = lies_from 0 0 p a g e in
@@ -105,12 +106,12 @@ origin_lies p a g e =
     record { has_byte = rw z l.has_byte; address_is = rw z l.address_is }
 
 -- only an address that is not negative has an origin
-pub origin_of : (p : Program) (v : Outcome) (g : Origin) → origin p v ≡ some g → (a : Addressℕ) × (v ≡ Is (pos a)) × (Lies p a g)
+pub origin_of : (p : Program) (v : Result ℤ Unvalued) (g : Origin) → origin p v ≡ some g → (a : Addressℕ) × (v ≡ Ok (pos a)) × (Lies p a g)
 unfolding origin
-origin_of p (Is (pos a)) g e = (a, refl, origin_lies p a g e)
-origin_of p (Is (negsuc a)) g e = none_some g e
-origin_of p Unknown g e = none_some g e
-origin_of p Nothing g e = none_some g e
+origin_of p (Ok (pos a)) g e = (a, refl, origin_lies p a g e)
+origin_of p (Ok (negsuc a)) g e = none_some g e
+origin_of p (Err Unknown) g e = none_some g e
+origin_of p (Err Nothing) g e = none_some g e
 
 -- ---- positions rise where they fit
 after_size : (i : Placeℕ) (q : Addressℕ) (s : Stmt) → settles i q s ≡ ok tt → q + byte_count q s ≤ after q s
@@ -156,6 +157,6 @@ origin_from_at i k q (s ∷ p) (suc j) o e h =
     rw (le-leb q a (omega (arith, f.rises)), le-ltb a (q + byte_count q s) (omega (arith, f.rises)), y, origin_from_at (suc i) (enter k s) (after q s) p j o f.rest h)
 
 -- in the whole program
-pub origin_at : (p : Program) (j o : ℕ) → positions_fit (placed p) ≡ ok tt → o < size_in p j → origin p (Is (pos (position p j + o))) ≡ some (record { place = j; offset = o })
+pub origin_at : (p : Program) (j o : ℕ) → positions_fit (placed p) ≡ ok tt → o < size_in p j → origin p (Ok (pos (position p j + o))) ≡ some (record { place = j; offset = o })
 unfolding origin position placed
 origin_at p j o e h = let y : 0 + j ≡ j = omega arith in origin_from_at 0 0 0 p j o e h ∙ ap (λ (n : ℕ). some (record { place = n; offset = o })) y

@@ -11,11 +11,11 @@ use lib.Dec.{ltb}
 use lib.ListN.{length}
 use lib.IntN.{pos}
 use borrow.Author.Tests.{ltb-true, eq-eqb}
+use Rattle.std.specs.Prelude.{Ok}
 use Rattle.laws.specs.Lists.{total, every}
 use Rattle.laws.proofs.Tests.{and_true, eq_or_not}
 use Rattle.laws.proofs.Lists.{total_one, total_some, total_two_any, every_any}
 use Rattle.rules.specs.declared.Settings.{Settings}
-use Rattle.rules.specs.declared.Outcome.TheVariants.{Is}
 use Rattle.rules.specs.Answers.{ok}
 use Rattle.rules.specs.Programs.{Placeℕ, Operand, register, value, inner, Stmt, gone, instr, Program, at, args_of, last_of, on_last, retarget, is_gone}
 use Rattle.rules.specs.Layout.{position, origin, size_in}
@@ -163,8 +163,8 @@ module _ (asked : Settings) (p : Program) (w : WellMade p) (i s o : ℕ) (a : Ai
     position_is : position (compact left) (rank left s) ≡ position end s
     position_is = position_rank left s live ∙ shown_position asked written s ∙ write_back_position end s
 
-    names_output : origin (compact left) (Is (pos (position end s + o))) ≡ some (record { place = rank left s; offset = o })
-    names_output = ap (λ (n : ℕ). origin (compact left) (Is (pos (n + o)))) (sym position_is) ∙ origin_at (compact left) (rank left s) o laid byte_output
+    names_output : origin (compact left) (Ok (pos (position end s + o))) ≡ some (record { place = rank left s; offset = o })
+    names_output = ap (λ (n : ℕ). origin (compact left) (Ok (pos (n + o)))) (sym position_is) ∙ origin_at (compact left) (rank left s) o laid byte_output
 
 -- target-kept: each such target of the input is, in the output, the number of the same byte of the same statement
 pub target_kept : (asked : Settings) (p : Program) → Input p → (i s : Placeℕ) (o : ℕ) → Aims p i s o → TargetKept asked p i s o

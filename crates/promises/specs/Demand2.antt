@@ -1,7 +1,7 @@
 -- Demand 2 of the letter, "A listing is accepted exactly when ..", and document 01's "any two results allowed by the contract coincide".
-use Rattle.std.specs.Prelude.{◌≡◌, List, [], ◌∷◌, ℕ, suc, ◌≤◌, ◌+◌, ◌*◌, length, take, drop, Bool, true, false}
+use Rattle.rules.specs.declared.Refusal.{Refusal}
+use Rattle.std.specs.Prelude.{◌≡◌, List, [], ◌∷◌, ℕ, suc, ◌≤◌, ◌+◌, ◌*◌, length, take, drop, Bool, true, false, Result}
 use Rattle.rules.specs.declared.Settings.{Settings}
-use Rattle.rules.specs.declared.Answer.{Answer}
 use Rattle.rules.specs.declared.Sizes.{Sizes}
 use Rattle.rules.specs.Answers.{ok}
 use Rattle.rules.specs.Programs.{Placeℕ, Stmt, instr, Program, on_instr}
@@ -24,7 +24,7 @@ pub record Accepted (asked : Settings) (text : List ℕ) (listing_room image_roo
 
 -- "Every public function states its result and the final content of each lent buffer": what the entry states of its answer, if it is lent the
 -- rooms `listing` and `image` and leaves `listing'` and `image'` in them
-pub record Answered (asked : Settings) (text listing image : List ℕ) (answer : Answer) (listing' image' : List ℕ) : Type 0 where
+pub record Answered (asked : Settings) (text listing image : List ℕ) (answer : Result Sizes Refusal) (listing' image' : List ℕ) : Type 0 where
   pub answers : answer ≡ answer_of (run asked text (length listing) (length image))
   pub listing_is : listing' ≡ listing_after (run asked text (length listing) (length image)) listing
   pub image_is : image' ≡ image_after (run asked text (length listing) (length image)) image

@@ -1,9 +1,8 @@
 -- Demand 3 of the letter, for every accepted program and whatever was asked for.
-use Rattle.std.specs.Prelude.{◌≡◌, List, Bool, true, false, ◌&&◌, cond, ℕ, ◌≤◌, ◌<◌, eqb, length, get_or, pos}
+use Rattle.std.specs.Prelude.{◌≡◌, List, Bool, true, false, ◌&&◌, cond, ℕ, ◌≤◌, ◌<◌, eqb, length, get_or, pos, Ok}
 use Rattle.std.proofs.Math.Option.{none, some}
 use Rattle.laws.specs.Lists.{total}
 use Rattle.rules.specs.declared.Settings.{Settings}
-use Rattle.rules.specs.declared.Outcome.TheVariants.{Is}
 use Rattle.rules.specs.Expressions.{Expr, num}
 use Rattle.rules.specs.Forms.{is_transfer}
 use Rattle.rules.specs.Programs.{Placeℕ, Addressℕ, Operand, register, value, inner, Stmt, instr, Program, at, on_instr, last_of}
@@ -53,7 +52,7 @@ pub record TargetKept (asked : Settings) (p : Program) (i : Placeℕ) (s : Place
   pub address : Addressℕ
   pub target_is : last_of args ≡ value (num (pos address))
   pub owner : Placeℕ
-  pub names_byte : origin (output_program asked p) (Is (pos address)) ≡ some (record { place = owner; offset = o })
+  pub names_byte : origin (output_program asked p) (Ok (pos address)) ≡ some (record { place = owner; offset = o })
   pub listed : owner < length (rewritten asked p).stems
   pub stems_from_is : get_or (rewritten asked p).stems owner 0 ≡ s
 

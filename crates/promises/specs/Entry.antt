@@ -1,10 +1,9 @@
 -- The three demands down to the entry: what an answer of `optimize_jumps` says of the bytes that it wrote. Its contract is `Answered` (Demand2), and
 -- proofs/Entry derives what stands here from that alone.
-use Rattle.std.specs.Prelude.{◌≡◌, List, [], ◌∷◌, true, ℕ, ◌≤◌, length, take, drop, pos}
+use Rattle.std.specs.Prelude.{◌≡◌, List, [], ◌∷◌, true, ℕ, ◌≤◌, length, take, drop, pos, Ok}
 use Rattle.std.proofs.Math.Option.{some}
 use Rattle.laws.specs.Lists.{total}
 use Rattle.rules.specs.declared.Settings.{Settings}
-use Rattle.rules.specs.declared.Outcome.TheVariants.{Is}
 use Rattle.rules.specs.declared.Sizes.{Sizes}
 use Rattle.rules.specs.declared.Refusal.{Refusal}
 use Rattle.rules.specs.Answers.{ok}
@@ -42,7 +41,7 @@ pub record ReadAgain (b : Beside) (stems : List Placeℕ) (written bytes : List 
 -- that statement there
 pub record TargetWritten (asked : Settings) (p again : Program) (i s : Placeℕ) (o : ℕ) (kept : TargetKept asked p i s o) : Type 0 where
   pub stands : at again kept.place ≡ instr kept.form kept.args kept.place
-  pub names_byte : origin again (Is (pos kept.address)) ≡ some (record { place = kept.owner; offset = o })
+  pub names_byte : origin again (Ok (pos kept.address)) ≡ some (record { place = kept.owner; offset = o })
 
 -- the three demands of an accepted text, and of what was handed out for it
 pub record Promised (asked : Settings) (text written bytes : List ℕ) (rewrites : ℕ) : Type 0 where
@@ -69,7 +68,7 @@ pub record BeyondKept (n : ℕ) (room room' : List ℕ) : Type 0 where
   pub beyond : drop n room' ≡ drop n room
   pub as_long : length room' ≡ length room
 
--- what the answer `Done sizes` says
+-- what the answer `Ok sizes` says
 pub record OnAcceptance (asked : Settings) (text listing image : List ℕ) (sizes : Sizes) (listing' image' : List ℕ) : Type 0 where
   pub promised : Promised asked text (take sizes.listing listing') (take sizes.image image') sizes.rewrites
   pub listing_room_holds : BeyondKept sizes.listing listing listing'
@@ -80,7 +79,7 @@ pub record OnAcceptance (asked : Settings) (text listing image : List ℕ) (size
 abbrev pub twelve : List ℕ
 twelve = 1 ∷ 2 ∷ 3 ∷ 4 ∷ 5 ∷ 6 ∷ 7 ∷ 8 ∷ 9 ∷ 10 ∷ 11 ∷ 12 ∷ []
 
--- what the answer `Refused r` says: "one of twelve numbered refusals naming a statement, and a refusal changes no byte we lent"; "No number is given
+-- what the answer `Err r` says: "one of twelve numbered refusals naming a statement, and a refusal changes no byte we lent"; "No number is given
 -- without its cause", and no other number has one
 pub record OnRefusal (asked : Settings) (text listing image : List ℕ) (r : Refusal) (listing' image' : List ℕ) : Type 0 where
   pub listing_kept : listing' ≡ listing

@@ -1,5 +1,5 @@
 -- Document 01, "Refusal numbers": which statement a refusal names. It is the first, in the order of the listing, that its check refuses.
-use Rattle.std.specs.Prelude.{◌≡◌, List, [], ◌∷◌, ◌++◌, false, true, ℕ, ◌<◌, length, get_or, take, ℤ, pos, ◌-ℤ◌, ◌⊎◌}
+use Rattle.std.specs.Prelude.{◌≡◌, List, [], ◌∷◌, ◌++◌, false, true, ℕ, ◌<◌, length, get_or, take, ℤ, pos, ◌-ℤ◌, ◌⊎◌, Ok}
 use Rattle.laws.specs.Lists.{total}
 use Rattle.rules.specs.declared.Refusal.{Refusal}
 use Rattle.rules.specs.declared.Refusal.TheVariants.{Broken, Limit, Again, Room, Range, Outside, Far, Page}
@@ -11,7 +11,6 @@ use Rattle.rules.specs.Listing.{Line, lines_of, unhex, within_limits, well_forme
 use Rattle.rules.specs.Names.{Key, Entry, Placed, placed, context_at}
 use Rattle.rules.specs.Judging.{keys_in, are_new, settles, define, define_all, encode, worth, worth_of}
 use Rattle.rules.specs.Expressions.{Expr, num}
-use Rattle.rules.specs.declared.Outcome.TheVariants.{Is}
 use Rattle.promises.specs.Demand1.{has_number}
 
 -- of n places the first that a check refuses, with r; those before it pass
@@ -81,7 +80,7 @@ pub data Amounts (n : Addressℕ) (i : Placeℕ) (j : ℕ) (v : ℤ) : Refusal �
 -- why encoding refuses the statement at place i of p: a value that is not there (4, 7), or argument or item j, whose value is the number at fault
 pub data NumberAtFault (names : List Entry) (p : Program) (i : Placeℕ) (r : Refusal) : Type 0 where
   no_value : has_number (4 ∷ 7 ∷ []) r ≡ true → NumberAtFault names p i r
-  of_argument : (f : ℕ) (xs : List Operand) (c : Placeℕ) (j : ℕ) (v : ℤ) → at p i ≡ instr f xs c → j < length xs → worth_of names p (context_at p i) (get_or xs j (register 0)) ≡ Is v
+  of_argument : (f : ℕ) (xs : List Operand) (c : Placeℕ) (j : ℕ) (v : ℤ) → at p i ≡ instr f xs c → j < length xs → worth_of names p (context_at p i) (get_or xs j (register 0)) ≡ Ok v
       → Amounts (after (position p i) (at p i)) i j v r → NumberAtFault names p i r
-  of_item : (es : List Expr) (j : ℕ) (v : ℤ) → (at p i ≡ bytes es) ⊎ (at p i ≡ words es) → j < length es → worth names (context_at p i) (get_or es j (num (pos 0))) ≡ Is v
+  of_item : (es : List Expr) (j : ℕ) (v : ℤ) → (at p i ≡ bytes es) ⊎ (at p i ≡ words es) → j < length es → worth names (context_at p i) (get_or es j (num (pos 0))) ≡ Ok v
       → Amounts (after (position p i) (at p i)) i j v r → NumberAtFault names p i r

@@ -4,13 +4,12 @@ use mathlib.Core.List.{List}
 use Prim.Native.Nat.{ℕ, ◌<◌, ◌≤◌}
 use lib.ListN.{length}
 use borrow.Author.Tests.{lt-leb, le-leb}
+use Rattle.std.specs.Prelude.{Result, Err, Ok}
 use Rattle.rules.specs.declared.Refusal.{Refusal}
 use Rattle.rules.specs.declared.Refusal.TheVariants.{Room}
 use Rattle.rules.specs.Answers.{Judged, ok, no, ◌>>=◌, require}
 use Rattle.rules.specs.Programs.{Program}
 use Rattle.rules.specs.Listing.{read_listing}
-use Rattle.listing.specs.declared.Listed.{Listed}
-use Rattle.listing.specs.declared.Listed.TheVariants.{Read, Refused as Unread}
 use Rattle.listing.specs.Tables.{input_of, Held, Holds, ListedAs}
 use Rattle.readable.specs.Readable.{text_of, within, readable}
 
@@ -29,7 +28,7 @@ read_ok listing p room e = rw e
 -- ---- what was read into the tables
 
 module _ (listing frames starts : List ℕ) (room : ℕ) where
-  pub read : (count : ℕ) (r : Listed) → r ≡ Read count → ListedAs frames starts r (read_listing listing)
+  pub read : (count : ℕ) (r : Result ℕ Refusal) → r ≡ Ok count → ListedAs frames starts r (read_listing listing)
       → Held frames starts count × (readable listing room ≡ within (input_of frames starts count) room)
   unfolding readable ◌>>=◌
   read count r e h = on (read_listing listing) refl h
@@ -39,7 +38,7 @@ module _ (listing frames starts : List ℕ) (room : ℕ) where
       on (ok p) z h = let g : Holds frames starts count p = rw e at h in (g.held, rw z (ap (λ (q : Program). within q room) (sym g.input)))
       on (no q) z h = absurd (rw e at h)
 
-  pub unread : (q : Refusal) (r : Listed) → r ≡ Unread q → ListedAs frames starts r (read_listing listing) → readable listing room ≡ no q
+  pub unread : (q : Refusal) (r : Result ℕ Refusal) → r ≡ Err q → ListedAs frames starts r (read_listing listing) → readable listing room ≡ no q
   unfolding readable ◌>>=◌
   unread q r e h = on (read_listing listing) refl h
     where

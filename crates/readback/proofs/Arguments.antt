@@ -7,6 +7,7 @@ use native.Mathlib.Omega.{arith}
 use lib.ListN.{length, get_or}
 use lib.IntN.{ℤ, pos, negsuc}
 use borrow.Author.Tests.{ltb-true}
+use Rattle.std.specs.Prelude.{None, Some}
 use Rattle.laws.proofs.Tests.{clash, false_true}
 use Rattle.rules.specs.declared.Kind.{Kind}
 use Rattle.rules.specs.declared.Kind.TheVariants.{Reg, I8, D9, Bit, Rel8, A12, A16, Rel16}
@@ -15,9 +16,7 @@ use Rattle.rules.specs.Expressions.{num, bytes_of}
 use Rattle.rules.specs.Forms.{operands_at}
 use Rattle.rules.specs.Programs.{Addressℕ}
 use Rattle.rules.specs.Output.{operand_bytes}
-use Rattle.instruction.specs.declared.tables.Operand.TheVariants.{Is as IsKind, Nothing}
 use Rattle.instruction.specs.Tables.{operand_in}
-use Rattle.decoding.specs.declared.operands.Number.TheVariants.{Is, Outside}
 use Rattle.decoding.specs.Numbers.{number_as}
 use Rattle.decoding.specs.Operands.{width, reads, operand_of}
 use Rattle.decoding.specs.Runs.{runs_of, number_in}
@@ -27,12 +26,12 @@ use Rattle.readback.specs.Frames.{kind_at, held_at, is_register, value_bytes}
 
 -- ---- the kind
 
-pub kind_is : (ds : List Kind) (j : ℕ) (d : Kind) → operand_in ds j ≡ IsKind d → d ≡ get_or ds j Reg
+pub kind_is : (ds : List Kind) (j : ℕ) (d : Kind) → operand_in ds j ≡ Some d → d ≡ get_or ds j Reg
 kind_is [] j d e = clash (cc)
 kind_is (k ∷ ks) zero d e = cc
 kind_is (k ∷ ks) (suc j) d e = kind_is ks j d e
 
-pub kind_there {ℓ} : {X : Type ℓ} (ds : List Kind) (j : ℕ) → j < length ds → operand_in ds j ≡ Nothing → X
+pub kind_there {ℓ} : {X : Type ℓ} (ds : List Kind) (j : ℕ) → j < length ds → operand_in ds j ≡ None → X
 kind_there [] j l e = absurd (omega arith)
 kind_there (k ∷ ks) zero l e = clash (cc)
 kind_there (k ∷ ks) (suc j) l e = kind_there ks j (omega arith) e
@@ -56,18 +55,18 @@ pub record NumberIs (z : ℤ) (m : ℕ) : Type 0 where
   pub is : z ≡ pos m
   pub low : m < 65536
 
-pub number_is : (z : ℤ) (m : ℕ) → number_as z ≡ Is m → NumberIs z m
+pub number_is : (z : ℤ) (m : ℕ) → number_as z ≡ Some m → NumberIs z m
 number_is z m e = on (below 65536 z) z refl e
   where
-    on : (b : Bool) (z : ℤ) → below 65536 z ≡ b → cond b (Is (nat z)) Outside ≡ Is m → NumberIs z m
+    on : (b : Bool) (z : ℤ) → below 65536 z ≡ b → cond b (Some (nat z)) None ≡ Some m → NumberIs z m
     on true (pos a) t e = let q : a ≡ m = cc in record { inside = t; is = ap pos q; low = rw (← q) (ltb-true a 65536 t) }
     on true (negsuc a) t e = false_true t
     on false z t e = clash (cc)
 
-pub number_out : (z : ℤ) → number_as z ≡ Outside → below 65536 z ≡ false
+pub number_out : (z : ℤ) → number_as z ≡ None → below 65536 z ≡ false
 number_out z e = on (below 65536 z) refl e
   where
-    on : (b : Bool) → below 65536 z ≡ b → cond b (Is (nat z)) Outside ≡ Outside → below 65536 z ≡ false
+    on : (b : Bool) → below 65536 z ≡ b → cond b (Some (nat z)) None ≡ None → below 65536 z ≡ false
     on true t e = clash (cc)
     on false t e = t
 

@@ -1,5 +1,5 @@
 -- What the code says of one statement: its frame, laid in a room of seventeen bytes.
-use Rattle.std.specs.Prelude.{◌≡◌, List, [], ◌∷◌, Bool, true, false, cond, ℕ, ◌+◌, ◌≤◌, eqb, length, get_or, take}
+use Rattle.std.specs.Prelude.{◌≡◌, List, [], ◌∷◌, Bool, true, false, cond, ℕ, ◌+◌, ◌≤◌, eqb, length, get_or, take, Option, None, Some}
 use Rattle.laws.specs.Lists.{each}
 use Rattle.rules.specs.declared.Kind.{Kind}
 use Rattle.rules.specs.declared.Kind.TheVariants.{Reg}
@@ -11,8 +11,6 @@ use Rattle.rules.specs.Layout.{after}
 use Rattle.rules.specs.Output.{operand_bytes, frame_of}
 use Rattle.digits.specs.Digits.{laid}
 use Rattle.decoding.specs.Operands.{width, held_in, reads, plain, operand_of, operands_from, none_outside}
-use Rattle.readback.specs.declared.frames.Written.{Written}
-use Rattle.readback.specs.declared.frames.Written.TheVariants.{To, Outside}
 use Rattle.readback.specs.declared.frames.Step.{Step}
 use Rattle.readback.specs.ReadBack.{read_one}
 
@@ -35,20 +33,20 @@ abbrev pub value_bytes : Kind → (v : ℕ) → List ℕ
 value_bytes d v = cond (is_register d) (v ∷ []) (bytes_of (plain v))
 
 -- that argument, stored from `at` on, or outside 0..65,535
-abbrev pub Argument : (f : ℕ) (s : List ℕ) (n : Addressℕ) (j : ℕ) (room : List ℕ) (at : ℕ) → Written → (after : List ℕ) → Type 0
-Argument f s n j room at (To end) x =
+abbrev pub Argument : (f : ℕ) (s : List ℕ) (n : Addressℕ) (j : ℕ) (room : List ℕ) (at : ℕ) → Option ℕ → (after : List ℕ) → Type 0
+Argument f s n j room at (Some end) x =
     (below 65536 (reads n (kind_at f j) (held_at f s j)) ≡ true)
     × (x ≡ laid room at (operand_bytes (operand_at f s n j)))
     × (end ≡ at + length (operand_bytes (operand_at f s n j)))
-Argument f s n j room at Outside x = below 65536 (reads n (kind_at f j) (held_at f s j)) ≡ false
+Argument f s n j room at None x = below 65536 (reads n (kind_at f j) (held_at f s j)) ≡ false
 
 -- an instruction's frame at the front of a room, or an argument outside
 abbrev pub instr_frame : (f : ℕ) (s : List ℕ) (n : Addressℕ) → List ℕ
 instr_frame f s n = 1 ∷ f ∷ each (λ x. operand_bytes x) (operands_from f s n 0 (operands_at f))
 
-abbrev pub Instruction : (f : ℕ) (s : List ℕ) (n : Addressℕ) → Written → (room : List ℕ) → Type 0
-Instruction f s n (To end) x = (none_outside f s n 0 (operands_at f) ≡ true) × (take end x ≡ instr_frame f s n) × (end ≤ 17)
-Instruction f s n Outside x = none_outside f s n 0 (operands_at f) ≡ false
+abbrev pub Instruction : (f : ℕ) (s : List ℕ) (n : Addressℕ) → Option ℕ → (room : List ℕ) → Type 0
+Instruction f s n (Some end) x = (none_outside f s n 0 (operands_at f) ≡ true) × (take end x ≡ instr_frame f s n) × (end ≤ 17)
+Instruction f s n None x = none_outside f s n 0 (operands_at f) ≡ false
 
 -- the statement that the bytes s at q begin with, at whatever place: how many bytes it takes, and its frame at the front of the room
 pub record FrameOf (q : Addressℕ) (s : List ℕ) (r : Step) (room : List ℕ) : Type 0 where

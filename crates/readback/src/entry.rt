@@ -8,8 +8,8 @@ ghost use Rattle.readback.specs.Walks.{ExtentOf};
 ghost use Rattle.readback.specs.Entry.{Leaves};
 
 use crate::walks::{Extent, measure, write_from};
-use digits::put_line;
-use rules::{Address, Answer, Place, Refusal, Sizes};
+use digits::{low_byte, put_line};
+use rules::{Address, Place, Refusal, Sizes};
 
 // The org's line has seven characters.
 const ORG_LINE: usize = 7;
@@ -20,12 +20,6 @@ fn has_org(image: &[u8], start: Address) -> bool
 {
     let at = start.0;
     0 < at && at < image.len()
-}
-
-fn low_byte(x: usize) -> u8
-    ensures { result ≡ x % 256 }
-{
-    (x % 256) as u8
 }
 
 // The org at the front of the room.
@@ -65,7 +59,7 @@ fn write_all(image: &[u8], start: Address, listing: &mut [u8])
 }
 
 // From an image that is not too long, and a start within it.
-fn write_back(image: &[u8], start: Address, listing: &mut [u8]) -> Answer
+fn write_back(image: &[u8], start: Address, listing: &mut [u8]) -> Result<Sizes, Refusal>
     requires { (start.0 ≤ length image.now) × (length image.now ≤ 65536) }
     ensures { let x = read_back image.now start.0 (length listing.old) in
         Leaves x result listing.old listing.new }
@@ -74,13 +68,13 @@ fn write_back(image: &[u8], start: Address, listing: &mut [u8]) -> Answer
     let count = whole.0;
     let chars = whole.1;
     if 1024 < count {
-        return Answer::Refused(Refusal::Limit(Place(1024)));
+        return Err(Refusal::Limit(Place(1024)));
     }
     if listing.len() < chars {
-        return Answer::Refused(Refusal::Room(count));
+        return Err(Refusal::Room(count));
     }
     write_all(image, start, listing);
-    Answer::Done(Sizes {
+    Ok(Sizes {
         listing: chars,
         rewrites: 0,
         image: 0,
@@ -88,15 +82,15 @@ fn write_back(image: &[u8], start: Address, listing: &mut [u8]) -> Answer
 }
 
 // Reads an image back from a start address on. On refusal no lent byte changes.
-pub fn read_back(image: &[u8], start: usize, listing: &mut [u8]) -> Answer
+pub fn read_back(image: &[u8], start: usize, listing: &mut [u8]) -> Result<Sizes, Refusal>
     ensures { let x = read_back image.now start (length listing.old) in
         Leaves x result listing.old listing.new }
 {
     if image.len() < start {
-        return Answer::Refused(Refusal::Start);
+        return Err(Refusal::Start);
     }
     if 65536 < image.len() {
-        return Answer::Refused(Refusal::Limit(Place(0)));
+        return Err(Refusal::Limit(Place(0)));
     }
     write_back(image, Address(start), listing)
 }

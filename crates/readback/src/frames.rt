@@ -9,16 +9,9 @@ ghost use Rattle.readback.specs.ReadBack.{data_of};
 ghost use Rattle.readback.specs.Frames.{is_register, value_bytes, Argument, Instruction, FrameOf};
 
 use decoding::opcodes::decode;
-use decoding::operands::{Number, held, read_as};
-use instruction::tables::{Operand, operand_count, operand_kind};
+use decoding::operands::{held, read_as};
+use instruction::tables::{operand_count, operand_kind};
 use rules::{Address, Kind};
-
-// Where a piece of a frame ends, or that a target falls outside 0..65,535.
-#[derive(Clone, Copy)]
-pub enum Written {
-    To(usize),
-    Outside,
-}
 
 // How many bytes of the image a statement takes, and how many its frame has.
 #[derive(Clone, Copy)]
@@ -73,23 +66,28 @@ fn put_data(s: &[u8], frame: &mut [u8]) -> usize
     2 + 5 * s.len()
 }
 
-// Argument j of the instruction of this form and these bytes, with n the address after it.
-fn put_argument(s: &[u8], form: u8, j: usize, n: Address, frame: &mut [u8], at: usize) -> Written
+// Argument j of the instruction of this form and these bytes, with n the address after it: where it ends, or none where its target falls
+// outside 0..65,535.
+fn put_argument(
+    s: &[u8],
+    form: u8,
+    j: usize,
+    n: Address,
+    frame: &mut [u8],
+    at: usize,
+) -> Option<usize>
     requires { (form < 70) × (j < length (operands_at form)) × (n.0 ≤ 65536) × (at + 5 ≤ length frame.old) }
     ensures { Argument form s.now n.0 j frame.old at result frame.new }
 {
-    let Operand::Is(kind) = operand_kind(form, j) else {
-        return Written::Outside;
-    };
+    let kind = operand_kind(form, j)?;
     let v = held(form, kind, byte_at(s, 0), byte_at(s, 1), byte_at(s, 2));
-    let Number::Is(number) = read_as(kind, n.0, v) else {
-        return Written::Outside;
-    };
-    Written::To(put_value(frame, at, kind, number))
+    let number = read_as(kind, n.0, v)?;
+    Some(put_value(frame, at, kind, number))
 }
 
-// An instruction: its kind, its form, and its arguments; n is the address after it.
-fn put_instruction(s: &[u8], form: u8, n: Address, frame: &mut [u8]) -> Written
+// An instruction: its kind, its form, and its arguments; n is the address after it. Where the frame ends, or none where a target falls
+// outside.
+fn put_instruction(s: &[u8], form: u8, n: Address, frame: &mut [u8]) -> Option<usize>
     requires { (form < 70) × (n.0 ≤ 65536) × (17 ≤ length frame.old) }
     ensures { Instruction form s.now n.0 result frame.new }
 {
@@ -97,12 +95,9 @@ fn put_instruction(s: &[u8], form: u8, n: Address, frame: &mut [u8]) -> Written
     frame[1] = form;
     let mut at = 2;
     for j in 0..operand_count(form) {
-        let Written::To(end) = put_argument(s, form, j, n, frame, at) else {
-            return Written::Outside;
-        };
-        at = end;
+        at = put_argument(s, form, j, n, frame, at)?;
     }
-    Written::To(at)
+    Some(at)
 }
 
 // The statement that the bytes s begin with, which lie at q.
@@ -118,7 +113,7 @@ pub fn frame_at(s: &[u8], q: Address, frame: &mut [u8]) -> Step
         return Step(n, put_data(s, frame));
     }
     match put_instruction(s, form, Address(q.0 + size), frame) {
-        Written::To(end) => Step(size, end),
-        Written::Outside => Step(1, put_data(&s[..1], frame)),
+        Some(end) => Step(size, end),
+        None => Step(1, put_data(&s[..1], frame)),
     }
 }

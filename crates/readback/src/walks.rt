@@ -46,6 +46,7 @@ pub fn measure(image: &[u8], start: Address) -> Extent
     let mut q = start.0;
     let mut count = 0;
     let mut chars = 0;
+    // statement by statement: q goes on by its bytes
     while q < image.len() {
         let step = step_at(image, Address(q));
         q += step.0;
@@ -63,6 +64,7 @@ pub fn write_from(image: &[u8], start: Address, out: &mut [u8], at: usize)
 {
     let mut q = start.0;
     let mut a = at;
+    // statement by statement: q goes on by its bytes
     while q < image.len() {
         let step = write_at(image, Address(q), out, a);
         q += step.0;

@@ -6,6 +6,7 @@ use Prim.Native.Nat.{ℕ}
 use lib.Dec.{leb}
 use lib.ListN.{length, take, drop}
 use lib.Seq.{take_at, drop_at}
+use Rattle.std.specs.Prelude.{Err, Result, Ok}
 use Rattle.laws.proofs.Tests.{clash}
 use Rattle.rules.specs.declared.Refusal.{Refusal}
 use Rattle.rules.specs.declared.Refusal.TheVariants.{Room}
@@ -13,8 +14,6 @@ use Rattle.rules.specs.Answers.{Judged, ok, no, require}
 use Rattle.rules.specs.Listing.{read_listing}
 use Rattle.rules.proofs.Laws.{require_ok}
 use Rattle.promises.proofs.RoundTrip.{AllBytes}
-use Rattle.salvage.specs.declared.Saved.{Saved}
-use Rattle.salvage.specs.declared.Saved.TheVariants.{Done, Refused}
 use Rattle.salvage.specs.declared.walks.Extent.{Extent}
 use Rattle.salvage.specs.Salvage.{Salvaged, salvaged, salvage}
 use Rattle.salvage.specs.Entry.{Leaves, Accepted}
@@ -31,11 +30,11 @@ module _ (text listing report : List ℕ) where
       (Room (salvaged text).count) (ok (salvaged text)) x e in
       cc t.1
 
-  pub on_acceptance : (e : Extent) (listing' report' : List ℕ) → AllBytes text → Leaves answer (Done e) listing report listing' report'
+  pub on_acceptance : (e : Extent) (listing' report' : List ℕ) → AllBytes text → Leaves answer (Ok e) listing report listing' report'
       → Accepted text e listing report listing' report'
   on_acceptance e listing' report' h a = on answer refl a
     where
-      on : (j : Judged Salvaged) → answer ≡ j → Leaves j (Done e) listing report listing' report' → Accepted text e listing report listing'
+      on : (j : Judged Salvaged) → answer ≡ j → Leaves j (Ok e) listing report listing' report' → Accepted text e listing report listing'
           report'
       on (ok x) z a =
           let is : salvaged text ≡ x = done_is x z in
@@ -72,16 +71,16 @@ module _ (text listing report : List ℕ) where
       on true e = clash (cc)
       on false e = cc
 
-  pub on_refusal : (r : Refusal) (listing' report' : List ℕ) → Leaves answer (Refused r) listing report listing' report'
+  pub on_refusal : (r : Refusal) (listing' report' : List ℕ) → Leaves answer (Err r) listing report listing' report'
       → (r ≡ Room (salvaged text).count) × (listing' ≡ listing) × (report' ≡ report)
   on_refusal r listing' report' a = on answer refl a
     where
-      on : (j : Judged Salvaged) → answer ≡ j → Leaves j (Refused r) listing report listing' report'
+      on : (j : Judged Salvaged) → answer ≡ j → Leaves j (Err r) listing report listing' report'
           → (r ≡ Room (salvaged text).count) × (listing' ≡ listing) × (report' ≡ report)
       on (ok x) z a = clash (cc a.answer)
       on (no s) z a = let q : s ≡ r = cc a.answer in (room_alone r (z ∙ ap no q), a.listing_is, a.report_is)
 
   -- "Show that any two results allowed by the contract coincide": the answer, and every byte of the rooms
-  pub one_salvage : (r s : Saved) (x y u v : List ℕ) → Leaves answer r listing report x y → Leaves answer s listing report u v
+  pub one_salvage : (r s : Result Extent Refusal) (x y u v : List ℕ) → Leaves answer r listing report x y → Leaves answer s listing report u v
       → (r ≡ s) × (x ≡ u) × (y ≡ v)
   one_salvage r s x y u v a b = (a.answer ∙ sym b.answer, a.listing_is ∙ sym b.listing_is, a.report_is ∙ sym b.report_is)

@@ -7,6 +7,7 @@ use native.Mathlib.Omega.{arith}
 use lib.Dec.{leb}
 use lib.ListN.{length, drop, length-append}
 use borrow.Author.Tests.{le-leb, lt-leb}
+use Rattle.std.specs.Prelude.{Err, Ok}
 use Rattle.laws.specs.Lists.{each}
 use Rattle.laws.proofs.Tests.{first_false, second_false, and_both}
 use Rattle.rules.specs.declared.Refusal.TheVariants.{Room}
@@ -17,7 +18,6 @@ use Rattle.listing.specs.Form.{form_of, is_marked, after_mark}
 use Rattle.listing.proofs.Forms.{mark_form, mark_lines, marked_long}
 use Rattle.digits.specs.Digits.{laid}
 use Rattle.digits.proofs.Rooms.{laid_front}
-use Rattle.salvage.specs.declared.Saved.TheVariants.{Done, Refused}
 use Rattle.salvage.specs.declared.walks.Extent.{Extent}
 use Rattle.salvage.specs.Salvage.{Salvaged, behind_mark, salvage_from, salvaged, salvage}
 use Rattle.salvage.specs.Entry.{extent_of, Leaves}
@@ -86,16 +86,16 @@ module _ (text listing report : List ℕ) where
   short_room h = rw h
 
   refused : (n : ℕ) → n ≡ (salvaged text).count
-      → answer ≡ no (Room (salvaged text).count) → Leaves answer (Refused (Room n)) listing report listing report
+      → answer ≡ no (Room (salvaged text).count) → Leaves answer (Err (Room n)) listing report listing report
   refused n z e = rw (e, z) (record { answer = refl; listing_is = refl; report_is = refl })
 
   pub no_listing_room : (n : ℕ) → n ≡ (salvaged text).count → length listing < length (salvaged text).listing
-      → Leaves answer (Refused (Room n)) listing report listing report
+      → Leaves answer (Err (Room n)) listing report listing report
   no_listing_room n z h = refused n z
       (short_room (first_false listing_fits report_fits (lt-leb (length (salvaged text).listing) (length listing) h)))
 
   pub no_report_room : (n : ℕ) → n ≡ (salvaged text).count → length report < length (salvaged text).report
-      → Leaves answer (Refused (Room n)) listing report listing report
+      → Leaves answer (Err (Room n)) listing report listing report
   no_report_room n z h = refused n z
       (short_room (second_false listing_fits report_fits (lt-leb (length (salvaged text).report) (length report) h)))
 
@@ -107,6 +107,6 @@ module _ (text listing report : List ℕ) where
   pub written : (e : Extent) (listing' report' : List ℕ) → length (salvaged text).listing ≤ length listing
       → length (salvaged text).report ≤ length report → e ≡ extent_of (salvaged text)
       → listing' ≡ laid listing 0 (salvaged text).listing → report' ≡ laid report 0 (salvaged text).report
-      → Leaves answer (Done e) listing report listing' report'
+      → Leaves answer (Ok e) listing report listing' report'
   written e listing' report' h k z a b =
       rw (enough h k, z) (record { answer = refl; listing_is = a ∙ laid_front listing _; report_is = b ∙ laid_front report _ })

@@ -1,20 +1,19 @@
 -- What `salvage` answers to a text and two rooms, and what it leaves in them.
-use Rattle.std.specs.Prelude.{◌≡◌, List, ℕ, length, take, drop}
+use Rattle.rules.specs.declared.Refusal.{Refusal}
+use Rattle.std.specs.Prelude.{◌≡◌, List, ℕ, length, take, drop, Err, Result, Ok}
 use Rattle.rules.specs.Answers.{Judged, ok, no}
 use Rattle.rules.specs.Programs.{Program}
 use Rattle.rules.specs.Listing.{read_listing}
 use Rattle.rules.specs.Run.{front}
-use Rattle.salvage.specs.declared.Saved.{Saved}
-use Rattle.salvage.specs.declared.Saved.TheVariants.{Done, Refused}
 use Rattle.salvage.specs.declared.walks.Extent.{Extent}
 use Rattle.salvage.specs.Salvage.{Salvaged, salvaged}
 
 abbrev pub extent_of : Salvaged → Extent
 extent_of x = record { statements = x.count; listing = length x.listing; report = length x.report }
 
-abbrev pub answer_as : Judged Salvaged → Saved
-answer_as (ok x) = Done (extent_of x)
-answer_as (no r) = Refused r
+abbrev pub answer_as : Judged Salvaged → Result Extent Refusal
+answer_as (ok x) = Ok (extent_of x)
+answer_as (no r) = Err r
 
 -- "No lent byte changes" on refusal; "On acceptance, room beyond the result is unchanged."
 abbrev pub listing_as : Judged Salvaged → (room : List ℕ) → List ℕ
@@ -25,12 +24,12 @@ abbrev pub report_as : Judged Salvaged → (room : List ℕ) → List ℕ
 report_as (ok x) room = front x.report room
 report_as (no r) room = room
 
-pub record Leaves (x : Judged Salvaged) (r : Saved) (listing report listing' report' : List ℕ) : Type 0 where
+pub record Leaves (x : Judged Salvaged) (r : Result Extent Refusal) (listing report listing' report' : List ℕ) : Type 0 where
   pub answer : r ≡ answer_as x
   pub listing_is : listing' ≡ listing_as x listing
   pub report_is : report' ≡ report_as x report
 
--- what the answer `Done e` says of the rooms: the front of the first reads as a listing, the front of the second is the report, and what lies beyond
+-- what the answer `Ok e` says of the rooms: the front of the first reads as a listing, the front of the second is the report, and what lies beyond
 -- either is unchanged
 pub record Accepted (text : List ℕ) (e : Extent) (listing report listing' report' : List ℕ) : Type 0 where
   pub program : Program

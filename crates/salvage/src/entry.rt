@@ -7,7 +7,6 @@ ghost use Rattle.salvage.specs.Salvage.{salvage as answer};
 ghost use Rattle.salvage.specs.Entry.{Leaves};
 ghost use Rattle.salvage.specs.Turns.{mark_length};
 
-use crate::Saved;
 use crate::walks::{Extent, measure, write_from};
 use digits::put_line;
 use listing::new_form;
@@ -31,8 +30,8 @@ fn put_mark(marked: bool, listing: &mut [u8])
     }
 }
 
-// Salvages a text of any bytes. On refusal no lent byte changes.
-pub fn salvage(text: &[u8], listing: &mut [u8], report: &mut [u8]) -> Saved
+// Salvages a text of any bytes: what is in the lent rooms, or 12, on which no lent byte changes.
+pub fn salvage(text: &[u8], listing: &mut [u8], report: &mut [u8]) -> Result<Extent, Refusal>
     ensures { let x = answer text.now (length listing.old) (length report.old) in
         Leaves x result listing.old report.old listing.new report.new }
 {
@@ -41,11 +40,11 @@ pub fn salvage(text: &[u8], listing: &mut [u8], report: &mut [u8]) -> Saved
     let rest = measure(text, marked, start);
     let chars = start + rest.listing;
     if listing.len() < chars || report.len() < rest.report {
-        return Saved::Refused(Refusal::Room(rest.statements));
+        return Err(Refusal::Room(rest.statements));
     }
     put_mark(marked, listing);
     write_from(text, marked, start, listing, report);
-    Saved::Done(Extent {
+    Ok(Extent {
         listing: chars,
         ..rest
     })

@@ -55,6 +55,7 @@ pub fn measure(text: &[u8], marked: bool, start: usize) -> Extent
     let mut i = 0;
     let mut sum = 0;
     let mut told = 0;
+    // line by line: q goes on by a line's length
     while q < text.len() {
         let t = take_turn(&text[q..], marked);
         if !keeps_limits(marked, i, sum, t.length) {
@@ -90,6 +91,7 @@ pub fn write_from(text: &[u8], marked: bool, start: usize, listing: &mut [u8], r
     let mut at = start;
     let mut sum = 0;
     let mut told = 0;
+    // line by line: q goes on by a line's length
     while q < text.len() {
         let t = take_turn(&text[q..], marked);
         if !keeps_limits(marked, i, sum, t.length) {

@@ -6,6 +6,7 @@ use Prim.Native.Nat.{ℕ, suc, ◌+◌, ◌*◌, ◌-◌, ◌≤◌, ◌<◌}
 use native.Mathlib.Omega.{arith}
 use lib.Dec.{leb}
 use borrow.Author.Tests.{le-leb, lt-leb, leb-true, leb-false}
+use Rattle.std.specs.Prelude.{Ok, Err}
 use Rattle.laws.proofs.Tests.{false_true}
 use lib.ListN.{length, drop, get_or, length-drop, drop_of_length-le}
 use lib.Seq.{drop-cons}
@@ -19,7 +20,6 @@ use Rattle.plans.specs.Plans.{Plan, finish, Walks}
 use Rattle.plans.specs.Finals.{hexes, comments}
 use Rattle.laying.specs.Laying.{Stands, Added}
 use Rattle.laying.proofs.Laying.{nothing_stands}
-use Rattle.laying.specs.declared.Told.TheVariants.{Frame, Wrong}
 use Rattle.laying.specs.Speaking.{Spoken}
 
 on_same : (o : Read (List ℕ)) → on_got (λ r. [] ++ r) o ≡ o
@@ -66,25 +66,25 @@ pub record Paired (s : List ℕ) (k : ℕ) (b : List ℕ) (at i : ℕ) : Type 0 
 pub none_paired : (s : List ℕ) (k : ℕ) (b₀ b₁ : List ℕ) (p : ℕ) → length b₀ ≡ 120 → Added b₀ b₁ 0 p (4 ∷ []) 0 → Paired s k b₁ p k
 none_paired s k b₀ b₁ p e x = record { xs = []; stands = x.adds [] 0 (nothing_stands b₀ e); leads = sym (on_same (hexes (drop k s))) }
 
-pub empty_comment : (s : List ℕ) (k : ℕ) (a : List ℕ) → k ≤ length s → length s ≤ k → Spoken (finish comments) s k a (Wrong k)
+pub empty_comment : (s : List ℕ) (k : ℕ) (a : List ℕ) → k ≤ length s → length s ≤ k → Spoken (finish comments) s k a (Err k)
 unfolding comments
 empty_comment s k a h g = (plans.Walks.finishes (ap comments (drop_of_length-le s g) ∙ ap stuck (sym (drop_of_length-le s g))), h)
 
 module _ (s : List ℕ) (k : ℕ) (b : List ℕ) (at i : ℕ) (some : k < length s) (p : Paired s k b at i) where
   -- what hexes comes to at i, it comes to at k
-  stuck_so : (c : ℕ) → c ≤ length s → hexes (drop i s) ≡ stuck (drop c s) → Spoken (finish comments) s k b (Wrong c)
+  stuck_so : (c : ℕ) → c ≤ length s → hexes (drop i s) ≡ stuck (drop c s) → Spoken (finish comments) s k b (Err c)
   stuck_so c h e = (
     plans.Walks.finishes (comments_is (drop k s) (omega (arith, length-drop k s))
         ∙ ap (on_got (λ x. comment x)) (p.leads ∙ ap (on_got (λ r. p.xs ++ r)) e)),
     h,
   )
 
-  pub pair_first : i < length s → is_digit (get_or s i 0) ≡ false → Spoken (finish comments) s k b (Wrong i)
+  pub pair_first : i < length s → is_digit (get_or s i 0) ≡ false → Spoken (finish comments) s k b (Err i)
   pair_first h e =
       stuck_so i (omega arith) (ap hexes (drop-cons s i 0 h) ∙ no_first (get_or s i 0) (drop (suc i) s) e
       ∙ ap stuck (sym (drop-cons s i 0 h)))
 
-  pub pair_cut : i < length s → is_digit (get_or s i 0) ≡ true → length s ≤ i + 1 → Spoken (finish comments) s k b (Wrong (i + 1))
+  pub pair_cut : i < length s → is_digit (get_or s i 0) ≡ true → length s ≤ i + 1 → Spoken (finish comments) s k b (Err (i + 1))
   pair_cut h e g =
       stuck_so (i + 1) (omega arith)
       (ap hexes (drop-cons s i 0 h) ∙ no_second (get_or s i 0) (drop (suc i) s) e (omega (arith, length-drop (suc i) s))
@@ -99,7 +99,7 @@ module _ (s : List ℕ) (k : ℕ) (b : List ℕ) (at i : ℕ) (some : k < length
       ∙ ap (λ n. get_or s (i + 1) 0 ∷ drop n s) c)
 
   pub pair_second : i + 1 < length s → is_digit (get_or s i 0) ≡ true → is_digit (get_or s (i + 1) 0) ≡ false
-      → Spoken (finish comments) s k b (Wrong (i + 1))
+      → Spoken (finish comments) s k b (Err (i + 1))
   pair_second h e q =
       let c : suc (i + 1) ≡ i + 2 = omega arith in
       stuck_so (i + 1) (omega arith)
@@ -118,7 +118,7 @@ module _ (s : List ℕ) (k : ℕ) (b : List ℕ) (at i : ℕ) (some : k < length
             ∙ on_both p.xs v (hexes (drop (i + 2) s));
       }
 
-  pub pairs_end : length s ≤ i → Spoken (finish comments) s k b (Frame at)
+  pub pairs_end : length s ≤ i → Spoken (finish comments) s k b (Ok at)
   unfolding frame_of hexes
   pairs_end h = (
     comment p.xs,

@@ -8,6 +8,7 @@ use lib.Dec.{eqb}
 use lib.ListN.{length, drop, set, length-append, length-set, length-drop, drop_of_length-le}
 use lib.Seq.{take-set-lt}
 use borrow.Author.Tests.{ne_eqb}
+use Rattle.std.specs.Prelude.{Result, Err, Ok}
 use Rattle.laws.specs.Lists.{each, total}
 use Rattle.laws.proofs.Lists.{each_append, total_append}
 use Rattle.rules.specs.Expressions.{Expr, bytes_of}
@@ -15,21 +16,17 @@ use Rattle.rules.specs.Programs.{Stmt, bytes, words}
 use Rattle.rules.specs.Output.{frame_of}
 use Rattle.grammar.specs.Reading.{look}
 use Rattle.grammar.specs.Going.{Read, got, stuck, whole, Goes}
-use Rattle.leaves.specs.declared.Found.{Found}
-use Rattle.leaves.specs.declared.Found.TheVariants.{Ends, Stuck}
 use Rattle.plans.specs.Plans as plans
 use Rattle.plans.specs.Plans.{Plan, done, fork, expression, Walks}
 use Rattle.plans.specs.Lines.{items_plan}
 use Rattle.laying.specs.Laying.{long, Stands, Added, Termed}
 use Rattle.laying.proofs.Laying.{nothing_stands}
-use Rattle.laying.specs.declared.Told.{Told}
-use Rattle.laying.specs.declared.Told.TheVariants.{Frame, Wrong}
 use Rattle.laying.specs.Speaking.{Spoken, item_bytes, ItemsEnd, Listed}
 use Rattle.laying.proofs.Speaking.{fork_byte}
 
 -- ---- the count
 
-pub count_so : (b : List ℕ) (n to : ℕ) → length b ≡ 120 → ItemsEnd b (set b 1 n) n to (Frame to)
+pub count_so : (b : List ℕ) (n to : ℕ) → length b ≡ 120 → ItemsEnd b (set b 1 n) n to (Ok to)
 count_so b n to e = (refl, stands)
   where
     stands : (kind : ℕ) (es : List Expr) (l : ℕ) → Stands b to (item_bytes kind 0 es) l → Stands (set b 1 n) to (item_bytes kind n es) l
@@ -44,7 +41,7 @@ count_so b n to e = (refl, stands)
           over = w.over;
         }
 
-pub term_room : (s : List ℕ) (k : ℕ) (b a : List ℕ) (at : ℕ) (r : Found) (n to : ℕ) → r ≡ Ends n to → Termed s k b a at r
+pub term_room : (s : List ℕ) (k : ℕ) (b a : List ℕ) (at : ℕ) (r : Result (ℕ × ℕ) ℕ) (n to : ℕ) → r ≡ Ok (n, to) → Termed s k b a at r
     → (length a ≡ 120) × (to ≤ 121)
 term_room s k b a at r n to q t = let y = subst (λ x. Termed s k b a at x) q t in (y.1.1.1.size, y.1.1.1.within)
 
@@ -64,8 +61,8 @@ none_yet make kind s k b₀ b₁ b₂ p q e x y =
     record { es = []; count = refl; stands = y.adds (kind ∷ []) 0 (x.adds [] 0 (nothing_stands b₀ e)); leads = λ o w. w }
 
 module _ (make : List Expr → Stmt) (kind : ℕ) (s : List ℕ) (k : ℕ) (b a : List ℕ) (at i n : ℕ) (f : SoFar make kind s k b at i n)
-    (r : Found) (t : Termed s i b a at r) where
-  pub item_stuck : (e : ℕ) → n < 17 → 1 ≤ n → r ≡ Stuck e → Listed make kind s k a (Wrong e)
+    (r : Result (ℕ × ℕ) ℕ) (t : Termed s i b a at r) where
+  pub item_stuck : (e : ℕ) → n < 17 → 1 ≤ n → r ≡ Err e → Listed make kind s k a (Err e)
   unfolding items_plan
   item_stuck e h l q =
       let y = subst (λ x. Termed s i b a at x) q t in
@@ -75,7 +72,7 @@ module _ (make : List Expr → Stmt) (kind : ℕ) (s : List ℕ) (k : ℕ) (b a 
       on zero w = plans.Walks.treeless w
       on (suc m) w = plans.Walks.treeless w
 
-  module _ (e to : ℕ) (q : r ≡ Ends e to) where
+  module _ (e to : ℕ) (q : r ≡ Ok (e, to)) where
     pub item_most : e ≤ length s
     item_most = let y = subst (λ x. Termed s i b a at x) q t in y.1.1.0
 
@@ -115,7 +112,7 @@ module _ (make : List Expr → Stmt) (kind : ℕ) (s : List ℕ) (k : ℕ) (b a 
         f.leads o (subst (λ m. Walks (items_plan make m f.es) (drop i s) o) (sym z) (plans.Walks.tree y.1.0 w))
 
     -- where the line ends
-    pub item_last : (c : List ℕ) (x : Told) → 1 ≤ n → n < 17 → length s ≤ e → ItemsEnd a c n to x → Listed make kind s k c x
+    pub item_last : (c : List ℕ) (x : Result ℕ ℕ) → 1 ≤ n → n < 17 → length s ≤ e → ItemsEnd a c n to x → Listed make kind s k c x
     item_last c x l h g w =
         subst (λ z. Listed make kind s k c z) (sym w.0) (
           more,
@@ -138,7 +135,7 @@ module _ (make : List Expr → Stmt) (kind : ℕ) (s : List ℕ) (k : ℕ) (b a 
             plans.Walks.ended)
 
     -- where something else than a comma follows
-    pub item_other : 1 ≤ n → n < 17 → e < length s → (look (drop e s) ≡ 44 → ⊥) → Listed make kind s k a (Wrong e)
+    pub item_other : 1 ≤ n → n < 17 → e < length s → (look (drop e s) ≡ 44 → ⊥) → Listed make kind s k a (Err e)
     item_other l h g d = (on (16 - n) refl, item_most)
       where
         over : (x : Stmt) (t : List ℕ) → 1 ≤ length t → Walks (done x) t (stuck t)
@@ -156,7 +153,7 @@ module _ (make : List Expr → Stmt) (kind : ℕ) (s : List ℕ) (k : ℕ) (b a 
             (omega (arith, length-drop e s)) d)
 
     -- a seventeenth item
-    pub item_full : n ≡ 16 → e < length s → Listed make kind s k a (Wrong e)
+    pub item_full : n ≡ 16 → e < length s → Listed make kind s k a (Err e)
     item_full z g = (last_walk (stuck (drop e s)) z (over (make more) (drop e s) (omega (arith, length-drop e s))), item_most)
       where
         over : (x : Stmt) (t : List ℕ) → 1 ≤ length t → Walks (done x) t (stuck t)
@@ -177,12 +174,12 @@ module _ (make : List Expr → Stmt) (kind : ℕ) (s : List ℕ) (k : ℕ) (b a 
 
 -- ---- bytes and words
 
-pub bytes_spoken : (s : List ℕ) (k : ℕ) (a : List ℕ) (r : Told) → Listed bytes 6 s k a r → Spoken (items_plan bytes 15 []) s k a r
+pub bytes_spoken : (s : List ℕ) (k : ℕ) (a : List ℕ) (r : Result ℕ ℕ) → Listed bytes 6 s k a r → Spoken (items_plan bytes 15 []) s k a r
 unfolding frame_of
-bytes_spoken s k a (Frame to) (es, (w, h)) = (bytes es, (w, h))
-bytes_spoken s k a (Wrong c) w = w
+bytes_spoken s k a (Ok to) (es, (w, h)) = (bytes es, (w, h))
+bytes_spoken s k a (Err c) w = w
 
-pub words_spoken : (s : List ℕ) (k : ℕ) (a : List ℕ) (r : Told) → Listed words 7 s k a r → Spoken (items_plan words 15 []) s k a r
+pub words_spoken : (s : List ℕ) (k : ℕ) (a : List ℕ) (r : Result ℕ ℕ) → Listed words 7 s k a r → Spoken (items_plan words 15 []) s k a r
 unfolding frame_of
-words_spoken s k a (Frame to) (es, (w, h)) = (words es, (w, h))
-words_spoken s k a (Wrong c) w = w
+words_spoken s k a (Ok to) (es, (w, h)) = (words es, (w, h))
+words_spoken s k a (Err c) w = w

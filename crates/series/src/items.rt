@@ -6,7 +6,6 @@ ghost use Rattle.plans.specs.Lines.{items_plan};
 ghost use Rattle.laying.specs.Speaking.{Spoken, Listed, ItemsEnd};
 
 use laying::{Told, put, term};
-use leaves::Found;
 use leaves::lexing::look;
 
 // The count of the items into their frame.
@@ -15,7 +14,7 @@ fn count(out: &mut [u8; 120], items: u8, to: usize) -> Told
     ensures { ItemsEnd out.old out.new items to result }
 {
     out[1] = items;
-    Told::Frame(to)
+    Ok(to)
 }
 
 // The items of a frame of a kind, the first at k.
@@ -27,26 +26,20 @@ fn items(s: &[u8], k: usize, kind: u8, out: &mut [u8; 120]) -> Told
     let mut at = put(out, a, 0);
     let mut i = k;
     for n in 1..17 {
-        match term(s, i, out, at) {
-            Found::Ends(e, to) => {
-                if e >= s.len() {
-                    return count(out, n, to);
-                }
-                if look(&s[e..]) != b',' {
-                    return Told::Wrong(e);
-                }
-                if n == 16 {
-                    return Told::Wrong(e);
-                }
-                i = e + 1;
-                at = to;
-            }
-            Found::Stuck(e) => {
-                return Told::Wrong(e);
-            }
+        let (e, to) = term(s, i, out, at)?;
+        if e >= s.len() {
+            return count(out, n, to);
         }
+        if look(&s[e..]) != b',' {
+            return Err(e);
+        }
+        if n == 16 {
+            return Err(e);
+        }
+        i = e + 1;
+        at = to;
     }
-    Told::Wrong(k)
+    Err(k)
 }
 
 pub fn bytes_line(s: &[u8], k: usize, out: &mut [u8; 120]) -> Told

@@ -5,6 +5,7 @@ use Prim.Native.Nat.{ℕ, ◌+◌, ◌≤◌, ◌<◌}
 use native.Mathlib.Omega.{arith}
 use lib.ListN.{length, get_or, drop, replicate, get_or-replicate}
 use borrow.Author.Tests.{le-leb, lt-leb}
+use Rattle.std.specs.Prelude.{Result, Err, Ok}
 use Rattle.laws.specs.Counts.{tab}
 use Rattle.laws.proofs.Counts.{length_tab, get_or_tab}
 use Rattle.rules.specs.declared.Refusal.{Refusal}
@@ -16,8 +17,6 @@ use Rattle.rules.specs.Names.{placed}
 use Rattle.rules.specs.Judging.{positions_fit}
 use Rattle.listing.specs.Tables.{frame_at, input_at, input_of, form_in, Held}
 use Rattle.slots.specs.Slots.{Slots, slots, no_owner, program_of}
-use Rattle.slots.specs.declared.Checked.{Checked}
-use Rattle.slots.specs.declared.Checked.TheVariants.{Passes, Refused}
 use Rattle.slots.specs.State.{starts_in, forms_in}
 use Rattle.env.specs.Answers.{checked_as}
 use Rattle.env.specs.Tables.{Any, LaidOut}
@@ -27,23 +26,23 @@ use Rattle.asm.proofs.Started.{program_as_read}
 use Rattle.sits.specs.Sits.{sits_among}
 
 -- what a pass says of the check
-pub passed : (x : Check) → Passes ≡ checked_as x → x ≡ ok tt
+pub passed : (x : Check) → (Ok tt) ≡ checked_as x → x ≡ ok tt
 passed (ok u) e = refl
 passed (no r) e = absurd (let z : ◌≡◌ {A = ℕ} 0 1 = cc in omega arith)
 
-pub refused : (x : Check) (q : Refusal) → Refused q ≡ checked_as x → x ≡ no q
+pub refused : (x : Check) (q : Refusal) → Err q ≡ checked_as x → x ≡ no q
 refused (ok u) q e = absurd (let z : ◌≡◌ {A = ℕ} 0 1 = cc in omega arith)
 refused (no r) q e = let z : q ≡ r = cc in sym (ap no z)
 
 -- the frames begin where they were read
-pub begun : (frames starts : List ℕ) (count : ℕ) (state : List (List ℕ)) (r : Checked) (old positions : List ℕ) → Started frames starts count state
+pub begun : (frames starts : List ℕ) (count : ℕ) (state : List (List ℕ)) (r : Result (Unit {0}) Refusal) (old positions : List ℕ) → Started frames starts count state
     → Any frames (starts_in state) count (forms_in state) (λ t. LaidOut t r old positions) → Any frames starts count (forms_in state) (λ t. LaidOut t r old positions)
 begun frames starts count state r old positions s h =
     subst (λ (z : List ℕ). Any frames z count (forms_in state) (λ t. LaidOut t r old positions)) s.begins h
 
 module _ (frames starts forms old positions : List ℕ) (count : ℕ) (held : Held frames starts count)
     (own : (i : ℕ) → i < count → get_or forms i 0 ≡ form_in (frame_at frames starts i))
-    (r : Checked) (laid : Any frames starts count forms (λ t. LaidOut t r old positions)) (n : ℕ) where
+    (r : Result (Unit {0}) Refusal) (laid : Any frames starts count forms (λ t. LaidOut t r old positions)) (n : ℕ) where
   abbrev p : Program
   p = input_of frames starts count
 
@@ -68,18 +67,18 @@ module _ (frames starts forms old positions : List ℕ) (count : ℕ) (held : He
   unfolding input_of
   many = length_tab (input_at frames starts) count
 
-  pub laid_refused : (q : Refusal) → r ≡ Refused q → sits_among n p ≡ no q
+  pub laid_refused : (q : Refusal) → r ≡ Err q → sits_among n p ≡ no q
   unfolding sits_among ◌>>◌
   laid_refused q e = rw (refused (positions_fit (placed p)) q (sym e ∙ answers))
 
-  pub laid_absent : r ≡ Passes → count < n → sits_among n p ≡ no Absent
+  pub laid_absent : r ≡ Ok tt → count < n → sits_among n p ≡ no Absent
   unfolding sits_among ◌>>◌ require
   laid_absent e l = rw (passed (positions_fit (placed p)) (sym e ∙ answers), lt-leb n (length p) (omega (arith, many)))
 
-  pub laid_at : r ≡ Passes → n ≤ count → sits_among n p ≡ ok (get_or positions n 0)
+  pub laid_at : r ≡ Ok tt → n ≤ count → sits_among n p ≡ ok (get_or positions n 0)
   unfolding sits_among ◌>>◌ require
   laid_at e l =
-      let g : LaidOut t Passes old positions = rw e at left in
+      let g : LaidOut t (Ok tt) old positions = rw e at left in
       let q : get_or positions n 0 ≡ position p n =
       get_filled (position (program_of t)) (count + 1) positions (drop (count + 1) old) n 0 g.positions (omega arith)
       ∙ ap (λ (x : Program). position x n) as_read in

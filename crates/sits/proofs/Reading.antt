@@ -3,12 +3,11 @@ use mathlib.Core.Path.{◌≡◌, sym, ap}
 use mathlib.Core.List.{List}
 use Prim.Native.Nat.{ℕ}
 use lib.ListN.{take}
+use Rattle.std.specs.Prelude.{Result, Err, Ok}
 use Rattle.rules.specs.declared.Refusal.{Refusal}
 use Rattle.rules.specs.Answers.{Judged, ok, no, ◌>>=◌}
 use Rattle.rules.specs.Programs.{Program}
 use Rattle.rules.specs.Listing.{Line, lines_of, form_in, statement_lines, read_lines, read_listing}
-use Rattle.listing.specs.declared.Listed.{Listed}
-use Rattle.listing.specs.declared.Listed.TheVariants.{Read, Refused as Unread}
 use Rattle.listing.specs.Tables.{input_of, Held, Holds, ListedAs}
 use Rattle.sits.specs.Before.{length_before}
 use Rattle.sits.specs.Sits.{read_before, sits_among, sits}
@@ -21,7 +20,7 @@ part_read text n = ap (λ (ls : List Line). read_lines (form_in ls) 0 0 (stateme
 
 module _ (text : List ℕ) (n : ℕ) (frames starts : List ℕ) where
   -- the tables hold the statements before n
-  pub sits_read : (count : ℕ) (r : Listed) → r ≡ Read count → ListedAs frames starts r (read_listing (take (length_before n text) text))
+  pub sits_read : (count : ℕ) (r : Result ℕ Refusal) → r ≡ Ok count → ListedAs frames starts r (read_listing (take (length_before n text) text))
       → Held frames starts count × (sits text n ≡ sits_among n (input_of frames starts count))
   unfolding sits ◌>>=◌
   sits_read count r e h = on (read_listing (take (length_before n text) text)) (part_read text n) h
@@ -31,7 +30,7 @@ module _ (text : List ℕ) (n : ℕ) (frames starts : List ℕ) where
       on (ok p) z h = let g : Holds frames starts count p = rw e at h in (g.held, rw z (ap (sits_among n) (sym g.input)))
       on (no q) z h = absurd (rw e at h)
 
-  pub sits_unread : (q : Refusal) (r : Listed) → r ≡ Unread q → ListedAs frames starts r (read_listing (take (length_before n text) text))
+  pub sits_unread : (q : Refusal) (r : Result ℕ Refusal) → r ≡ Err q → ListedAs frames starts r (read_listing (take (length_before n text) text))
       → sits text n ≡ no q
   unfolding sits ◌>>=◌
   sits_unread q r e h = on (read_listing (take (length_before n text) text)) (part_read text n) h

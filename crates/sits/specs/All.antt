@@ -1,5 +1,5 @@
 -- C-17, of every statement at once: the positions of a whole listing, and the end position.
-use Rattle.std.specs.Prelude.{◌≡◌, List, ℕ, ◌+◌, ◌≤◌, length, get_or}
+use Rattle.std.specs.Prelude.{◌≡◌, List, ℕ, ◌+◌, ◌≤◌, length, get_or, Err, Result, Ok}
 use Rattle.laws.specs.Counts.{tab}
 use Rattle.rules.specs.declared.Refusal.{Refusal}
 use Rattle.rules.specs.Answers.{Judged, ok, no, ◌>>=◌, ◌>>◌}
@@ -9,8 +9,6 @@ use Rattle.rules.specs.Layout.{position}
 use Rattle.rules.specs.Names.{placed}
 use Rattle.rules.specs.Judging.{positions_fit}
 use Rattle.rules.specs.Run.{front}
-use Rattle.listing.specs.declared.Listed.{Listed}
-use Rattle.listing.specs.declared.Listed.TheVariants.{Read, Refused}
 use Rattle.sits.specs.Sits.{sits}
 
 -- "1, 2, 5 and 6 .. in document 01's order": here of all frames
@@ -30,15 +28,15 @@ all_positions p = tab (position p) (length p + 1)
 
 -- ---- what the code answers, and what it leaves in the table
 
-abbrev pub laid_as : Judged Program → Listed
-laid_as (ok p) = Read (length p)
-laid_as (no r) = Refused r
+abbrev pub laid_as : Judged Program → Result ℕ Refusal
+laid_as (ok p) = Ok (length p)
+laid_as (no r) = Err r
 
 abbrev pub table_after : Judged Program → (table : List ℕ) → List ℕ
 table_after (ok p) table = front (all_positions p) table
 table_after (no r) table = table
 
-pub record Places (x : Judged Program) (r : Listed) (before after : List ℕ) : Type 0 where
+pub record Places (x : Judged Program) (r : Result ℕ Refusal) (before after : List ℕ) : Type 0 where
   pub answer : r ≡ laid_as x
   pub table : after ≡ table_after x before
 

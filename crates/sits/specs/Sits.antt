@@ -1,5 +1,7 @@
 -- Document 02, C-17: "Where does statement n sit? .. Answer from the frames before n alone."
-use Rattle.std.specs.Prelude.{List, [], ◌∷◌, cond, ℕ, zero, suc, leb, length, take}
+use Rattle.rules.specs.declared.Refusal.{Refusal}
+use Rattle.rules.specs.declared.Address.{Address}
+use Rattle.std.specs.Prelude.{List, [], ◌∷◌, cond, ℕ, zero, suc, leb, length, take, Err, Result, Ok}
 use Rattle.rules.specs.declared.Refusal.TheVariants.{Absent}
 use Rattle.rules.specs.Answers.{Judged, ok, no, ◌>>=◌, ◌>>◌, require}
 use Rattle.rules.specs.Programs.{Placeℕ, Addressℕ, Program}
@@ -7,8 +9,6 @@ use Rattle.rules.specs.Listing.{Line, lines_of, is_mark, form_in, statement_line
 use Rattle.rules.specs.Layout.{position}
 use Rattle.rules.specs.Names.{placed}
 use Rattle.rules.specs.Judging.{positions_fit}
-use Rattle.sits.specs.declared.Sits.{Sits}
-use Rattle.sits.specs.declared.Sits.TheVariants.{At, Refused}
 
 -- "the frames before n": their lines, and in front of them the line that marks their form (C-20). Before statement 0 there is none
 unfoldable pub lines_before : (n : Placeℕ) → List Line → List Line
@@ -35,6 +35,6 @@ sits text n = do
 
 -- ---- what the code answers
 
-abbrev pub sits_as : Judged Addressℕ → Sits
-sits_as (ok a) = At (record { 0 = a })
-sits_as (no r) = Refused r
+abbrev pub sits_as : Judged Addressℕ → Result Address Refusal
+sits_as (ok a) = Ok (record { 0 = a })
+sits_as (no r) = Err r

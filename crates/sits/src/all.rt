@@ -4,13 +4,13 @@ ghost use Rattle.sits.specs.All.{fitting, laid_out, Places};
 
 use asm::start_state;
 use env::lay_out;
-use listing::{Listed, Starts, read_listing};
-use slots::Checked;
+use listing::{Starts, read_listing};
+use rules::Refusal;
 
 // How many statements there are, or the first refusal, and the table: the position of each statement, then that of the end.
 #[derive(Clone, Copy)]
 pub struct Laid {
-    pub answer: Listed,
+    pub answer: Result<usize, Refusal>,
     pub positions: [u32; 1025],
 }
 
@@ -21,13 +21,14 @@ fn lay_all(frames: &[u8], starts: &Starts, count: usize, table: [u32; 1025]) -> 
 {
     let state = start_state(starts, count);
     let mut laid = table;
+    // no `?` here and below: a refusal hands the table back
     match lay_out(frames, &state, count, &mut laid) {
-        Checked::Refused(r) => Laid {
-            answer: Listed::Refused(r),
+        Err(r) => Laid {
+            answer: Err(r),
             positions: table,
         },
-        Checked::Passes => Laid {
-            answer: Listed::Read(count),
+        Ok(()) => Laid {
+            answer: Ok(count),
             positions: laid,
         },
     }
@@ -42,10 +43,10 @@ pub fn all_sit(listing: &[u8], table: [u32; 1025]) -> Laid
     let mut starts = [0u16; 4100];
     let mut lines = [0u32; 1024];
     match read_listing(listing, &mut frames, &mut starts, &mut lines) {
-        Listed::Refused(r) => Laid {
-            answer: Listed::Refused(r),
+        Err(r) => Laid {
+            answer: Err(r),
             positions: table,
         },
-        Listed::Read(count) => lay_all(&frames, &starts, count, table),
+        Ok(count) => lay_all(&frames, &starts, count, table),
     }
 }

@@ -7,9 +7,10 @@ use native.Mathlib.Numerals.{add-one}
 use native.Mathlib.Omega.{arith}
 use lib.IntN.{ℤ}
 use lib.ListN.{length, get_or, take, drop, length-take, length-drop}
+use Rattle.rules.specs.declared.Unvalued.{Unvalued}
+use Rattle.std.specs.Prelude.{Result}
 use Rattle.laws.proofs.Counts.{get_or_tab}
 use Rattle.laws.proofs.Stores.{rest_is}
-use Rattle.rules.specs.declared.Outcome.{Outcome}
 use Rattle.rules.specs.Programs.{Placeℕ}
 use Rattle.rules.specs.Names.{context_at}
 use Rattle.expression.specs.Linked.{Linked}
@@ -45,7 +46,7 @@ module _ (frames starts : List ℕ) (n : ℕ) (h : Held frames starts n) (links 
 
 -- ---- from a byte of the frame on
 
-pub part_linked : (env : ℕ → Outcome) (f b : List ℕ) (values : List ℤ) (limit a : ℕ) → Linked env f b values limit
+pub part_linked : (env : ℕ → Result ℤ Unvalued) (f b : List ℕ) (values : List ℤ) (limit a : ℕ) → Linked env f b values limit
     → Linked env (take (length f - a) (drop a f)) (take (length b - a) (drop a b)) values limit
 part_linked env f b values limit a h = rw (rest_is a f, rest_is a b) (linked_drop f b values limit env a h)
 

@@ -9,7 +9,7 @@ ghost use Rattle.slots.specs.State.{starts_in, forms_in};
 ghost use Rattle.slots.specs.Meaning.{OtherIn, meant_by, Agrees, Stands};
 
 use crate::{GONE, SECOND, Slot, State, THIRD, form_in, frame_at, items_in, pair_in};
-use instruction::forms::{Made, make};
+use instruction::forms::make;
 use rules::{Arg, Instr, Place, Statement};
 
 // The statement of a frame that is no instruction's.
@@ -62,8 +62,6 @@ pub fn instr_at(state: &State, at: Place) -> Instr
     let i = at.0;
     let second = Arg(usize::from(state[SECOND][i]));
     let third = Arg(usize::from(state[THIRD][i]));
-    match make(form_in(state, at), Arg(2), second, third) {
-        Made::Is(x) => x,
-        Made::Nothing => Instr::Nop, // never met: the form is one of the seventy
-    }
+    // the form is one of the seventy
+    make(form_in(state, at), Arg(2), second, third).unwrap()
 }

@@ -1,5 +1,6 @@
 -- What an answer about the rewriting starts from: a listing that is accepted, and the tables that hold its anchored program.
-use Rattle.std.specs.Prelude.{◌≡◌, List, true, ℕ}
+use Rattle.rules.specs.declared.Refusal.{Refusal}
+use Rattle.std.specs.Prelude.{◌≡◌, List, true, ℕ, Result, Err, Ok}
 use Rattle.rules.specs.Answers.{Judged, ok, no, ◌>>=◌, ◌>>◌}
 use Rattle.rules.specs.Programs.{Program}
 use Rattle.rules.specs.Listing.{read_listing}
@@ -9,12 +10,8 @@ use Rattle.promises.specs.Demand2.{Input}
 use Rattle.slots.specs.Slots.{Slots, program_of}
 use Rattle.slots.specs.Links.{Beside}
 use Rattle.listing.specs.Tables.{input_of}
-use Rattle.asm.specs.declared.Verdict.{Verdict}
-use Rattle.asm.specs.declared.Verdict.TheVariants.{Good, Refused as Bad}
 use Rattle.asm.specs.Verdicts.{verdict_as}
 use Rattle.attempts.specs.Standing.{Standing}
-use Rattle.starting.specs.declared.Begun.{Begun}
-use Rattle.starting.specs.declared.Begun.TheVariants.{Read, Refused}
 
 -- the statements of a listing that keeps the listing rules and assembles as given; the refusals are those of a run, but for 12
 unfoldable pub accepted : (text : List ℕ) → Judged Program
@@ -31,9 +28,9 @@ pub record Starts (p : Program) (t : Slots) (links : List ℕ) : Type 0 where
   pub beside : Beside t.frames t.starts t.count links
 
 -- the verdict on p, and what the tables hold where it is good
-pub record AnchoredAs (p : Program) (r : Verdict) (t : Slots) (links : List ℕ) : Type 0 where
+pub record AnchoredAs (p : Program) (r : Result (Unit {0}) Refusal) (t : Slots) (links : List ℕ) : Type 0 where
   pub answer : r ≡ verdict_as (judge p)
-  pub starts : r ≡ Good → Starts p t links
+  pub starts : r ≡ Ok tt → Starts p t links
 
 -- and the statements as they were read
 pub record Holds (p : Program) (t : Slots) (links : List ℕ) : Type 0 where
@@ -42,8 +39,8 @@ pub record Holds (p : Program) (t : Slots) (links : List ℕ) : Type 0 where
   pub starts : Starts p t links
 
 -- the answer, of tables that hold so many statements
-abbrev pub BegunAs : Judged Program → Begun → (over : ℕ → Slots) (links : List ℕ) → Type 0
-BegunAs (ok p) (Read n) over links = Holds p (over n) links
-BegunAs (ok p) (Refused q) over links = ⊥
-BegunAs (no r) (Read n) over links = ⊥
-BegunAs (no r) (Refused q) over links = q ≡ r
+abbrev pub BegunAs : Judged Program → Result ℕ Refusal → (over : ℕ → Slots) (links : List ℕ) → Type 0
+BegunAs (ok p) (Ok n) over links = Holds p (over n) links
+BegunAs (ok p) (Err q) over links = ⊥
+BegunAs (no r) (Ok n) over links = ⊥
+BegunAs (no r) (Err q) over links = q ≡ r

@@ -12,18 +12,11 @@ ghost use Rattle.entries.specs.Optimizing.{Full};
 ghost use Rattle.starting.specs.Begun.{accepted, AnchoredAs, BegunAs};
 
 use anchors::anchor;
-use asm::{Verdict, judge, start_state};
+use asm::{judge, start_state};
 use env::fill_contexts;
-use listing::{Listed, Starts, read_listing};
+use listing::{Starts, read_listing};
 use rules::Refusal;
 use slots::State;
-
-// So many statements stand in the tables, anchored; or the first refusal.
-#[derive(Clone, Copy)]
-pub enum Begun {
-    Read(usize),
-    Refused(Refusal),
-}
 
 // Judges the slots of a listing as read, and anchors its targets, by the state as it was read.
 fn judge_and_anchor(
@@ -32,7 +25,7 @@ fn judge_and_anchor(
     count: usize,
     contexts: &[u16; 1024],
     links: &mut [u16; 28672],
-) -> Verdict
+) -> Result<(), Refusal>
     requires { let t : Slots = table_of frames.now state.old count in
         Sound t × AsRead t × Full state.old × (length links.old ≡ 28672)
         × Any frames.now (starts_in state.old) count (forms_in state.old) (λ u. Placed u contexts.now × Whole u) }
@@ -43,7 +36,7 @@ fn judge_and_anchor(
 {
     let mut positions = [0u32; 1025];
     let mut values = [0i64; 1024];
-    match judge(
+    judge(
         frames,
         state,
         count,
@@ -51,19 +44,21 @@ fn judge_and_anchor(
         links,
         &mut positions,
         &mut values,
-    ) {
-        Verdict::Refused(r) => return Verdict::Refused(r),
-        Verdict::Good => {}
-    }
+    )?;
     let read = *state;
     anchor(
         frames, &read, count, contexts, links, &values, &positions, state,
     );
-    Verdict::Good
+    Ok(())
 }
 
 // The contexts are found first: names are found by them.
-fn place_slots(frames: &[u8], state: &mut State, count: usize, links: &mut [u16; 28672]) -> Verdict
+fn place_slots(
+    frames: &[u8],
+    state: &mut State,
+    count: usize,
+    links: &mut [u16; 28672],
+) -> Result<(), Refusal>
     requires { let t : Slots = table_of frames.now state.old count in
         Sound t × AsRead t × Full state.old × (length links.old ≡ 28672) × Whole t }
     ensures { let t : Slots = table_of frames.now state.old count in
@@ -83,7 +78,7 @@ fn start_slots(
     count: usize,
     state: &mut State,
     links: &mut [u16; 28672],
-) -> Verdict
+) -> Result<(), Refusal>
     requires { Held frames.now starts.now count × (length links.old ≡ 28672) }
     ensures { let t : Slots = table_of frames.now state.new count in
         AnchoredAs (input_of frames.now starts.now count) result t links.new
@@ -93,24 +88,21 @@ fn start_slots(
     place_slots(frames, state, count, links)
 }
 
-// Reads a listing, judges it as it stands and anchors its targets. Of an accepted one the tables hold what the rewriting starts from.
+// Reads a listing, judges it as it stands and anchors its targets. Of an accepted one the tables hold what the rewriting starts from: the
+// answer is how many statements stand there, anchored; or the first refusal.
 pub fn begin(
     listing: &[u8],
     frames: &mut [u8; 28672],
     state: &mut State,
     links: &mut [u16; 28672],
-) -> Begun
+) -> Result<usize, Refusal>
     requires { (length frames.old ≡ 28672) × (length links.old ≡ 28672) }
     ensures { let over : (n : ℕ) → Slots = λ n. table_of frames.new state.new n in
         BegunAs (accepted listing.now) result over links.new }
 {
     let mut starts = [0u16; 4100];
     let mut lines = [0u32; 1024];
-    match read_listing(listing, frames, &mut starts, &mut lines) {
-        Listed::Refused(r) => Begun::Refused(r),
-        Listed::Read(count) => match start_slots(frames, &starts, count, state, links) {
-            Verdict::Refused(r) => Begun::Refused(r),
-            Verdict::Good => Begun::Read(count),
-        },
-    }
+    let count = read_listing(listing, frames, &mut starts, &mut lines)?;
+    start_slots(frames, &starts, count, state, links)?;
+    Ok(count)
 }

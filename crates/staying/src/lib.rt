@@ -14,10 +14,3 @@ pub enum Reason {
     Beyond, // an offset is not below the size of its owner: a pad became too short
     Refused(Refusal), // what is left does not assemble
 }
-
-// Whether a form or a pattern is tried at a place, and why it is not done there.
-#[derive(Clone, Copy)]
-pub enum Attempted {
-    Stays(Reason),
-    Untried,
-}

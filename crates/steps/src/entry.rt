@@ -6,30 +6,18 @@ ghost use Rattle.steps.specs.Entry.{told, Leaves, counted_as, lines_for};
 
 use crate::walking::write_steps;
 use optimize::optimize;
-use rules::{Answer, Refusal, Settings, Sizes};
-use starting::{Begun, begin};
+use rules::{Refusal, Settings, Sizes};
+use starting::begin;
 
-// How many statements a listing has and how many rewrites it gets; or its refusal.
-#[derive(Clone, Copy)]
-enum Counted {
-    Of(usize, usize),
-    Refused(Refusal),
-}
-
-// Rewrites a listing only for the count.
-fn count_steps(asked: Settings, listing: &[u8]) -> Counted
+// Rewrites a listing only for the count: how many statements it has and how many rewrites it gets; or its refusal.
+fn count_steps(asked: Settings, listing: &[u8]) -> Result<(usize, usize), Refusal>
     ensures { result ≡ counted_as asked (accepted listing.now) }
 {
     let mut frames = [0u8; 28672];
     let mut state = [[0u16; 1025]; 8];
     let mut links = [0u16; 28672];
-    match begin(listing, &mut frames, &mut state, &mut links) {
-        Begun::Refused(r) => Counted::Refused(r),
-        Begun::Read(count) => Counted::Of(
-            count,
-            optimize(asked, &frames, &mut state, count, &links),
-        ),
-    }
+    let count = begin(listing, &mut frames, &mut state, &mut links)?;
+    Ok((count, optimize(asked, &frames, &mut state, count, &links)))
 }
 
 // Rewrites it once more, and writes the lines. Nothing is written of a listing that is refused.
@@ -40,28 +28,23 @@ fn write_all(asked: Settings, listing: &[u8], out: &mut [u8])
     let mut frames = [0u8; 28672];
     let mut state = [[0u16; 1025]; 8];
     let mut links = [0u16; 28672];
-    match begin(listing, &mut frames, &mut state, &mut links) {
-        Begun::Refused(_) => {}
-        Begun::Read(count) => write_steps(asked, &frames, &mut state, count, &links, out),
+    if let Ok(count) = begin(listing, &mut frames, &mut state, &mut links) {
+        write_steps(asked, &frames, &mut state, count, &links, out);
     }
 }
 
 // The rewrites of a listing, one line each. On refusal no lent byte changes.
-pub fn steps(asked: Settings, listing: &[u8], out: &mut [u8]) -> Answer
+pub fn steps(asked: Settings, listing: &[u8], out: &mut [u8]) -> Result<Sizes, Refusal>
     ensures { Leaves (told asked listing.now (length out.old)) result out.old out.new }
 {
-    match count_steps(asked, listing) {
-        Counted::Refused(r) => Answer::Refused(r),
-        Counted::Of(count, rewrites) => {
-            if out.len() / 21 < rewrites {
-                return Answer::Refused(Refusal::Room(count));
-            }
-            write_all(asked, listing, out);
-            Answer::Done(Sizes {
-                listing: 21 * rewrites,
-                rewrites,
-                image: 0,
-            })
-        }
+    let (count, rewrites) = count_steps(asked, listing)?;
+    if out.len() / 21 < rewrites {
+        return Err(Refusal::Room(count));
     }
+    write_all(asked, listing, out);
+    Ok(Sizes {
+        listing: 21 * rewrites,
+        rewrites,
+        image: 0,
+    })
 }

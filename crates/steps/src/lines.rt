@@ -8,16 +8,10 @@ ghost use Rattle.steps.specs.Steps.{rule_of, rule_byte, rewrite_at, rewrite_of, 
 
 use crate::Seat;
 use crate::seats::{first_change, seat_at};
-use digits::put_line;
+use digits::{low_byte, put_line};
 use instruction::tables::{CALLF, JMPF};
 use rules::Place;
 use slots::State;
-
-fn low_byte(x: usize) -> u8
-    ensures { result ≡ x % 256 }
-{
-    (x % 256) as u8
-}
 
 // 1 an inverted fold, 2 a trampoline, 3 a shrink.
 #[tactic(auto, unfolding(crate::specs::Steps::rule_of))]

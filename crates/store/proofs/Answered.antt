@@ -8,12 +8,12 @@ use native.Mathlib.Omega.{arith}
 use lib.Dec.{ltb}
 use lib.ListN.{length}
 use borrow.Author.Tests.{le-ltb, lt-ltb, le-leb, lt-leb}
+use Rattle.std.specs.Prelude.{Err, Ok}
 use Rattle.laws.proofs.Tests.{second_false}
 use Rattle.rules.specs.declared.Refusal.{Refusal}
 use Rattle.rules.specs.declared.Refusal.TheVariants.{Unknown, Full}
 use Rattle.rules.specs.Answers.{Judged, ok, no, require}
 use Rattle.store.specs.declared.Setting.{Setting}
-use Rattle.store.specs.declared.Numbered.TheVariants.{Is, Refused}
 use Rattle.store.specs.Store.{Store, newest, has_free, added, add, drop_old}
 use Rattle.store.specs.Rooms.{store_in, with_place, room_with}
 use Rattle.store.specs.Changes.{FirstFree, Leaves}
@@ -21,10 +21,10 @@ use Rattle.store.proofs.RoomHolds.{length_store}
 use Rattle.store.proofs.Rewritten.{Bytes, store_back, put_room}
 
 module _ (room : List ℕ) (answer : Judged ℕ) (ss : Store) where
-  pub leaves_no : (r : Refusal) → answer ≡ no r → Leaves room answer ss (Refused r) room
+  pub leaves_no : (r : Refusal) → answer ≡ no r → Leaves room answer ss (Err r) room
   leaves_no r e = record { answered = rw e; room_is = rw e }
 
-  pub leaves_ok : (n : ℕ) (room' : List ℕ) → answer ≡ ok n → room' ≡ room_with room ss → Leaves room answer ss (Is n) room'
+  pub leaves_ok : (n : ℕ) (room' : List ℕ) → answer ≡ ok n → room' ≡ room_with room ss → Leaves room answer ss (Ok n) room'
   leaves_ok n room' e h = record { answered = rw e; room_is = rw e h }
 
 module _ (f : ℕ) (ss : Store) where

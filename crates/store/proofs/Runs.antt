@@ -5,6 +5,8 @@ use Prim.Native.Nat.{ℕ, zero, suc}
 use Prim.Native.String.{String}
 use lib.Dec.{T, eqb}
 use lib.ListN.{take, drop, replicate}
+use Rattle.store.specs.declared.Setting.{Setting}
+use Rattle.std.specs.Prelude.{Err, Ok, Some, None, Result, Option}
 use Rattle.laws.specs.Lists.{every, each, same}
 use Rattle.laws.specs.Counts.{tab}
 use Rattle.rules.specs.declared.Refusal.{Refusal}
@@ -14,8 +16,6 @@ use Rattle.rules.specs.Answers.{Judged, ok, no, ◌>>◌, require}
 use Rattle.rules.specs.Listing.{unhex}
 use Rattle.rules.proofs.Computed.{chars, all}
 use Rattle.store.specs.declared.Edition.{Edition}
-use Rattle.store.specs.declared.Shown.{Shown}
-use Rattle.store.specs.declared.Shown.TheVariants.{Is as IsShown, Free as IsFree, Refused as NotShown}
 use Rattle.store.specs.Switches.{switches_of, settings_of}
 use Rattle.store.specs.Store.{none_holds, none_twice, is_good, find, newest, get, get_newest, has_free, put, added, add, dropped, drop_old}
 use Rattle.store.specs.Rooms.{store_in, room_with, judged, in_store, get_in, newest_in, place_in, add_in, drop_in, after_add, after_drop, shown_as}
@@ -115,15 +115,15 @@ unfolding all asking opened two
 asking_holds = tt
 
 -- ---- showing, place by place
-abbrev shows : (family edition switches : ℕ) → Shown → Bool
-shows f e w (IsShown s) = eqb s.family f && (eqb s.edition e && eqb s.switches w)
-shows f e w IsFree = false
-shows f e w (NotShown r) = false
+abbrev shows : (family edition switches : ℕ) → Result (Option Setting) Refusal → Bool
+shows f e w (Ok (Some s)) = eqb s.family f && (eqb s.edition e && eqb s.switches w)
+shows f e w (Ok None) = false
+shows f e w (Err r) = false
 
-abbrev shows_none : Shown → Bool
-shows_none (IsShown s) = false
-shows_none IsFree = true
-shows_none (NotShown r) = false
+abbrev shows_none : Result (Option Setting) Refusal → Bool
+shows_none (Ok (Some s)) = false
+shows_none (Ok None) = true
+shows_none (Err r) = false
 
 showing : List Bool
 showing =

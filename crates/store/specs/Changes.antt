@@ -1,8 +1,8 @@
 -- The words of the contracts of adding and dropping.
-use Rattle.std.specs.Prelude.{◌≡◌, List, cond, ℕ, ◌<◌, ◌≤◌, ltb, set}
+use Rattle.rules.specs.declared.Refusal.{Refusal}
+use Rattle.std.specs.Prelude.{◌≡◌, List, cond, ℕ, ◌<◌, ◌≤◌, ltb, set, Result}
 use Rattle.rules.specs.Answers.{Judged}
 use Rattle.store.specs.declared.Setting.{Setting}
-use Rattle.store.specs.declared.Numbered.{Numbered}
 use Rattle.store.specs.Store.{Store, free, has_free, put, is_old}
 use Rattle.store.specs.Rooms.{setting_at, with_place, room_after, numbered_as}
 
@@ -17,6 +17,6 @@ abbrev pub cleared_place : (f top : ℕ) (room : List ℕ) (k : ℕ) → List �
 cleared_place f top room k = cond (is_old f top (setting_at room k)) (with_place room k free) room
 
 -- the answer r, and what the room holds at the end
-pub record Leaves (room : List ℕ) (answer : Judged ℕ) (ss : Store) (r : Numbered) (room' : List ℕ) : Type 0 where
+pub record Leaves (room : List ℕ) (answer : Judged ℕ) (ss : Store) (r : Result ℕ Refusal) (room' : List ℕ) : Type 0 where
   pub answered : r ≡ numbered_as answer
   pub room_is : room' ≡ room_after room answer ss

@@ -1,6 +1,7 @@
 -- Document 02, C-24: the store in lent room. 32 places of five bytes: the family and the edition in two bytes each, high byte first,
 -- and the switches.
-use Rattle.std.specs.Prelude.{List, [], ◌∷◌, ◌++◌, cond, ℕ, ◌+◌, ◌*◌, leb, length, get_or, take, drop}
+use Rattle.rules.specs.declared.Refusal.{Refusal}
+use Rattle.std.specs.Prelude.{List, [], ◌∷◌, ◌++◌, cond, ℕ, ◌+◌, ◌*◌, leb, length, get_or, take, drop, Err, Ok, Result, None, Some, Option as AnOption}
 use Rattle.std.proofs.Math.Option.{Option, none, some}
 use Rattle.laws.specs.Lists.{each}
 use Rattle.laws.specs.Counts.{tab}
@@ -10,16 +11,6 @@ use Rattle.rules.specs.declared.Settings.{Settings}
 use Rattle.rules.specs.Answers.{Judged, Check, ok, no, ◌>>◌, require}
 use Rattle.store.specs.declared.Setting.{Setting}
 use Rattle.store.specs.declared.Edition.{Edition}
-use Rattle.store.specs.declared.Verdict.{Verdict}
-use Rattle.store.specs.declared.Verdict.TheVariants.{Good, Refused as Bad}
-use Rattle.store.specs.declared.Held.{Held}
-use Rattle.store.specs.declared.Held.TheVariants.{Is as IsHeld, Nothing}
-use Rattle.store.specs.declared.Found.{Found}
-use Rattle.store.specs.declared.Found.TheVariants.{Is as IsFound, Refused as NotFound}
-use Rattle.store.specs.declared.Shown.{Shown}
-use Rattle.store.specs.declared.Shown.TheVariants.{Is as IsShown, Free as IsFree, Refused as NotShown}
-use Rattle.store.specs.declared.Numbered.{Numbered}
-use Rattle.store.specs.declared.Numbered.TheVariants.{Is as IsNumbered, Refused as NotNumbered}
 use Rattle.store.specs.Switches.{switches_of}
 use Rattle.store.specs.Store.{Store, is_free, is_good, get, get_newest, place_at, added, add, dropped, drop_old}
 
@@ -95,25 +86,25 @@ module _ (room : List ℕ) where
 
 -- ---- what the code answers
 
-abbrev pub verdict_as : Check → Verdict
-verdict_as (ok u) = Good
-verdict_as (no r) = Bad r
+abbrev pub verdict_as : Check → Result (Unit {0}) Refusal
+verdict_as (ok u) = Ok tt
+verdict_as (no r) = Err r
 
-abbrev pub held_as : Option ℕ → Held
-held_as none = Nothing
-held_as (some w) = IsHeld w
+abbrev pub held_as : Option ℕ → AnOption ℕ
+held_as none = None
+held_as (some w) = Some w
 
-abbrev pub found_as : Judged Edition → Found
-found_as (ok e) = IsFound e
-found_as (no r) = NotFound r
+abbrev pub found_as : Judged Edition → Result Edition Refusal
+found_as (ok e) = Ok e
+found_as (no r) = Err r
 
-abbrev pub shown_of : Setting → Shown
-shown_of s = cond (is_free s) IsFree (IsShown s)
+abbrev pub shown_of : Setting → AnOption Setting
+shown_of s = cond (is_free s) None (Some s)
 
-abbrev pub shown_as : Judged Setting → Shown
-shown_as (ok s) = shown_of s
-shown_as (no r) = NotShown r
+abbrev pub shown_as : Judged Setting → Result (AnOption Setting) Refusal
+shown_as (ok s) = Ok (shown_of s)
+shown_as (no r) = Err r
 
-abbrev pub numbered_as : Judged ℕ → Numbered
-numbered_as (ok n) = IsNumbered n
-numbered_as (no r) = NotNumbered r
+abbrev pub numbered_as : Judged ℕ → Result ℕ Refusal
+numbered_as (ok n) = Ok n
+numbered_as (no r) = Err r

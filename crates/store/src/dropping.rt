@@ -4,11 +4,11 @@ ghost use Rattle.store.specs.Store.{cleared, drop_old, dropped};
 ghost use Rattle.store.specs.Rooms.{store_in, room_with, drop_in, after_drop, numbered_as};
 ghost use Rattle.store.specs.Changes.{cleared_place, Leaves};
 
+use crate::Setting;
 use crate::asking::newest_of;
 use crate::judging::judge;
 use crate::places::{put_setting, read_setting};
 use crate::testing::is_old;
-use crate::{Numbered, Setting, Verdict};
 use rules::Refusal;
 
 // Clears a place that holds an edition of the family below `top`.
@@ -39,27 +39,25 @@ fn clear_old(room: &mut [u8], family: u16, top: u16)
     }
 }
 
-// The old editions of a good store.
-fn drop_from(room: &mut [u8], family: u16) -> Numbered
+// Drops the old editions of a good store, and gives the number of the one that stays; or refusal 17.
+fn drop_from(room: &mut [u8], family: u16) -> Result<u16, Refusal>
     requires { 160 ≤ length room.old }
     ensures { let ss = store_in room.old in
         Leaves room.old (drop_old family ss) (dropped family ss) result room.new }
 {
     let top = newest_of(room, family);
     if top < 1 {
-        return Numbered::Refused(Refusal::Unknown);
+        return Err(Refusal::Unknown);
     }
     clear_old(room, family, top);
-    Numbered::Is(top)
+    Ok(top)
 }
 
 // Drops the old editions of a family, and gives the number of the one that stays; or refusal 12, 19 or 17, and no byte changes.
-pub fn drop_old(room: &mut [u8], family: u16) -> Numbered
+pub fn drop_old(room: &mut [u8], family: u16) -> Result<u16, Refusal>
     ensures value { result ≡ numbered_as (drop_in room.old family) }
     ensures room_after { room.new ≡ after_drop room.old family }
 {
-    match judge(room) {
-        Verdict::Refused(r) => Numbered::Refused(r),
-        Verdict::Good => drop_from(room, family),
-    }
+    judge(room)?;
+    drop_from(room, family)
 }

@@ -4,7 +4,6 @@ ghost use Rattle.laws.specs.Lists.{every};
 ghost use Rattle.store.specs.Store.{in_range, none_holds, alone, none_twice};
 ghost use Rattle.store.specs.Rooms.{setting_at, store_in, judged, verdict_as};
 
-use crate::Verdict;
 use crate::places::read_setting;
 use crate::testing::{in_range, is_free, is_of};
 use rules::Refusal;
@@ -40,15 +39,16 @@ fn none_twice(room: &[u8]) -> bool
     (0..32).all(|k| is_alone(room, k))
 }
 
-pub fn judge(room: &[u8]) -> Verdict
+// The store may be asked, or the first refusal.
+pub fn judge(room: &[u8]) -> Result<(), Refusal>
     ensures { result ≡ verdict_as (judged room.now) }
 {
     if room.len() < 160 {
-        return Verdict::Refused(Refusal::Room(0));
+        return Err(Refusal::Room(0));
     }
     if all_in_range(room) && none_twice(room) {
-        Verdict::Good
+        Ok(())
     } else {
-        Verdict::Refused(Refusal::Store)
+        Err(Refusal::Store)
     }
 }

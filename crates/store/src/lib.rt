@@ -1,7 +1,7 @@
 // C-24: settings kept by edition, in lent room: 32 places of five bytes. What they mean is said in specs/.
 #![tactic(auto)]
 
-use rules::{Refusal, Settings};
+use rules::Settings;
 
 mod adding; // a new edition
 mod asking; // an edition, or the newest
@@ -29,40 +29,4 @@ pub struct Setting {
 pub struct Edition {
     pub number: u16,
     pub settings: Settings,
-}
-
-// The store may be asked, or the first refusal.
-#[derive(Clone, Copy)]
-enum Verdict {
-    Good,
-    Refused(Refusal),
-}
-
-// The switches of a family's edition, if a place holds it.
-#[derive(Clone, Copy)]
-enum Held {
-    Is(u8),
-    Nothing,
-}
-
-// What was asked for, or why it is refused.
-#[derive(Clone, Copy)]
-pub enum Found {
-    Is(Edition),
-    Refused(Refusal),
-}
-
-// What a place holds, or why the store is refused.
-#[derive(Clone, Copy)]
-pub enum Shown {
-    Is(Setting),
-    Free,
-    Refused(Refusal),
-}
-
-// The number of the edition that was added, or of the one that stays; or why that is refused.
-#[derive(Clone, Copy)]
-pub enum Numbered {
-    Is(u16),
-    Refused(Refusal),
 }

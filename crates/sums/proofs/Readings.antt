@@ -10,12 +10,11 @@ use lib.Dec.{leb, eqb}
 use lib.ListN.{length, get_or, take, drop, length-drop}
 use lib.Seq.{drop-drop}
 use borrow.Author.Tests.{eq-eqb, ne_eqb, leb-true, leb-false}
+use Rattle.std.specs.Prelude.{Result, Err, Ok}
 use Rattle.rules.specs.declared.Op1.{Op1}
 use Rattle.rules.specs.declared.Op2.{Op2}
 use Rattle.text.specs.Text.{sign1}
 use Rattle.rules.specs.Expressions.{Expr, two, one, bytes_of, code1, code2}
-use Rattle.leaves.specs.declared.Found.{Found}
-use Rattle.leaves.specs.declared.Found.TheVariants.{Ends, Stuck}
 use Rattle.grammar.specs.Reading.{look}
 use Rattle.grammar.specs.Going.{got, stuck, Start, leaf, paren, sign, nothing, start, skip, infix_of, op_at, is_some, gap, close, Mode, alone, whole, rest, Goes, opens, signs, ends, fails, firsts, sinks, stops, agains, breaks}
 use Rattle.leaves.specs.Answering.{Put, Inserted, Answered, Continued, Passed, takes, after_of, code_of, sign_code}
@@ -23,7 +22,7 @@ use Rattle.grammar.proofs.Starts.{paren_starts, start_sign}
 use Rattle.grammar.proofs.Spaces.{skip_clear, skip_look, skip_spaces, sign_clear}
 use Rattle.grammar.proofs.Lexes.{look_at}
 use Rattle.leaves.proofs.Puts.{put_two, put_none}
-use Rattle.leaves.proofs.Leafs.{rest_is, drop_plus, code_some}
+use Rattle.leaves.proofs.Leafs.{rest_is, code_some}
 
 -- ---- bytes and spaces passed over
 
@@ -85,14 +84,28 @@ close_no s k h e = rw (ne_eqb (look (drop k s)) 41 h)
 -- ---- answers
 
 -- of a part it is of the rest
-pub of_rest : (m : Mode) (k : ℕ) (s b a : List ℕ) (at : ℕ) (r : Found) → Answered m (take (length s - k) (drop k s)) b a at r
+pub of_rest : (m : Mode) (k : ℕ) (s b a : List ℕ) (at : ℕ) (r : Result (ℕ × ℕ) ℕ) → Answered m (take (length s - k) (drop k s)) b a at r
     → Answered m (drop k s) b a at r
 of_rest m k s b a at r g = subst (λ x. Answered m x b a at r) (rest_is k s) g
 
+-- what is read of the text s from k on, as of the whole text
+abbrev pub Reached : Mode → (k : ℕ) (s b a : List ℕ) (at : ℕ) → Result (ℕ × ℕ) ℕ → Type 0
+Reached m k s b a at (Ok (n, to)) = (e : Expr) × (Goes m (drop k s) (got e (drop n s)) × ((n ≤ length s) × Put b a at (bytes_of e) to))
+Reached m k s b a at (Err n) = Goes m (drop k s) (stuck (drop n s)) × (n ≤ length s)
+
+pub reached : (m : Mode) (k : ℕ) (s b a : List ℕ) (at : ℕ) (r x : Result (ℕ × ℕ) ℕ) → k ≤ length s
+    → Answered m (take (length s - k) (drop k s)) b a at r → x ≡ after_of k r → Reached m k s b a at x
+reached m k s b a at r x h g e = subst (λ y. Reached m k s b a at y) (sym e) (on r (of_rest m k s b a at r g))
+  where
+    on : (r : Result (ℕ × ℕ) ℕ) → Answered m (drop k s) b a at r → Reached m k s b a at (after_of k r)
+    on (Ok (n, to)) (e, (g, (z, p))) =
+        (e, (subst (λ y. Goes m (drop k s) (got e y)) (drop-drop n k s) g, (omega (arith, length-drop k s), p)))
+    on (Err n) (g, z) = (subst (λ y. Goes m (drop k s) (stuck y)) (drop-drop n k s) g, omega (arith, length-drop k s))
+
 -- what an answer bounds
-pub took : (m : Mode) (t b a : List ℕ) (at : ℕ) (r : Found) → Answered m t b a at r → takes r ≤ length t
-took m t b a at (Ends n to) g = g.1.1.0
-took m t b a at (Stuck n) g = g.1
+pub took : (m : Mode) (t b a : List ℕ) (at : ℕ) (r : Result (ℕ × ℕ) ℕ) → Answered m t b a at r → takes r ≤ length t
+took m t b a at (Ok (n, to)) g = g.1.1.0
+took m t b a at (Err n) g = g.1
 
 pub record Left (t a : List ℕ) (at n to : ℕ) : Type 0 where
   pub size : length a ≡ 32
@@ -100,7 +113,7 @@ pub record Left (t a : List ℕ) (at n to : ℕ) : Type 0 where
   pub within : to ≤ 33
   pub above : to ≤ 32 → at ≤ to
 
-pub left : (m : Mode) (t b a : List ℕ) (at n to : ℕ) → Answered m t b a at (Ends n to) → Left t a at n to
+pub left : (m : Mode) (t b a : List ℕ) (at n to : ℕ) → Answered m t b a at (Ok (n, to)) → Left t a at n to
 left m t b a at n to g =
     let p = g.1.1.1 in
     record { size = p.size; taken = g.1.1.0; within = p.within; above = λ h. omega (arith, p.ends h) }
@@ -133,77 +146,63 @@ module _ (s b : List ℕ) (at : ℕ) where
       on [] q = absurd (omega arith)
       on (c ∷ t) q = ap (λ x. start (x ∷ t)) q ∙ paren_starts t
 
-  pub paren_ends : (a : List ℕ) (n to : ℕ) → look s ≡ 40 → Answered (whole 5) (drop 1 s) b a at (Ends n to) → (x : Found)
-      → Passed s to (λ e. close (got e (drop (n + 1) s))) x → Answered alone s b a at x
-  paren_ends a n to q (e, (g, (h, p))) (Ends k y) c = (
+  pub paren_ends : (a : List ℕ) (n to : ℕ) → look s ≡ 40 → Reached (whole 5) 1 s b a at (Ok (n, to)) → (x : Result (ℕ × ℕ) ℕ)
+      → Passed s to (λ e. close (got e (drop n s))) x → Answered alone s b a at x
+  paren_ends a n to q (e, (g, (h, p))) (Ok (k, y)) c = (
     e,
-    (
-      subst (λ z. Goes alone s z) (ap (λ z. close (got e z)) (drop_plus 1 n s) ∙ c.2 e) (opens (starts_paren q) g),
-      (c.1, subst (λ z. Put b a at (bytes_of e) z) (sym c.0) p),
-    ),
+    (subst (λ z. Goes alone s z) (c.2 e) (opens (starts_paren q) g), (c.1, subst (λ z. Put b a at (bytes_of e) z) (sym c.0) p)),
   )
-  paren_ends a n to q (e, (g, (h, p))) (Stuck k) c =
-      (subst (λ z. Goes alone s z) (ap (λ z. close (got e z)) (drop_plus 1 n s) ∙ c.1 e) (opens (starts_paren q) g), c.0)
+  paren_ends a n to q (e, (g, (h, p))) (Err k) c = (subst (λ z. Goes alone s z) (c.1 e) (opens (starts_paren q) g), c.0)
 
-  pub paren_stuck : (a : List ℕ) (n : ℕ) → look s ≡ 40 → 1 ≤ length s → Answered (whole 5) (drop 1 s) b a at (Stuck n)
-      → Answered alone s b a at (Stuck (n + 1))
-  paren_stuck a n q l (g, h) = (
-    subst (λ z. Goes alone s (stuck z)) (drop_plus 1 n s) (opens (starts_paren q) g),
-    omega (arith, length-drop 1 s),
-  )
+  pub paren_stuck : (a : List ℕ) (n : ℕ) → look s ≡ 40 → Reached (whole 5) 1 s b a at (Err n) → Answered alone s b a at (Err n)
+  paren_stuck a n q (g, h) = (opens (starts_paren q) g, h)
 
   -- signs
-  pub sign_ends : (a₁ a₂ : List ℕ) (k n end code to : ℕ) → length b ≡ 32 → at ≤ 33 → code ≡ sign_code (start s) → 1 ≤ code → k ≤ length s
-      → drop k s ≡ skip (drop 1 (skip s)) → Answered alone (drop k s) b a₁ at (Ends n end) → Inserted a₁ a₂ at end code to
-      → Answered alone s b a₂ at (Ends (k + n) to)
+  pub sign_ends : (a₁ a₂ : List ℕ) (k n end code to : ℕ) → length b ≡ 32 → at ≤ 33 → code ≡ sign_code (start s) → 1 ≤ code
+      → drop k s ≡ skip (drop 1 (skip s)) → Reached alone k s b a₁ at (Ok (n, end)) → Inserted a₁ a₂ at end code to
+      → Answered alone s b a₂ at (Ok (n, to))
   unfolding bytes_of
-  sign_ends a₁ a₂ k n end code to lb h q c l d (e, (g, (z, p))) i =
+  sign_ends a₁ a₂ k n end code to lb h q c d (e, (g, (z, p))) i =
       let x = sign_is s code q c in
       let o = x.o in (
         one o e,
         (
-          subst (λ y. Goes alone s (got (one o e) y)) (drop-drop n k s)
-              (signs {o = got e (drop n (drop k s))} o x.starts (subst (λ y. Goes alone y (got e (drop n (drop k s)))) (d
-              ∙ ap (λ y. skip (drop 1 y)) x.is) g)),
+          signs {o = got e (drop n s)} o x.starts (subst (λ y. Goes alone y (got e (drop n s))) (d ∙ ap (λ y. skip (drop 1 y)) x.is) g),
           (
-            omega (arith, length-drop k s),
+            z,
             subst (λ y. Put b a₂ at (y ∷ bytes_of e) to) x.codes (put_two b b a₁ a₂ [] (bytes_of e) at at end code to lb
                 (put_none b at lb h) p i),
           ),
         ),
       )
 
-  pub sign_stuck : (a : List ℕ) (k n code : ℕ) → code ≡ sign_code (start s) → 1 ≤ code → k ≤ length s → drop k s ≡ skip (drop 1 (skip s))
-      → Answered alone (drop k s) b a at (Stuck n) → Answered alone s b a at (Stuck (k + n))
-  sign_stuck a k n code q c l d (g, z) =
-      let x = sign_is s code q c in (
-        subst (λ y. Goes alone s (stuck y)) (drop-drop n k s)
-            (signs {o = stuck (drop n (drop k s))} x.o x.starts (subst (λ y. Goes alone y (stuck (drop n (drop k s)))) (d
-            ∙ ap (λ y. skip (drop 1 y)) x.is) g)),
-        omega (arith, length-drop k s),
-      )
+  pub sign_stuck : (a : List ℕ) (k n code : ℕ) → code ≡ sign_code (start s) → 1 ≤ code → drop k s ≡ skip (drop 1 (skip s))
+      → Reached alone k s b a at (Err n) → Answered alone s b a at (Err n)
+  sign_stuck a k n code q c d (g, z) =
+      let x = sign_is s code q c in
+      (signs {o = stuck (drop n s)} x.o x.starts (subst (λ y. Goes alone y (stuck (drop n s))) (d ∙ ap (λ y. skip (drop 1 y)) x.is) g), z)
 
   -- the spaces behind
-  pub trail_ends : (a : List ℕ) (n to : ℕ) → Answered alone s b a at (Ends n to) → (x : Found) → Passed s to (λ e. gap e (drop n s)) x
+  pub trail_ends : (a : List ℕ) (n to : ℕ) → Answered alone s b a at (Ok (n, to)) → (x : Result (ℕ × ℕ) ℕ) → Passed s to (λ e. gap e (drop n s)) x
       → Answered (whole 0) s b a at x
-  trail_ends a n to (e, (g, (h, p))) (Ends k y) c =
+  trail_ends a n to (e, (g, (h, p))) (Ok (k, y)) c =
       (e, (subst (λ z. Goes (whole 0) s z) (c.2 e) (ends g), (c.1, subst (λ z. Put b a at (bytes_of e) z) (sym c.0) p)))
-  trail_ends a n to (e, (g, (h, p))) (Stuck k) c = (subst (λ z. Goes (whole 0) s z) (c.1 e) (ends g), c.0)
+  trail_ends a n to (e, (g, (h, p))) (Err k) c = (subst (λ z. Goes (whole 0) s z) (c.1 e) (ends g), c.0)
 
-  pub trail_stuck : (a : List ℕ) (n : ℕ) → Answered alone s b a at (Stuck n) → Answered (whole 0) s b a at (Stuck n)
+  pub trail_stuck : (a : List ℕ) (n : ℕ) → Answered alone s b a at (Err n) → Answered (whole 0) s b a at (Err n)
   trail_stuck a n (g, h) = (fails g, h)
 
   -- chains
-  pub chain_ends : (l : ℕ) (a₁ a₂ : List ℕ) (n to : ℕ) → length b ≡ 32 → Answered (whole l) s b a₁ at (Ends n to) → (q : Found)
+  pub chain_ends : (l : ℕ) (a₁ a₂ : List ℕ) (n to : ℕ) → length b ≡ 32 → Answered (whole l) s b a₁ at (Ok (n, to)) → (q : Result (ℕ × ℕ) ℕ)
       → Continued l (drop n s) a₁ a₂ at to q → Answered (whole (suc l)) s b a₂ at (after_of n q)
   chain_ends l a₁ a₂ n to lb (e, (g, (h, p))) q f = on q (f e b lb p)
     where
-      on : (q : Found) → Answered (rest l e) (drop n s) b a₂ at q → Answered (whole (suc l)) s b a₂ at (after_of n q)
-      on (Ends m z) (d, (k, (y, r))) =
+      on : (q : Result (ℕ × ℕ) ℕ) → Answered (rest l e) (drop n s) b a₂ at q → Answered (whole (suc l)) s b a₂ at (after_of n q)
+      on (Ok (m, z)) (d, (k, (y, r))) =
           (d, (subst (λ x. Goes (whole (suc l)) s (got d x)) (drop-drop m n s) (firsts g k), (omega (arith, length-drop n s), r)))
-      on (Stuck m) (k, y) = (subst (λ x. Goes (whole (suc l)) s (stuck x)) (drop-drop m n s) (firsts g k), omega (arith, length-drop n s))
+      on (Err m) (k, y) = (subst (λ x. Goes (whole (suc l)) s (stuck x)) (drop-drop m n s) (firsts g k), omega (arith, length-drop n s))
 
-  pub chain_stuck : (l : ℕ) (a : List ℕ) (n : ℕ) → Answered (whole l) s b a at (Stuck n) → Answered (whole (suc l)) s b a at (Stuck n)
+  pub chain_stuck : (l : ℕ) (a : List ℕ) (n : ℕ) → Answered (whole l) s b a at (Err n) → Answered (whole (suc l)) s b a at (Err n)
   chain_stuck l a n (g, h) = (sinks g, h)
 
 -- what follows in a chain
@@ -219,44 +218,33 @@ module _ (l : ℕ) (s : List ℕ) (at to code : ℕ) (c : code ≡ code_of (op_a
   at_suc : code ≡ code_of (op_at (suc l) (look s))
   at_suc = c ∙ ap (λ x. code_of (op_at x (look s))) (add-one l)
 
-  pub more_none : (a : List ℕ) → code < 1 → Continued l s a a at to (Ends 0 to)
+  pub more_none : (a : List ℕ) → code < 1 → Continued l s a a at to (Ok (0, to))
   more_none a h e b lb p = (e, (stops (op_no (op_at (suc l) (look s)) code at_suc h), (omega arith, p)))
 
-  pub more_ends : (a₀ a₁ a₂ a₃ : List ℕ) (k n end top : ℕ) (q : Found) → 1 ≤ code → k ≤ length s → drop k s ≡ skip (drop 1 s)
-      → Answered (whole l) (drop k s) a₀ a₁ to (Ends n end) → Inserted a₁ a₂ at end code top → Continued l (drop (k + n) s) a₂ a₃ at top q
-      → Continued l s a₀ a₃ at to (after_of (k + n) q)
+  pub more_ends : (a₀ a₁ a₂ a₃ : List ℕ) (k n end top : ℕ) (q : Result (ℕ × ℕ) ℕ) → 1 ≤ code → drop k s ≡ skip (drop 1 s)
+      → Reached (whole l) k s a₀ a₁ to (Ok (n, end)) → Inserted a₁ a₂ at end code top → Continued l (drop n s) a₂ a₃ at top q
+      → Continued l s a₀ a₃ at to (after_of n q)
   unfolding bytes_of
-  more_ends a₀ a₁ a₂ a₃ k n end top q h lk d (x, (g, (z, p))) i f e b lb p₀ =
+  more_ends a₀ a₁ a₂ a₃ k n end top q h d (x, (g, (z, p))) i f e b lb p₀ =
       let w = op_some (op_at (suc l) (look s)) code at_suc h in
       let o = w.0 in
-      let j = k + n in
       let placed : Put b a₂ at (bytes_of (two o e x)) top =
       subst (λ y. Put b a₂ at (y ∷ (bytes_of e ++ bytes_of x)) top) w.1.1
       (put_two b a₀ a₁ a₂ (bytes_of e) (bytes_of x) at to end code top lb p₀ p i) in
-      let g' : Goes (whole l) (skip (drop 1 s)) (got x (drop j s)) =
-      subst (λ y. Goes (whole l) y (got x (drop j s))) d (subst (λ y. Goes (whole l) (drop k s) (got x y)) (drop-drop n k s) g) in
-      let lj : j ≤ length s = omega (arith, length-drop k s) in
-      on o w.1.0 g' lj q (f (two o e x) b lb placed)
+      on o w.1.0 (subst (λ y. Goes (whole l) y (got x (drop n s))) d g) z q (f (two o e x) b lb placed)
     where
-      on : (o : Op2) → op_at (suc l) (look s) ≡ some o → Goes (whole l) (skip (drop 1 s)) (got x (drop (k + n) s)) → k + n ≤ length s
-          → (q : Found)
-          → Answered (rest l (two o e x)) (drop (k + n) s) b a₃ at q → Answered (rest l e) s b a₃ at (after_of (k + n) q)
-      on o v g lj (Ends m y) (e', (g', (z', p'))) = (
-        e',
-        (subst (λ y. Goes (rest l e) s (got e' y)) (drop-drop m (k + n) s) (agains o v g g'), (omega (arith, length-drop (k + n) s), p')),
-      )
-      on o v g lj (Stuck m) (g', z') =
-          (subst (λ y. Goes (rest l e) s (stuck y)) (drop-drop m (k + n) s) (agains o v g g'), omega (arith, length-drop (k + n) s))
+      on : (o : Op2) → op_at (suc l) (look s) ≡ some o → Goes (whole l) (skip (drop 1 s)) (got x (drop n s)) → n ≤ length s
+          → (q : Result (ℕ × ℕ) ℕ)
+          → Answered (rest l (two o e x)) (drop n s) b a₃ at q → Answered (rest l e) s b a₃ at (after_of n q)
+      on o v g lj (Ok (m, y)) (e', (g', (z', p'))) =
+          (e', (subst (λ y. Goes (rest l e) s (got e' y)) (drop-drop m n s) (agains o v g g'), (omega (arith, length-drop n s), p')))
+      on o v g lj (Err m) (g', z') = (subst (λ y. Goes (rest l e) s (stuck y)) (drop-drop m n s) (agains o v g g'), omega (arith, length-drop n s))
 
-  pub more_stuck : (a₀ a₁ : List ℕ) (k n : ℕ) → 1 ≤ code → k ≤ length s → drop k s ≡ skip (drop 1 s)
-      → Answered (whole l) (drop k s) a₀ a₁ to (Stuck n)
-      → Continued l s a₀ a₁ at to (Stuck (k + n))
-  more_stuck a₀ a₁ k n h lk d (g, z) e b lb p₀ =
-      let w = op_some (op_at (suc l) (look s)) code at_suc h in (
-        subst (λ y. Goes (rest l e) s (stuck y)) (drop-drop n k s)
-            (breaks w.0 w.1.0 (subst (λ y. Goes (whole l) y (stuck (drop n (drop k s)))) d g)),
-        omega (arith, length-drop k s),
-      )
+  pub more_stuck : (a₀ a₁ : List ℕ) (k n : ℕ) → 1 ≤ code → drop k s ≡ skip (drop 1 s) → Reached (whole l) k s a₀ a₁ to (Err n)
+      → Continued l s a₀ a₁ at to (Err n)
+  more_stuck a₀ a₁ k n h d (g, z) e b lb p₀ =
+      let w = op_some (op_at (suc l) (look s)) code at_suc h in
+      (breaks w.0 w.1.0 (subst (λ y. Goes (whole l) y (stuck (drop n s))) d g), z)
 
 -- an operator at the front is a byte
 pub op_byte : (l : ℕ) (s : List ℕ) (code : ℕ) → code ≡ code_of (op_at l (look s)) → 1 ≤ code → 1 ≤ length s
@@ -272,7 +260,7 @@ sign_byte s code c h = omega (arith, ap length (sign_is s code c h).is)
 pub part_length : (k : ℕ) (s : List ℕ) → length (take (length s - k) (drop k s)) ≡ length s - k
 part_length k s = ap length (rest_is k s) ∙ length-drop k s
 
-pub continued : (l n : ℕ) (s a₀ a₁ : List ℕ) (at to : ℕ) (q : Found) → Continued l (take (length s - n) (drop n s)) a₀ a₁ at to q
+pub continued : (l n : ℕ) (s a₀ a₁ : List ℕ) (at to : ℕ) (q : Result (ℕ × ℕ) ℕ) → Continued l (take (length s - n) (drop n s)) a₀ a₁ at to q
     → Continued l (drop n s) a₀ a₁ at to q
 continued l n s a₀ a₁ at to q f = subst (λ x. Continued l x a₀ a₁ at to q) (rest_is n s) f
 
@@ -284,9 +272,6 @@ inserted b a₁ a₂ at end code to i h = on (leb end 31) refl
     on true e = let k = leb-true end 31 e in (omega (arith, i.ends k), λ z. omega (arith, i.ends k, h k))
     on false e = let k = leb-false end 31 e in (omega (arith, i.full k), λ z. absurd (omega (arith, i.full k)))
 
-pub takes_is : (j : ℕ) (q : Found) → takes (after_of j q) ≡ j + takes q
-takes_is j (Ends n to) = refl
-takes_is j (Stuck n) = refl
-
-pub takes_after : (j : ℕ) (q : Found) (m : ℕ) → takes (after_of j q) ≤ m → takes (after_of j q) ≤ m
-takes_after j q m h = h
+pub takes_is : (j : ℕ) (q : Result (ℕ × ℕ) ℕ) → takes (after_of j q) ≡ j + takes q
+takes_is j (Ok (n, to)) = refl
+takes_is j (Err n) = refl

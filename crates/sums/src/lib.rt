@@ -2,15 +2,15 @@
 // in the room, from `at` on.
 #![tactic(auto)]
 
-ghost use Rattle.std.specs.Prelude.{◌≡◌, ℕ, ◌+◌, ◌^◌, ◌≤◌, ◌<◌, length, drop};
+ghost use Rattle.std.specs.Prelude.{◌≡◌, ℕ, ◌+◌, ◌≤◌, ◌<◌, length, drop};
 ghost use Rattle.rules.specs.declared.Op2.{Op2};
 ghost use Rattle.rules.specs.Expressions.{code2};
 ghost use Rattle.grammar.specs.Reading.{look, level_of};
 ghost use Rattle.grammar.specs.Going.{got, skip, gap, close, alone, whole, op_at, infix_of};
-ghost use Rattle.leaves.specs.Answering.{Answered, Continued, Passed, takes, after_of, code_of};
+ghost use Rattle.leaves.specs.Answering.{Answered, Continued, Passed, takes, code_of};
 
 use leaves::Found;
-use leaves::lexing::{look, spaces};
+use leaves::lexing::{after, look, spaces};
 use leaves::operands::{leaf, sign_of};
 use leaves::storing::insert;
 
@@ -55,17 +55,6 @@ fn op_at(level: usize, c: u8) -> u8
     }
 }
 
-// What was read after k bytes.
-fn after(k: usize, r: Found) -> Found
-    requires { k + takes r < 2 ^ 64 }
-    ensures { result ≡ after_of k r }
-{
-    match r {
-        Found::Ends(n, to) => Found::Ends(k + n, to),
-        Found::Stuck(n) => Found::Stuck(k + n),
-    }
-}
-
 // The first byte and the spaces behind it.
 fn past(s: &[u8]) -> usize
     requires { 1 ≤ length s.now }
@@ -91,9 +80,9 @@ fn trail(s: &[u8], n: usize, to: usize) -> Found
     let t = &s[n..];
     let k = n + spaces(t);
     if k > n && infix_of(look(&s[k..])) == 0 {
-        return Found::Stuck(k);
+        return Err(k);
     }
-    Found::Ends(k, to)
+    Ok((k, to))
 }
 
 // The closing parenthesis at k.
@@ -102,96 +91,90 @@ fn closing(s: &[u8], k: usize, to: usize) -> Found
     ensures { Passed s.now to (λ e. close (got e (drop k s.now))) result }
 {
     if k < s.len() && s[k] == b')' {
-        return Found::Ends(k + 1, to);
+        return Ok((k + 1, to));
     }
-    Found::Stuck(k)
+    Err(k)
 }
 
 // An operand without the spaces behind it: in parentheses, behind a sign, or a number or a name.
-#[cycle(atom_more_operand_tier)]
+#[cycle(atom_more_operand_product_sum_tier)]
 fn atom(s: &[u8], out: &mut [u8; 32], at: usize) -> Found
     requires { (length out.old ≡ 32) × (at ≤ 33) }
     ensures { Answered alone s.now out.old out.new at result }
 {
     if look(s) == b'(' {
-        let r = tier(5, &s[1..], out, at);
-        match r {
-            Found::Ends(n, to) => {
-                return closing(s, n + 1, to);
-            }
-            Found::Stuck(n) => {
-                return Found::Stuck(n + 1);
-            }
-        }
+        let (n, to) = after(1, tier(5, &s[1..], out, at))?;
+        return closing(s, n, to);
     }
     let code = sign_of(s);
     if code == 0 {
         return leaf(s, out, at);
     }
     let k = past_sign(s);
-    let r = atom(&s[k..], out, at);
-    match r {
-        Found::Ends(n, end) => {
-            let to = insert(out, at, end, code);
-            Found::Ends(k + n, to)
-        }
-        Found::Stuck(n) => Found::Stuck(k + n),
-    }
+    let (n, end) = after(k, atom(&s[k..], out, at))?;
+    Ok((n, insert(out, at, end, code)))
 }
 
-#[cycle(atom_more_operand_tier)]
+#[cycle(atom_more_operand_product_sum_tier)]
 fn operand(s: &[u8], out: &mut [u8; 32], at: usize) -> Found
     requires { (length out.old ≡ 32) × (at ≤ 33) }
     ensures { Answered (whole 0) s.now out.old out.new at result }
 {
-    let r = atom(s, out, at);
-    match r {
-        Found::Ends(n, to) => trail(s, n, to),
-        Found::Stuck(n) => Found::Stuck(n),
-    }
+    let (n, to) = atom(s, out, at)?;
+    trail(s, n, to)
 }
 
-// An expression of any level: an operand 0, "a product of operands" 1, "a sum .. of products" 2, then those of `&`, `^` and `|`.
-#[cycle(atom_more_operand_tier)]
+// "a product of operands"
+#[cycle(atom_more_operand_product_sum_tier)]
+fn product(s: &[u8], out: &mut [u8; 32], at: usize) -> Found
+    requires { (length out.old ≡ 32) × (at ≤ 33) }
+    ensures { Answered (whole 1) s.now out.old out.new at result }
+{
+    let (n, to) = operand(s, out, at)?;
+    after(n, more(0, &s[n..], out, at, to))
+}
+
+// "A sum is made of products"
+#[cycle(atom_more_operand_product_sum_tier)]
+fn sum(s: &[u8], out: &mut [u8; 32], at: usize) -> Found
+    requires { (length out.old ≡ 32) × (at ≤ 33) }
+    ensures { Answered (whole 2) s.now out.old out.new at result }
+{
+    let (n, to) = product(s, out, at)?;
+    after(n, more(1, &s[n..], out, at, to))
+}
+
+// An expression of any level: an operand 0, a product 1, a sum 2, then those of `&`, `^` and `|`.
+#[cycle(atom_more_operand_product_sum_tier)]
 fn tier(level: usize, s: &[u8], out: &mut [u8; 32], at: usize) -> Found
     requires { (length out.old ≡ 32) × (at ≤ 33) × (level ≤ 5) }
     ensures { Answered (whole level) s.now out.old out.new at result }
 {
-    if level == 0 {
-        return operand(s, out, at);
+    match level {
+        0 => return operand(s, out, at),
+        1 => return product(s, out, at),
+        2 => return sum(s, out, at),
+        _ => {}
     }
     let below = level - 1;
-    let r = tier(below, s, out, at);
-    match r {
-        Found::Ends(n, to) => {
-            let q = more(below, &s[n..], out, at, to);
-            after(n, q)
-        }
-        Found::Stuck(n) => Found::Stuck(n),
-    }
+    let (n, to) = tier(below, s, out, at)?;
+    after(n, more(below, &s[n..], out, at, to))
 }
 
 // What follows in a chain of level + 1 whose left operand stands from `at` to `to`.
-#[cycle(atom_more_operand_tier)]
+#[cycle(atom_more_operand_product_sum_tier)]
 fn more(level: usize, s: &[u8], out: &mut [u8; 32], at: usize, to: usize) -> Found
     requires { (length out.old ≡ 32) × (to ≤ 33) × (to ≤ 32 → at ≤ to) × (level ≤ 4) }
     ensures { (takes result ≤ length s.now) × Continued level s.now out.old out.new at to result }
 {
     let code = op_at(level + 1, look(s));
     if code == 0 {
-        return Found::Ends(0, to);
+        return Ok((0, to));
     }
     let k = past(s);
-    let r = tier(level, &s[k..], out, to);
-    match r {
-        Found::Ends(n, end) => {
-            let top = insert(out, at, end, code);
-            let j = k + n;
-            let q = more(level, &s[j..], out, at, top);
-            after(j, q)
-        }
-        Found::Stuck(n) => Found::Stuck(k + n),
-    }
+    let (n, end) = after(k, tier(level, &s[k..], out, to))?;
+    let top = insert(out, at, end, code);
+    after(n, more(level, &s[n..], out, at, top))
 }
 
 // The expression that a text begins with, and its bytes.

@@ -8,7 +8,9 @@ use native.Mathlib.Omega.{arith}
 use lib.ListN.{length, get_or}
 use mir.Syntax.{w32}
 use mir.Val.{of_z}
-use Rattle.rules.specs.declared.Outcome.{Outcome}
+use Rattle.rules.specs.declared.Place.{Place}
+use Rattle.rules.specs.declared.Unvalued.{Unvalued}
+use Rattle.std.specs.Prelude.{ℤ, Result, None, Option as AnOption, Some}
 use Rattle.rules.specs.Expressions.{pair, four}
 use Rattle.rules.specs.Forms.{is_transfer, operands_at}
 use Rattle.rules.specs.Programs.{Placeℕ, Operand, register, Stmt, args_of, last_of, kind_of}
@@ -20,8 +22,6 @@ use Rattle.slots.specs.Slots.{Slots, slot_at, program_of, worth_in}
 use Rattle.image.specs.Tables.{Tables, program, operand_at, Ready}
 use Rattle.image.proofs.Operands.{count_args}
 use Rattle.image.proofs.Worths.{worth_at_lem}
-use Rattle.asm.specs.declared.Origin.{Origin}
-use Rattle.asm.specs.declared.Origin.TheVariants.{At, Nothing}
 use Rattle.asm.specs.Belonging.{origin_as, OriginIn}
 use Rattle.patterns.specs.Targets.{stands_at, form_in}
 use Rattle.patterns.proofs.Programs.{at_program}
@@ -52,7 +52,7 @@ module _ (d : Tables) (h : Ready d) (i : Placeℕ) (l : i < d.slots.count) (e : 
       ∙ sym (last_get xs) ∙ ap (λ (s : Stmt). last_of (args_of s)) (sym (at_program t i l))
 
   -- its worth is what the target comes to
-  pub worth_is : d.entries ≡ names_of (program d) → (v : Outcome)
+  pub worth_is : d.entries ≡ names_of (program d) → (v : Result ℤ Unvalued)
       → v ≡ worth_in d.entries d.positions (get_or d.contexts i 0) (operand_at t i (length (operands_at form) - 1)) → v ≡ (aim_at (program d) i).value
   unfolding aim_at
   worth_is n v w =
@@ -63,9 +63,9 @@ module _ (d : Tables) (h : Ready d) (i : Placeℕ) (l : i < d.slots.count) (e : 
 -- ---- its bytes
 
 -- a slot's bytes are few
-pub small_in : (t : Slots) (o : Origin) → t.count ≤ 1024 → OriginIn t o → Small o
-small_in t (At i o) l h = (omega (arith, h.0), omega (arith, h.2))
-small_in t Nothing l h = tt
+pub small_in : (t : Slots) (o : AnOption (Place × ℕ)) → t.count ≤ 1024 → OriginIn t o → Small o
+small_in t (Some (i, o)) l h = (omega (arith, h.0), omega (arith, h.2))
+small_in t None l h = tt
 
 low_in : (x : Option Source) → Small (origin_as x) → LowByte x
 low_in none h = tt
@@ -75,7 +75,7 @@ bytes_in : (x : Option Source) → byte_bytes x ≡ pair (place_in (origin_as x)
 bytes_in none = refl
 bytes_in (some o) = refl
 
-pub aim_is : (t : Slots) (i : Placeℕ) (v : Outcome) (o : Origin) (n place offset : ℕ) (r : List ℕ) → t.count ≤ 1024
+pub aim_is : (t : Slots) (i : Placeℕ) (v : Result ℤ Unvalued) (o : AnOption (Place × ℕ)) (n place offset : ℕ) (r : List ℕ) → t.count ≤ 1024
     → v ≡ (aim_at (program_of t) i).value → Found t (origin (program_of t) v) o → n ≡ of_z w32 (number_of v) → place ≡ place_in o → offset ≡ offset_in o
     → r ≡ four n ++ (pair place ++ pair offset) → AimIs (program_of t) i r
 unfolding aim_at

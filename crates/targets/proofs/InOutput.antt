@@ -9,12 +9,13 @@ use lib.Dec.{eqb}
 use lib.ListN.{length, get_or}
 use lib.IntN.{pos}
 use borrow.Author.Tests.{eqb-true}
+use Rattle.rules.specs.declared.Unvalued.TheVariants.{Unknown, Nothing}
+use Rattle.rules.specs.declared.Unvalued.{Unvalued}
+use Rattle.std.specs.Prelude.{ℤ, Result, Err, Ok}
 use Rattle.laws.specs.Lists.{each}
 use Rattle.laws.specs.Counts.{tab}
 use Rattle.laws.proofs.Tests.{clash, and_true, false_true}
 use Rattle.rules.specs.declared.Settings.{Settings}
-use Rattle.rules.specs.declared.Outcome.{Outcome}
-use Rattle.rules.specs.declared.Outcome.TheVariants.{Is, Unknown, Nothing}
 use Rattle.rules.specs.Answers.{Judged, ok, ◌>>=◌}
 use Rattle.rules.specs.Expressions.{eval_tree}
 use Rattle.rules.specs.Forms.{is_transfer}
@@ -46,10 +47,10 @@ define_moved above i j k q unnamed more e = e
 define_moved above i j k q (labels n) more e = e
 define_moved above i j k q (binds n d) more e = on (worth above k d) e
   where
-    on : (v : Outcome) → value_at i v >>= (λ z. ok (entry k n z ∷ above)) ≡ ok more → value_at j v >>= (λ z. ok (entry k n z ∷ above)) ≡ ok more
-    on (Is z) h = h
-    on Unknown h = clash (cc)
-    on Nothing h = clash (cc)
+    on : (v : Result ℤ Unvalued) → value_at i v >>= (λ z. ok (entry k n z ∷ above)) ≡ ok more → value_at j v >>= (λ z. ok (entry k n z ∷ above)) ≡ ok more
+    on (Ok z) h = h
+    on (Err Unknown) h = clash (cc)
+    on (Err Nothing) h = clash (cc)
 
 module _ (asked : Settings) (g : Operand → Operand) where
   abbrev out : Stmt → Stmt
@@ -148,11 +149,11 @@ module _ (asked : Settings) (p : Program) (input : Input p) where
     byte_output : o < size_in (compact left) (rank left s)
     byte_output = rw (at_rank left s live, position_rank left s live) byte_left
 
-    names_output : origin (compact left) (Is (pos (position end s + o))) ≡ some (record { place = rank left s; offset = o })
+    names_output : origin (compact left) (Ok (pos (position end s + o))) ≡ some (record { place = rank left s; offset = o })
     names_output =
         let q = image_of_output asked p input in
         let laid : positions_fit (placed (compact left)) ≡ ok tt = unfold output_program in (judge_passes (compact left) q.image q.of_output).laid in
-        ap (λ (n : ℕ). origin (compact left) (Is (pos (n + o)))) (sym position_is) ∙ origin_at (compact left) (rank left s) o laid byte_output
+        ap (λ (n : ℕ). origin (compact left) (Ok (pos (n + o)))) (sym position_is) ∙ origin_at (compact left) (rank left s) o laid byte_output
 
   -- a transfer of the end form, in the output
   module _ (i f c : ℕ) (xs : List Operand) (s : at end i ≡ instr f xs c) where
@@ -206,7 +207,7 @@ module _ (asked : Settings) (p : Program) (input : Input p) where
           stands = stands_output;
           transfers = t;
           owner = rank left n;
-          after = ap (origin (compact left)) (same_value ∙ v.1) ∙ ap (λ (a : ℕ). origin (compact left) (Is (pos a))) (sym l.address_is) ∙ names_output n o l.has_byte;
+          after = ap (origin (compact left)) (same_value ∙ v.1) ∙ ap (λ (a : ℕ). origin (compact left) (Ok (pos a))) (sym l.address_is) ∙ names_output n o l.has_byte;
           listed = of_owner.0;
           stems_from_is = of_owner.1;
         }

@@ -1,18 +1,17 @@
 -- What a target comes to, as the code holds it: eight bytes by place.
-use Rattle.std.specs.Prelude.{◌≡◌, List, [], Bool, true, ◌&&◌, not, ℕ, ◌<◌, eqb, get_or}
+use Rattle.rules.specs.declared.Place.{Place}
+use Rattle.std.specs.Prelude.{◌≡◌, List, [], Bool, true, ◌&&◌, not, ℕ, ◌<◌, eqb, get_or, None, Option as AnOption, Some}
 use Rattle.std.proofs.Math.Option.{Option, none, some}
 use Rattle.rules.specs.Forms.{is_transfer}
 use Rattle.rules.specs.Programs.{Placeℕ, Program, at}
 use Rattle.rules.specs.Layout.{Origin as Source}
-use Rattle.asm.specs.declared.Origin.{Origin}
-use Rattle.asm.specs.declared.Origin.TheVariants.{At, Nothing}
 use Rattle.patterns.specs.Targets.{form_in}
 use Rattle.targets.specs.Targets.{aim_at, aim_bytes}
 
 -- the place of an origin, FFFF for none
-abbrev pub place_in : Origin → ℕ
-place_in (At i o) = i.0
-place_in Nothing = 0xFFFF
+abbrev pub place_in : AnOption (Place × ℕ) → ℕ
+place_in (Some (i, o)) = i.0
+place_in None = 0xFFFF
 
 -- two bytes hold both numbers, and no place is FFFF
 abbrev pub LowByte : Option Source → Type 0

@@ -1,5 +1,7 @@
 -- What the entry `targets` answers to a listing and a room, and what it leaves in it.
-use Rattle.std.specs.Prelude.{◌≡◌, List, ℕ, leb, length}
+use Rattle.rules.specs.declared.Refusal.{Refusal}
+use Rattle.targets.specs.declared.Counts.{Counts}
+use Rattle.std.specs.Prelude.{◌≡◌, List, ℕ, leb, length, Err, Result, Ok}
 use Rattle.laws.specs.Lists.{total, each}
 use Rattle.laws.specs.Counts.{tab}
 use Rattle.rules.specs.declared.Settings.{Settings}
@@ -8,8 +10,6 @@ use Rattle.rules.specs.Answers.{Judged, ok, no, ◌>>=◌, require}
 use Rattle.rules.specs.Programs.{Program}
 use Rattle.rules.specs.Run.{front}
 use Rattle.starting.specs.Begun.{accepted}
-use Rattle.targets.specs.declared.Told.{Told}
-use Rattle.targets.specs.declared.Told.TheVariants.{Done, Refused}
 use Rattle.targets.specs.Targets.{Target, is_same, targets_in, targets, mark_byte, target_line}
 
 unfoldable pub target_lines : List Target → List ℕ
@@ -32,16 +32,16 @@ told asked text room = do
   p ← accepted text
   fitted (length p) room (targets asked p)
 
-abbrev pub answer_as : Judged (List Target) → Told
-answer_as (ok ts) = Done (record { bytes = length (target_lines ts); transfers = length ts; marked = marks ts })
-answer_as (no r) = Refused r
+abbrev pub answer_as : Judged (List Target) → Result Counts Refusal
+answer_as (ok ts) = Ok (record { bytes = length (target_lines ts); transfers = length ts; marked = marks ts })
+answer_as (no r) = Err r
 
 -- "No lent byte changes" on refusal; "On acceptance, room beyond the result is unchanged."
 abbrev pub room_as : Judged (List Target) → (room : List ℕ) → List ℕ
 room_as (ok ts) room = front (target_lines ts) room
 room_as (no r) room = room
 
-pub record Leaves (x : Judged (List Target)) (r : Told) (before after : List ℕ) : Type 0 where
+pub record Leaves (x : Judged (List Target)) (r : Result Counts Refusal) (before after : List ℕ) : Type 0 where
   pub answer : r ≡ answer_as x
   pub room : after ≡ room_as x before
 
@@ -52,5 +52,5 @@ unfoldable pub targets_to : (input end : Program) (n : ℕ) → List Target
 targets_to p e n = each (targets_in p e) (tab (λ i. i) n)
 
 -- if only the room can be refused
-abbrev pub Fits : (input end : Program) → Told → (before after : List ℕ) → Type 0
+abbrev pub Fits : (input end : Program) → Result Counts Refusal → (before after : List ℕ) → Type 0
 Fits p e r before after = Leaves (fitted (length p) (length before) (targets_to p e (length e))) r before after

@@ -1,14 +1,14 @@
 -- "For each transfer of the output one line (74): its place, the place whose target it carries, the value and origin in the input, the value and origin in
 -- the output (by stems), and whether both are the same byte of the same statement."
-use Rattle.std.specs.Prelude.{List, [], ◌∷◌, ◌++◌, Bool, false, ◌&&◌, cond, ℕ, eqb, ℤ, pos, length}
+use Rattle.rules.specs.declared.Unvalued.TheVariants.{Unknown, Nothing}
+use Rattle.rules.specs.declared.Unvalued.{Unvalued}
+use Rattle.std.specs.Prelude.{List, [], ◌∷◌, ◌++◌, Bool, false, ◌&&◌, cond, ℕ, eqb, ℤ, pos, length, Result, Err, Ok}
 use Rattle.std.proofs.Math.Option.{Option, none, some}
 use Rattle.std.specs.Int.{w32}
 use Rattle.std.proofs.Common.{of_z}
 use Rattle.laws.specs.Lists.{each}
 use Rattle.laws.specs.Counts.{tab}
 use Rattle.rules.specs.declared.Settings.{Settings}
-use Rattle.rules.specs.declared.Outcome.{Outcome}
-use Rattle.rules.specs.declared.Outcome.TheVariants.{Is, Unknown, Nothing}
 use Rattle.rules.specs.Expressions.{pair, four}
 use Rattle.rules.specs.Forms.{is_transfer}
 use Rattle.rules.specs.Programs.{Placeℕ, Program, at, on_instr, args_of, last_of}
@@ -20,13 +20,13 @@ use Rattle.rules.specs.Output.{line_of}
 
 -- what a target comes to: its value, and the byte at that address, if a statement has it
 pub record Aim : Type 0 where
-  pub value : Outcome
+  pub value : Result ℤ Unvalued
   pub byte : Option Origin
 
 -- the target of the transfer at place i of p
 unfoldable pub aim_at : Program → (i : Placeℕ) → Aim
 aim_at p i =
-    let v : Outcome = worth_of (names_of p) p (context_at p i) (last_of (args_of (at p i))) in
+    let v : Result ℤ Unvalued = worth_of (names_of p) p (context_at p i) (last_of (args_of (at p i))) in
     record { value = v; byte = origin p v }
 
 -- both name a byte, of one statement and at one offset. An end form has a slot for each statement of the input, so that "stems from" is "has the same place"
@@ -63,10 +63,10 @@ targets asked p =
 abbrev pub mark_byte : Bool → ℕ
 mark_byte b = cond b 0 1
 
-abbrev pub number_of : Outcome → ℤ
-number_of (Is z) = z
-number_of Unknown = pos 0
-number_of Nothing = pos 0
+abbrev pub number_of : Result ℤ Unvalued → ℤ
+number_of (Ok z) = z
+number_of (Err Unknown) = pos 0
+number_of (Err Nothing) = pos 0
 
 abbrev pub byte_bytes : Option Origin → List ℕ
 byte_bytes none = pair 0xFFFF ++ pair 0

@@ -11,47 +11,37 @@ ghost use Rattle.targets.specs.Targets.{number_of};
 ghost use Rattle.targets.specs.Aimed.{place_in, AimIs};
 
 use anchors::value_origin;
-use asm::Origin;
 use image::argument_worth;
 use instruction::tables::operand_count;
 use output::bits;
-use rules::{Outcome, Place};
+use rules::{Place, Unvalued};
 use slots::{State, form_in};
 
-fn low_byte(x: u32) -> u8
-    ensures { result ≡ x % 256 }
-{
-    (x % 256) as u8
-}
-
 // The 32 bits of a value.
-fn value_bits(v: Outcome) -> u32
+fn value_bits(v: Result<i32, Unvalued>) -> u32
     ensures { result ≡ of_z w32 (number_of v) }
 {
-    match v {
-        Outcome::Is(z) => bits(z),
-        Outcome::Unknown | Outcome::Nothing => 0,
-    }
+    v.map_or(0, |z| bits(z))
 }
 
 // The place of an origin; FFFF where no statement has the byte.
-fn place_of(o: Origin) -> u32
+fn place_of(o: Option<(Place, usize)>) -> u32
     requires { Small o }
     ensures { (result ≡ place_in o) × (result < 65536) }
 {
     match o {
-        Origin::At(i, _) => i.0 as u32,
-        Origin::Nothing => 65535,
+        Some((i, _)) => i.0 as u32,
+        None => 65535,
     }
 }
 
-fn offset_of(o: Origin) -> u32
+fn offset_of(o: Option<(Place, usize)>) -> u32
     requires { Small o }
     ensures { (result ≡ offset_in o) × (result < 65536) }
 {
     match o {
-        Origin::At(_, n) => n as u32,
-        Origin::Nothing => 0,
+        Some((_, n)) => n as u32,
+        None => 0,
     }
 }
 
@@ -60,16 +50,10 @@ fn eight_bytes(value: u32, place: u32, offset: u32) -> [u8; 8]
     requires { (place < 65536) × (offset < 65536) }
     ensures { result ≡ four value ++ (pair place ++ pair offset) }
 {
-    [
-        low_byte(value / 16777216),
-        low_byte(value / 65536),
-        low_byte(value / 256),
-        low_byte(value),
-        low_byte(place / 256),
-        low_byte(place),
-        low_byte(offset / 256),
-        low_byte(offset),
-    ]
+    let [v3, v2, v1, v0] = value.to_be_bytes();
+    let [p1, p0] = (place as u16).to_be_bytes();
+    let [o1, o0] = (offset as u16).to_be_bytes();
+    [v3, v2, v1, v0, p1, p0, o1, o0]
 }
 
 // What the target of the transfer at a place comes to. The tables are those of the program in the slots.

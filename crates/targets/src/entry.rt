@@ -15,11 +15,11 @@ ghost use Rattle.targets.specs.Entry.{told, Leaves, Fits, targets_to, target_lin
 
 use crate::filling::{find_aims, find_aims_read};
 use crate::writing::{count_transfers, write_lines};
-use crate::{Aims, Counts, Told};
+use crate::{Aims, Counts};
 use optimize::optimize;
 use rules::{Refusal, Settings};
 use slots::State;
-use starting::{Begun, begin};
+use starting::begin;
 
 // The lines of an end form. `before` has what the targets of the listing as it was read come to.
 fn write_end(
@@ -52,7 +52,7 @@ fn tell_end(
     links: &[u16; 28672],
     before: &Aims,
     out: &mut [u8],
-) -> Told
+) -> Result<Counts, Refusal>
     requires { let t : Slots = table_of frames.now state.now count in
         Standing t × (assembles (program_of t) ≡ true) × Beside frames.now (starts_in state.now) count links.now
         × AimsIn (input_of frames.now (starts_in state.now) count) count before.now }
@@ -62,10 +62,10 @@ fn tell_end(
 {
     let n = count_transfers(frames, state, count);
     if out.len() / 45 < n {
-        return Told::Refused(Refusal::Room(count));
+        return Err(Refusal::Room(count));
     }
     let marked = write_end(frames, state, count, links, before, out);
-    Told::Done(Counts {
+    Ok(Counts {
         bytes: 45 * n,
         transfers: n,
         marked,
@@ -80,7 +80,7 @@ fn rewrite_and_tell(
     count: usize,
     links: &[u16; 28672],
     out: &mut [u8],
-) -> Told
+) -> Result<Counts, Refusal>
     requires { let p : Program = input_of frames.now (starts_in state.old) count in
         Holds p (table_of frames.now state.old count) links.now }
     ensures { let p : Program = input_of frames.now (starts_in state.old) count in
@@ -92,15 +92,13 @@ fn rewrite_and_tell(
     tell_end(frames, state, count, links, &before, out)
 }
 
-// What each transfer of the output names, one line each. On refusal no lent byte changes.
-pub fn targets(asked: Settings, listing: &[u8], out: &mut [u8]) -> Told
+// What each transfer of the output names, one line each: the lines stand in the lent room; or the refusal, and no lent byte changes.
+pub fn targets(asked: Settings, listing: &[u8], out: &mut [u8]) -> Result<Counts, Refusal>
     ensures { Leaves (told asked listing.now (length out.old)) result out.old out.new }
 {
     let mut frames = [0u8; 28672];
     let mut state = [[0u16; 1025]; 8];
     let mut links = [0u16; 28672];
-    match begin(listing, &mut frames, &mut state, &mut links) {
-        Begun::Refused(r) => Told::Refused(r),
-        Begun::Read(count) => rewrite_and_tell(asked, &frames, &mut state, count, &links, out),
-    }
+    let count = begin(listing, &mut frames, &mut state, &mut links)?;
+    rewrite_and_tell(asked, &frames, &mut state, count, &links, out)
 }

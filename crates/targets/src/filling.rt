@@ -13,7 +13,7 @@ ghost use Rattle.targets.specs.Aimed.{AimIs, AimsIn};
 
 use crate::Aims;
 use crate::aims::aim_at;
-use asm::{Verdict, judge_linked, start_state};
+use asm::{judge_linked, start_state};
 use instruction::tables::is_transfer;
 use listing::Starts;
 use patterns::targets::form_at;
@@ -72,9 +72,8 @@ pub fn find_aims(frames: &[u8], state: &State, count: usize, links: &[u16; 28672
 {
     let mut positions = [0u32; 1025];
     let mut values = [0i64; 1024];
-    match judge_linked(frames, state, count, links, &mut positions, &mut values) {
-        Verdict::Refused(_) => {}
-        Verdict::Good => fill_aims(frames, state, count, links, &values, &positions, aims),
+    if judge_linked(frames, state, count, links, &mut positions, &mut values).is_ok() {
+        fill_aims(frames, state, count, links, &values, &positions, aims);
     }
 }
 

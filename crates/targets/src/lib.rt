@@ -8,7 +8,6 @@ mod lines; // a transfer as a line
 mod writing; // transfer by transfer
 
 pub use entry::targets;
-use rules::Refusal;
 
 // By place, what the target of the transfer there comes to: its value in four bytes, the statement's place in two and the offset in two.
 pub type Aims = [[u8; 8]; 1024];
@@ -19,11 +18,4 @@ pub struct Counts {
     pub bytes: usize,
     pub transfers: usize,
     pub marked: usize,
-}
-
-// The lines stand in the lent room; or the refusal.
-#[derive(Clone, Copy)]
-pub enum Told {
-    Done(Counts),
-    Refused(Refusal),
 }

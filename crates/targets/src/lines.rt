@@ -8,13 +8,7 @@ ghost use Rattle.targets.specs.Targets.{target_at, target_line, mark_byte};
 ghost use Rattle.targets.specs.Aimed.{same_bytes, AimIs};
 ghost use Rattle.targets.specs.Entry.{mark_of};
 
-use digits::put_bytes;
-
-fn low_byte(x: usize) -> u8
-    ensures { result ≡ x % 256 }
-{
-    (x % 256) as u8
-}
+use digits::{low_byte, put_bytes};
 
 // Both name a byte, of one statement and at one offset. No place has FF for its high byte.
 fn is_same(b: [u8; 8], a: [u8; 8]) -> bool

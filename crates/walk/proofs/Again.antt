@@ -7,10 +7,10 @@ use native.Mathlib.Omega.{arith}
 use lib.Dec.{eqb, ltb}
 use lib.IntN.{pos}
 use borrow.Author.Tests.{ltb-true}
+use Rattle.std.specs.Prelude.{Ok}
 use Rattle.laws.specs.Lists.{every}
 use Rattle.laws.proofs.Tests.{and_true, and_both, or_first, or_second}
 use Rattle.laws.proofs.Lists.{every_any, every_all}
-use Rattle.rules.specs.declared.Outcome.TheVariants.{Is}
 use Rattle.rules.specs.Forms.{is_unconditional, bz, bnz}
 use Rattle.rules.specs.Programs.{Placeℕ, Operand, inner, Stmt, gone, is_gone, instr, Program, at, args_of, last_of, on_last, retarget}
 use Rattle.rules.specs.Layout.{position, size_in, origin}
@@ -81,7 +81,7 @@ module _ {end o : Program} {m : Machine} (r : Resolved end m) (s : Shown end o) 
   target_admitted k x d anchored h =
       let has : 0 < size_in end d = h refl in
       let here : position o (rank end d) + 0 ≡ position end d + 0 = ap (λ (a : ℕ). a + 0) (s.position_at d (byte_live (position end d) (at end d) 0 has)) in
-      rw (ap (λ (a : ℕ). origin o (Is (pos a))) (sym here) ∙ origin_at o (rank end d) 0 s.laid (sized d has))
+      rw (ap (λ (a : ℕ). origin o (Ok (pos a))) (sym here) ∙ origin_at o (rank end d) 0 s.laid (sized d has))
 
   transfer_admitted : (i f : ℕ) (xs : List Operand) (c d : ℕ) → at end i ≡ instr f xs c → Lands end (context_at end i) (last_of xs) d
       → is_plain_target o (last_of (on_last (plain_target end) xs)) ≡ true

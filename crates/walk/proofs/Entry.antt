@@ -3,7 +3,7 @@ use mathlib.Core.Path.{sym, ◌∙◌, ap, subst}
 use mathlib.Core.List.{List}
 use Prim.Native.Nat.{ℕ}
 use lib.ListN.{take}
-use Rattle.rules.specs.declared.Answer.TheVariants.{Done}
+use Rattle.std.specs.Prelude.{Ok}
 use Rattle.rules.specs.declared.Sizes.{Sizes}
 use Rattle.rules.specs.declared.Settings.{Settings}
 use Rattle.rules.specs.Programs.{Program}
@@ -14,8 +14,8 @@ use Rattle.walk.specs.Entry.{WalkedAlike}
 use Rattle.walk.proofs.Inputs.{no_constants}
 use Rattle.walk.proofs.SameWalks.{same_walk_again, output_walked}
 
--- walked-alike: `Done sizes` says that the front of the listing room reads again, and that it walks as the input does
-pub walked_alike : (asked : Settings) (text listing image : List ℕ) (sizes : Sizes) (listing' image' : List ℕ) → Answered asked text listing image (Done sizes) listing' image'
+-- walked-alike: `Ok sizes` says that the front of the listing room reads again, and that it walks as the input does
+pub walked_alike : (asked : Settings) (text listing image : List ℕ) (sizes : Sizes) (listing' image' : List ℕ) → Answered asked text listing image (Ok sizes) listing' image'
     → WalkedAlike asked text (take sizes.listing listing')
 walked_alike asked text listing image sizes listing' image' x =
     let a = (on_acceptance asked text listing image sizes listing' image' x).promised in

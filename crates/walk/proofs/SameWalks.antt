@@ -8,10 +8,10 @@ use Prim.Native.Nat.{ℕ, zero, suc, ◌≤◌}
 use native.Mathlib.Omega.{arith}
 use lib.ListN.{length, get_or}
 use lib.IntN.{pos}
+use Rattle.std.specs.Prelude.{Ok}
 use Rattle.laws.specs.Lists.{total}
 use Rattle.laws.proofs.Tests.{clash, none_some, true_false}
 use Rattle.rules.specs.declared.Settings.{Settings}
-use Rattle.rules.specs.declared.Outcome.TheVariants.{Is}
 use Rattle.rules.specs.Programs.{Placeℕ, Program}
 use Rattle.rules.specs.Layout.{origin}
 use Rattle.rules.specs.Rewriting.{anchor, optimized, instr_bytes}
@@ -40,7 +40,7 @@ use Rattle.walk.proofs.Comments.{stems_written, shown_resolved}
 use Rattle.walk.proofs.Again.{again_walked}
 
 -- ---- with no byte at address 0
-empty_walk : (p : Program) → origin p (Is (pos 0)) ≡ none → Empty p
+empty_walk : (p : Program) → origin p (Ok (pos 0)) ≡ none → Empty p
 unfolding walk walk_from meets
 empty_walk p e ts zero = rw e
 empty_walk p e ts (suc n) = rw e
@@ -82,7 +82,7 @@ module _ (asked : Settings) (p : Program) (in_p : Input p) (only : only_walked p
   ends : (m : Machine) × Resolved end m × Alike (machine p in_p only) m
   ends = (chained.0, shown_resolved asked chained.1, chained.2)
 
-  no_byte_end : origin p (Is (pos 0)) ≡ none → origin end (Is (pos 0)) ≡ none
+  no_byte_end : origin p (Ok (pos 0)) ≡ none → origin end (Ok (pos 0)) ≡ none
   no_byte_end e = last ends.1 (off (ends.2.no_more 0 []))
     where
       first_pass : (n : ℕ) → 0 ≤ n → deed (machine p in_p only) n ≡ pass
@@ -91,7 +91,7 @@ module _ (asked : Settings) (p : Program) (in_p : Input p) (only : only_walked p
           split : Head (machine p in_p only) 0 → (n : ℕ) → 0 ≤ n → deed (machine p in_p only) n ≡ pass
           split (nothing h) = h
           split (found b l h z) =
-              none_some _ (sym e ∙ ap (λ (a : ℕ). origin p (Is (pos a))) (sym (position_zero p)) ∙ origin_found p (machine p in_p only) (first_laid p in_p only) (machine_worth p in_p only) 0 b l h z)
+              none_some _ (sym e ∙ ap (λ (a : ℕ). origin p (Ok (pos a))) (sym (position_zero p)) ∙ origin_found p (machine p in_p only) (first_laid p in_p only) (machine_worth p in_p only) 0 b l h z)
 
       stopped : go 0 (machine p in_p only) 0 [] ≡ record { nops = []; left = []; ending = off_the_end }
       stopped = go_stop 0 (machine p in_p only) 0 [] off_the_end (steps_nothing (machine p in_p only) 0 first_pass [])
@@ -104,9 +104,9 @@ module _ (asked : Settings) (p : Program) (in_p : Input p) (only : only_walked p
           let z : 0 ≡ k.0 = omega (arith, k.1) in
           ap (λ (j : ℕ). (go j ends.0 0 []).ending) z ∙ ⊎_elim (λ h. clash (cc has_stopped)) (λ h. h ∙ has_stopped) k.2.stops
 
-      last : Resolved end ends.0 → (go 0 ends.0 0 []).ending ≡ off_the_end → origin end (Is (pos 0)) ≡ none
+      last : Resolved end ends.0 → (go 0 ends.0 0 []).ending ≡ off_the_end → origin end (Ok (pos 0)) ≡ none
       last r h =
-          ap (λ (a : ℕ). origin end (Is (pos a))) (sym (position_zero end))
+          ap (λ (a : ℕ). origin end (Ok (pos a))) (sym (position_zero end))
           ∙ origin_nothing end ends.0 (passes_are r).1 (worth_all r) 0 (ends_at_once ends.0 h)
 
   -- ---- whatever shows the end form

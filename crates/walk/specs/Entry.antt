@@ -1,4 +1,4 @@
--- C-23 down to the entry: what an answer `Done` of `optimize_jumps` says of the walk of what it wrote.
+-- C-23 down to the entry: what an answer `Ok` of `optimize_jumps` says of the walk of what it wrote.
 use Rattle.std.specs.Prelude.{◌≡◌, List, true, ℕ}
 use Rattle.rules.specs.declared.Settings.{Settings}
 use Rattle.rules.specs.Answers.{ok}

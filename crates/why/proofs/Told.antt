@@ -5,9 +5,9 @@ use Prim.Native.Nat.{ℕ, ◌*◌, ◌≤◌, ◌<◌}
 use native.Mathlib.Omega.{arith}
 use lib.ListN.{length}
 use borrow.Author.Tests.{le-leb, lt-leb}
+use Rattle.rules.specs.declared.Sizes.{Sizes}
+use Rattle.std.specs.Prelude.{Err, Result, Ok}
 use Rattle.laws.specs.Lists.{total}
-use Rattle.rules.specs.declared.Answer.{Answer}
-use Rattle.rules.specs.declared.Answer.TheVariants.{Done, Refused}
 use Rattle.rules.specs.declared.Settings.{Settings}
 use Rattle.rules.specs.declared.Refusal.{Refusal}
 use Rattle.rules.specs.declared.Refusal.TheVariants.{Room}
@@ -27,7 +27,7 @@ use Rattle.why.specs.Entry.{Told, end_told, chain_told, told_in, told, Leaves, t
 use Rattle.why.proofs.Walks.{length_lines}
 
 -- the same answer under another name
-pub leaves_as : (x y : Judged Told) (r : Answer) (a b : List ℕ) → x ≡ y → Leaves x r a b → Leaves y r a b
+pub leaves_as : (x y : Judged Told) (r : Result Sizes Refusal) (a b : List ℕ) → x ≡ y → Leaves x r a b → Leaves y r a b
 leaves_as x y r a b e h = subst (λ (z : Judged Told). Leaves z r a b) e h
 
 -- ---- an end form to which n rewrites led, and which has k lines
@@ -49,15 +49,15 @@ module _ (asked : Settings) (end : Program) (n count : ℕ) (room : List ℕ) (k
   unfolding told_in end_told require
   is_whole h = rw (le-leb (length (why_lines (whys asked end))) (length room) (omega (arith, h, size)))
 
-  pub told_short : length room < 27 * k → Leaves (told_in count its (length room)) (Refused (Room count)) room room
+  pub told_short : length room < 27 * k → Leaves (told_in count its (length room)) (Err (Room count)) room room
   told_short h = leaves_as (no (Room count)) _ _ _ _ (sym (is_short h)) (record { answer = refl; room = refl })
 
   pub told_whole : (out : List ℕ) → 27 * k ≤ length room → out ≡ laid room 0 (why_lines (whys asked end))
-      → Leaves (told_in count its (length room)) (Done (record { listing = 27 * k; rewrites = n; image = 0 })) room out
+      → Leaves (told_in count its (length room)) (Ok (record { listing = 27 * k; rewrites = n; image = 0 })) room out
   unfolding end_told
   told_whole out h o =
       leaves_as (ok its) _ _ _ _ (sym (is_whole h))
-      (record { answer = ap (λ (a : ℕ). Done (record { listing = a; rewrites = n; image = 0 })) (sym size); room = o ∙ laid_front room (why_lines (whys asked end)) })
+      (record { answer = ap (λ (a : ℕ). Ok (record { listing = a; rewrites = n; image = 0 })) (sym size); room = o ∙ laid_front room (why_lines (whys asked end)) })
 
 -- ---- what the rewriting left
 pub told_from_lem : (asked : Settings) (t u : Slots) (n : ℕ) → Optimized asked t u n → end_told asked (program_of u) n ≡ told_from asked (program_of t)
@@ -82,9 +82,9 @@ module _ (asked : Settings) (text : List ℕ) (room : ℕ) where
       ∙ ap (λ (fuel : ℕ). told_in (length p) (chain_told asked (chain asked fuel (anchor p))) room) (instr_bytes_anchor p)
       ∙ sym (told_ok p d)
 
-pub told_refused : (asked : Settings) (text room : List ℕ) (q : Refusal) → accepted text ≡ no q → Leaves (told asked text (length room)) (Refused q) room room
+pub told_refused : (asked : Settings) (text room : List ℕ) (q : Refusal) → accepted text ≡ no q → Leaves (told asked text (length room)) (Err q) room room
 told_refused asked text room q e = leaves_as (no q) _ _ _ _ (sym (told_no asked text (length room) q e)) (record { answer = refl; room = refl })
 
 -- "Show that any two results allowed by the contract coincide": `why`
-pub one_why : (x : Judged Told) (room : List ℕ) (r s : Answer) (a b : List ℕ) → Leaves x r room a → Leaves x s room b → (r ≡ s) × (a ≡ b)
+pub one_why : (x : Judged Told) (room : List ℕ) (r s : Result Sizes Refusal) (a b : List ℕ) → Leaves x r room a → Leaves x s room b → (r ≡ s) × (a ≡ b)
 one_why x room r s a b h k = (h.answer ∙ sym k.answer, h.room ∙ sym k.room)

@@ -6,6 +6,7 @@ use Prim.Native.Nat.{ℕ, zero, suc, ◌+◌, ◌*◌, ◌/◌, ◌%◌, ◌≤�
 use native.Mathlib.Numerals.{add-one}
 use native.Mathlib.Omega.{arith}
 use lib.ListN.{length, length-append}
+use Rattle.std.specs.Prelude.{Option as AnOption}
 use Rattle.laws.specs.Lists.{each}
 use Rattle.laws.specs.Counts.{tab}
 use Rattle.laws.proofs.Lists.{each_append, each_one}
@@ -14,7 +15,6 @@ use Rattle.rules.specs.declared.Settings.{Settings}
 use Rattle.rules.specs.Programs.{Program}
 use Rattle.digits.specs.Digits.{laid}
 use Rattle.digits.proofs.Rooms.{length_laid, laid_more, laid_nothing, length_line}
-use Rattle.staying.specs.declared.Attempted.{Attempted}
 use Rattle.staying.specs.declared.Reason.{Reason}
 use Rattle.staying.specs.Reasons.{attempt_at, Why, why_of, reason_in, whys_in, whys}
 use Rattle.rules.specs.Expressions.{pair}
@@ -70,7 +70,7 @@ module _ (asked : Settings) (p : Program) where
   tried_line m none = refl
   tried_line m (some r) = each_one why_line (why_at m r)
 
-  module _ (m : ℕ) (r : Attempted) (e : r ≡ attempted_as (reason_in asked p m)) where
+  module _ (m : ℕ) (r : AnOption Reason) (e : r ≡ attempted_as (reason_in asked p m)) where
     here : length (whys_in asked p m) ≡ tried_count r
     unfolding whys_in
     here = tried_one m (reason_in asked p m) ∙ sym (ap tried_count e)

@@ -1,8 +1,8 @@
 -- What `why` answers to a listing and a room, and what it leaves in it.
-use Rattle.std.specs.Prelude.{◌≡◌, List, ℕ, leb, length}
+use Rattle.rules.specs.declared.Refusal.{Refusal}
+use Rattle.rules.specs.declared.Sizes.{Sizes}
+use Rattle.std.specs.Prelude.{◌≡◌, List, ℕ, leb, length, Err, Result, Ok}
 use Rattle.laws.specs.Lists.{total}
-use Rattle.rules.specs.declared.Answer.{Answer}
-use Rattle.rules.specs.declared.Answer.TheVariants.{Done, Refused}
 use Rattle.rules.specs.declared.Settings.{Settings}
 use Rattle.rules.specs.declared.Refusal.TheVariants.{Room}
 use Rattle.rules.specs.Answers.{Judged, ok, no, ◌>>=◌, require}
@@ -34,16 +34,16 @@ told asked text room = do
   p ← accepted text
   told_in (length p) (chain_told asked (optimized asked p)) room
 
-abbrev pub answer_as : Judged Told → Answer
-answer_as (ok x) = Done (record { listing = length (why_lines x.whys); rewrites = x.rewrites; image = 0 })
-answer_as (no r) = Refused r
+abbrev pub answer_as : Judged Told → Result Sizes Refusal
+answer_as (ok x) = Ok (record { listing = length (why_lines x.whys); rewrites = x.rewrites; image = 0 })
+answer_as (no r) = Err r
 
 -- "No lent byte changes" on refusal; "On acceptance, room beyond the result is unchanged."
 abbrev pub room_as : Judged Told → (room : List ℕ) → List ℕ
 room_as (ok x) room = front (why_lines x.whys) room
 room_as (no r) room = room
 
-pub record Leaves (x : Judged Told) (r : Answer) (before after : List ℕ) : Type 0 where
+pub record Leaves (x : Judged Told) (r : Result Sizes Refusal) (before after : List ℕ) : Type 0 where
   pub answer : r ≡ answer_as x
   pub room : after ≡ room_as x before
 

@@ -8,7 +8,7 @@ ghost use Rattle.attempts.specs.Standing.{Standing};
 ghost use Rattle.attempts.specs.Folds.{inverted, bounced, Inverts, Bounces};
 ghost use Rattle.staying.specs.Reasons.{reason_of};
 
-use asm::{Verdict, judge_linked};
+use asm::judge_linked;
 use attempts::{put_three, put_two};
 use patterns::labels::offsets_fit;
 use rules::Place;
@@ -24,9 +24,8 @@ fn reason_of(frames: &[u8], state: &State, count: usize, links: &[u16; 28672]) -
 {
     let mut positions = [0u32; 1025];
     let mut values = [0i64; 1024];
-    match judge_linked(frames, state, count, links, &mut positions, &mut values) {
-        Verdict::Refused(r) => return Reason::Refused(r),
-        Verdict::Good => {}
+    if let Err(r) = judge_linked(frames, state, count, links, &mut positions, &mut values) {
+        return Reason::Refused(r);
     }
     if offsets_fit(frames, state, count, &positions) {
         return Reason::Counts;

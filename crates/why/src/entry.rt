@@ -11,9 +11,9 @@ ghost use Rattle.why.specs.Entry.{told, told_in, told_from, end_told, Leaves};
 use crate::telling::{count_whys, write_whys};
 use asm::lay_and_define;
 use optimize::optimize;
-use rules::{Answer, Refusal, Settings, Sizes};
-use slots::{Checked, State};
-use starting::{Begun, begin};
+use rules::{Refusal, Settings, Sizes};
+use slots::State;
+use starting::begin;
 
 // What stands in the way at an end form to which so many rewrites led. `positions` and `values` are those of its slots.
 fn tell(
@@ -26,7 +26,7 @@ fn tell(
     positions: &[u32; 1025],
     rewrites: usize,
     out: &mut [u8],
-) -> Answer
+) -> Result<Sizes, Refusal>
     requires { let d : Tables = tables_of frames.now state.now count links.now values.now positions.now in
         Standing d.slots × Ready d × Beside frames.now (starts_in state.now) count links.now }
     ensures { let t : Slots = table_of frames.now state.now count in
@@ -35,10 +35,10 @@ fn tell(
 {
     let n = count_whys(asked, frames, state, count, links, values, positions);
     if out.len() / 27 < n {
-        return Answer::Refused(Refusal::Room(count));
+        return Err(Refusal::Room(count));
     }
     write_whys(asked, frames, state, count, links, values, positions, out);
-    Answer::Done(Sizes {
+    Ok(Sizes {
         listing: 27 * n,
         rewrites,
         image: 0,
@@ -54,7 +54,7 @@ fn tell_end(
     links: &[u16; 28672],
     rewrites: usize,
     out: &mut [u8],
-) -> Answer
+) -> Result<Sizes, Refusal>
     requires { let t : Slots = table_of frames.now state.now count in
         Standing t × (assembles (program_of t) ≡ true) × Beside frames.now (starts_in state.now) count links.now }
     ensures { let t : Slots = table_of frames.now state.now count in
@@ -63,12 +63,10 @@ fn tell_end(
 {
     let mut positions = [0u32; 1025];
     let mut values = [0i64; 1024];
-    match lay_and_define(frames, state, count, links, &mut positions, &mut values) {
-        Checked::Refused(r) => Answer::Refused(r),
-        Checked::Passes => tell(
-            asked, frames, state, count, links, &values, &positions, rewrites, out,
-        ),
-    }
+    lay_and_define(frames, state, count, links, &mut positions, &mut values)?;
+    tell(
+        asked, frames, state, count, links, &values, &positions, rewrites, out,
+    )
 }
 
 // Rewrites an anchored program to its end form, and tells.
@@ -79,7 +77,7 @@ fn rewrite_and_tell(
     count: usize,
     links: &[u16; 28672],
     out: &mut [u8],
-) -> Answer
+) -> Result<Sizes, Refusal>
     requires { let t : Slots = table_of frames.now state.old count in
         Standing t × (assembles (program_of t) ≡ true) × Beside frames.now (starts_in state.old) count links.now }
     ensures { let t : Slots = table_of frames.now state.old count in
@@ -91,14 +89,12 @@ fn rewrite_and_tell(
 }
 
 // What stands in the way of each rewrite that is left, one line each. On refusal no lent byte changes.
-pub fn why(asked: Settings, listing: &[u8], out: &mut [u8]) -> Answer
+pub fn why(asked: Settings, listing: &[u8], out: &mut [u8]) -> Result<Sizes, Refusal>
     ensures { Leaves (told asked listing.now (length out.old)) result out.old out.new }
 {
     let mut frames = [0u8; 28672];
     let mut state = [[0u16; 1025]; 8];
     let mut links = [0u16; 28672];
-    match begin(listing, &mut frames, &mut state, &mut links) {
-        Begun::Refused(r) => Answer::Refused(r),
-        Begun::Read(count) => rewrite_and_tell(asked, &frames, &mut state, count, &links, out),
-    }
+    let count = begin(listing, &mut frames, &mut state, &mut links)?;
+    rewrite_and_tell(asked, &frames, &mut state, count, &links, out)
 }

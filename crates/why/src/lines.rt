@@ -7,23 +7,11 @@ ghost use Rattle.staying.specs.Reasons.{attempt_at};
 ghost use Rattle.staying.specs.Lines.{attempt_byte, reason_byte, fault_in, why_line};
 ghost use Rattle.why.specs.Tried.{tried_count, tried_lines, why_at};
 
-use digits::put_line;
+use digits::{low_byte, put_line};
 use fault::{Fault, fault_of};
 use instruction::tables::{BR, CALL, JMP};
 use output::bits;
-use staying::{Attempted, Reason};
-
-fn low_byte(x: usize) -> u8
-    ensures { result ≡ x % 256 }
-{
-    (x % 256) as u8
-}
-
-fn low_bits(x: u32) -> u8
-    ensures { result ≡ x % 256 }
-{
-    (x % 256) as u8
-}
+use staying::Reason;
 
 // A form's number; 80 and up a pattern by its place in rule 3's order.
 fn attempt_byte(k: usize) -> u8
@@ -77,7 +65,7 @@ fn put_why(out: &mut [u8], at: usize, m: usize, reason: Reason)
 {
     let i = m / 26;
     let f = fault_in(reason);
-    let n = bits(f.amount);
+    let [n3, n2, n1, n0] = bits(f.amount).to_be_bytes();
     let bytes = [
         0x75,
         attempt_byte(m % 26),
@@ -88,22 +76,22 @@ fn put_why(out: &mut [u8], at: usize, m: usize, reason: Reason)
         low_byte(f.place / 256),
         low_byte(f.place),
         low_byte(f.argument),
-        low_bits(n / 16777216),
-        low_bits(n / 65536),
-        low_bits(n / 256),
-        low_bits(n),
+        n3,
+        n2,
+        n1,
+        n0,
     ];
     put_line(out, at, &bytes);
 }
 
 // The line of try m behind n others, if it has one; how many there are then.
-pub fn put_tried(out: &mut [u8], n: usize, m: usize, tried: Attempted) -> usize
+pub fn put_tried(out: &mut [u8], n: usize, m: usize, tried: Option<Reason>) -> usize
     requires { (27 * n + 27 * tried_count tried ≤ length out.old) × (m / 26 < 65536) × (n < 65536) }
     ensures { (result ≡ n + tried_count tried) × (out.new ≡ laid out.old (27 * n) (tried_lines m tried)) }
 {
     match tried {
-        Attempted::Untried => n,
-        Attempted::Stays(reason) => {
+        None => n,
+        Some(reason) => {
             put_why(out, 27 * n, m, reason);
             n + 1
         }

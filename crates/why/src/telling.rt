@@ -14,13 +14,13 @@ use crate::lines::put_tried;
 use crate::tries::attempted;
 use rules::Settings;
 use slots::State;
-use staying::Attempted;
+use staying::Reason;
 
 // One line, or none.
-fn is_tried(tried: Attempted) -> usize
+fn is_tried(tried: Option<Reason>) -> usize
     ensures { (result ≡ tried_count tried) × (result ≤ 1) }
 {
-    usize::from(matches!(tried, Attempted::Stays(_)))
+    usize::from(tried.is_some())
 }
 
 // How many attempts have a reason.

@@ -15,14 +15,14 @@ ghost use Rattle.why.specs.Tried.{attempted_as, fold_at, shrink_at};
 use crate::candidates::{bounced_reason, form_reason, inverted_reason};
 use anchors::is_change_jump;
 use instruction::tables::{BR, CALL, CALLF, JMP, JMPF};
+use patterns::Pattern;
 use patterns::labels::{no_inner_label_between, no_interior_label_at};
 use patterns::list::pattern;
 use patterns::shapes::{inverted_shape, trampoline_shape};
 use patterns::targets::branch_at;
-use patterns::{Inverted, Pattern, Trampoline};
 use rules::{Place, Settings};
 use slots::State;
-use staying::{Attempted, Reason};
+use staying::Reason;
 
 // "Inverted: branch, unconditional, local label that the branch names bare."
 fn try_inverted(
@@ -33,23 +33,21 @@ fn try_inverted(
     from: u8,
     to: u8,
     at: Place,
-) -> Attempted
+) -> Option<Reason>
     requires { let t : Slots = table_of frames.now state.now count in
         Standing t × (at.0 < count) × (is_transfer from ≡ true) × Agree to from
         × Beside frames.now (starts_in state.now) count links.now }
     ensures { let t : Slots = table_of frames.now state.now count in
         result ≡ attempted_as (fold_at (program_of t) (inverted from to) at.0) }
 {
-    let Inverted::At(jump, m) = inverted_shape(frames, state, count, links, from, at) else {
-        return Attempted::Untried;
-    };
+    let (jump, m) = inverted_shape(frames, state, count, links, from, at)?;
     if !no_inner_label_between(frames, state, count, at, m) {
-        return Attempted::Stays(Reason::Between);
+        return Some(Reason::Between);
     }
     if !no_interior_label_at(frames, state, count, at) {
-        return Attempted::Stays(Reason::Inside);
+        return Some(Reason::Inside);
     }
-    Attempted::Stays(inverted_reason(frames, state, count, links, to, at, jump))
+    Some(inverted_reason(frames, state, count, links, to, at, jump))
 }
 
 // "Trampoline: branch to bare local T, unconditional to bare local S, T, unconditional, S"
@@ -60,23 +58,20 @@ fn try_trampoline(
     links: &[u16; 28672],
     form: u8,
     at: Place,
-) -> Attempted
+) -> Option<Reason>
     requires { let t : Slots = table_of frames.now state.now count in
         Standing t × (at.0 < count) × (is_transfer form ≡ true) × Beside frames.now (starts_in state.now) count links.now }
     ensures { let t : Slots = table_of frames.now state.now count in
         result ≡ attempted_as (fold_at (program_of t) (trampoline form) at.0) }
 {
-    let Trampoline::At(skip, t, last, s) = trampoline_shape(frames, state, count, links, form, at)
-    else {
-        return Attempted::Untried;
-    };
+    let (skip, t, last, s) = trampoline_shape(frames, state, count, links, form, at)?;
     if !no_inner_label_between(frames, state, count, at, s) {
-        return Attempted::Stays(Reason::Between);
+        return Some(Reason::Between);
     }
     if !no_interior_label_at(frames, state, count, at) {
-        return Attempted::Stays(Reason::Inside);
+        return Some(Reason::Inside);
     }
-    Attempted::Stays(bounced_reason(frames, state, count, links, form, at, skip, t, last))
+    Some(bounced_reason(frames, state, count, links, form, at, skip, t, last))
 }
 
 // A pattern at a place.
@@ -87,7 +82,7 @@ fn try_fold(
     links: &[u16; 28672],
     p: Pattern,
     at: Place,
-) -> Attempted
+) -> Option<Reason>
     requires { let t : Slots = table_of frames.now state.now count in
         Standing t × Known (pattern_of p) × (at.0 < count) × Beside frames.now (starts_in state.now) count links.now }
     ensures { let t : Slots = table_of frames.now state.now count in
@@ -110,7 +105,7 @@ fn try_shorter(
     form: u8,
     long: u8,
     at: Place,
-) -> Attempted
+) -> Option<Reason>
     requires { let d : Tables = tables_of frames.now state.now count links.now values.now positions.now in
         Standing d.slots × Ready d × Beside frames.now (starts_in state.now) count links.now × (at.0 < count)
         × (is_transfer long ≡ true) × Agree form long }
@@ -118,18 +113,18 @@ fn try_shorter(
         result ≡ attempted_as (shrink_at (names_of (program_of t)) (program_of t) form long at.0) }
 {
     if !branch_at(frames, state, count, long, at) {
-        return Attempted::Untried;
+        return None;
     }
     if is_change_jump(frames, state, count, links, values, positions, at) {
-        return Attempted::Stays(Reason::Change);
+        return Some(Reason::Change);
     }
     if !no_interior_label_at(frames, state, count, at) {
-        return Attempted::Stays(Reason::Inside);
+        return Some(Reason::Inside);
     }
-    Attempted::Stays(form_reason(frames, state, count, links, form, at))
+    Some(form_reason(frames, state, count, links, form, at))
 }
 
-// Try m of a program: attempt m % 26 at place m / 26. What is switched off is not tried.
+// Try m of a program: attempt m % 26 at place m / 26; why it is not done there, if it is tried. What is switched off is not tried.
 pub fn attempted(
     asked: Settings,
     frames: &[u8],
@@ -139,7 +134,7 @@ pub fn attempted(
     values: &[i64; 1024],
     positions: &[u32; 1025],
     m: usize,
-) -> Attempted
+) -> Option<Reason>
     requires { let d : Tables = tables_of frames.now state.now count links.now values.now positions.now in
         Standing d.slots × Ready d × Beside frames.now (starts_in state.now) count links.now × (m < 26 * count) }
     ensures { let t : Slots = table_of frames.now state.now count in
@@ -149,7 +144,7 @@ pub fn attempted(
     let at = Place(m / 26);
     if k < 23 {
         if !asked.folds {
-            return Attempted::Untried;
+            return None;
         }
         return try_fold(frames, state, count, links, pattern(k), at);
     }
@@ -162,7 +157,7 @@ pub fn attempted(
         );
     }
     if !asked.callf {
-        return Attempted::Untried;
+        return None;
     }
     try_shorter(
         frames, state, count, links, values, positions, CALL, CALLF, at,

@@ -6,6 +6,7 @@ use Prim.Native.Nat.{ℕ, zero, suc, ◌+◌, ◌-◌, ◌≤◌, ◌<◌}
 use native.Mathlib.Omega.{arith}
 use lib.ListN.{length, get_or, drop, take}
 use lib.Seq.{drop_at}
+use Rattle.std.specs.Prelude.{None, Some}
 use Rattle.laws.specs.Lists.{each}
 use Rattle.laws.proofs.Tests.{clash}
 use Rattle.laws.proofs.Stores.{rest_is}
@@ -16,7 +17,6 @@ use Rattle.rules.specs.Forms.{operands_at}
 use Rattle.rules.specs.Output.{operand_bytes}
 use Rattle.rules.specs.Programs.{Operand, value}
 use Rattle.expression.proofs.RoundTrip.{reads_expr}
-use Rattle.instruction.specs.declared.tables.Operand.TheVariants.{Is, Nothing}
 use Rattle.instruction.specs.Tables.{operand_in}
 use Rattle.instruction.proofs.Numbers.{few_operands}
 use Rattle.slots.specs.Slots.{is_reg}
@@ -79,17 +79,17 @@ no_kinds : (by : ℕ) (s b : List ℕ) (at : ℕ) → length b ≡ 1024 → at �
 unfolding args_text
 no_kinds by s b at z m = record { size = z; bound = m; all = λ xs rest f e. wrote_none b at z m }
 
-in_nothing : (ks : List Kind) (j : ℕ) → operand_in ks j ≡ Nothing → drop j ks ≡ []
+in_nothing : (ks : List Kind) (j : ℕ) → operand_in ks j ≡ None → drop j ks ≡ []
 in_nothing [] zero e = refl
 in_nothing [] (suc j) e = refl
 in_nothing (k ∷ ks) zero e = clash (cc)
 in_nothing (k ∷ ks) (suc j) e = in_nothing ks j e
 
-in_is : (ks : List Kind) (j : ℕ) (k : Kind) → operand_in ks j ≡ Is k → drop j ks ≡ k ∷ drop (suc j) ks
+in_is : (ks : List Kind) (j : ℕ) (k : Kind) → operand_in ks j ≡ Some k → drop j ks ≡ k ∷ drop (suc j) ks
 in_is [] j k e = clash (cc)
 in_is (l ∷ ks) zero k e = ap (λ y. y ∷ ks) (is e)
   where
-    is : {x y : Kind} → Is x ≡ Is y → x ≡ y
+    is : {x y : Kind} → Some x ≡ Some y → x ≡ y
     is e = cc
 in_is (l ∷ ks) (suc j) k e = in_is ks j k e
 
@@ -104,7 +104,7 @@ pub all_written : (form j by : ℕ) (s b : List ℕ) (at : ℕ) → length b ≡
 all_written form j by s b at z m h =
     subst (λ ks. Arguing ks by s b b at at) (sym (past (operands_at form) j (omega (arith, few_operands form)))) (no_kinds by s b at z m)
 
-pub none_left : (form j by : ℕ) (s b : List ℕ) (at : ℕ) → length b ≡ 1024 → at ≤ 1025 → operand_in (operands_at form) j ≡ Nothing
+pub none_left : (form j by : ℕ) (s b : List ℕ) (at : ℕ) → length b ≡ 1024 → at ≤ 1025 → operand_in (operands_at form) j ≡ None
     → Arguing (drop j (operands_at form)) by s b b at at
 none_left form j by s b at z m e = subst (λ ks. Arguing ks by s b b at at) (sym (in_nothing (operands_at form) j e))
     (no_kinds by s b at z m)
@@ -133,7 +133,7 @@ more_kinds {b} {a₀} {a₁} {a₂} {at} {m₀} {m₁} {t} {to} k ks by s p w r 
         wrote_then p (wrote_then y.0 (r.all xs rest (fits_tail k ks x xs f) d))
 
 pub one_more : {b a₀ a₁ a₂ : List ℕ} {at m₀ m₁ t to : ℕ} (form j : ℕ) (k : Kind) (by : ℕ) (s : List ℕ)
-    → operand_in (operands_at form) j ≡ Is k → Wrote b a₀ at (by ∷ []) m₀ → Argued k s a₀ a₁ m₀ t m₁
+    → operand_in (operands_at form) j ≡ Some k → Wrote b a₀ at (by ∷ []) m₀ → Argued k s a₀ a₁ m₀ t m₁
     → Arguing (drop (j + 1) (operands_at form)) 44 (take (length s - t) (drop t s)) a₁ a₂ m₁ to
     → Arguing (drop j (operands_at form)) by s b a₂ at to
 one_more {b} {a₀} {a₁} {a₂} {at} {m₀} {m₁} {t} {to} form j k by s e p w r =

@@ -9,7 +9,7 @@ ghost use Rattle.text.specs.Text.{line_text};
 ghost use Rattle.wording.specs.Writing.{Registered, Argued, Arguing, Written};
 
 use crate::words::put_mnemonic;
-use instruction::tables::{Operand, operand_kind};
+use instruction::tables::operand_kind;
 use rules::Kind;
 use terms::{Went, put, term};
 
@@ -52,16 +52,14 @@ fn arguments(s: &[u8], form: u8, j: usize, out: &mut [u8; 1024], at: usize, by: 
     if j > 2 {
         return at;
     }
-    match operand_kind(form, j) {
-        Operand::Is(k) => {
-            let a = put(out, at, by);
-            let x = argument(s, k, out, a);
-            let n = x.taken;
-            let b = x.to;
-            arguments(&s[n..], form, j + 1, out, b, b',')
-        }
-        Operand::Nothing => at,
-    }
+    let Some(k) = operand_kind(form, j) else {
+        return at;
+    };
+    let a = put(out, at, by);
+    let x = argument(s, k, out, a);
+    let n = x.taken;
+    let b = x.to;
+    arguments(&s[n..], form, j + 1, out, b, b',')
 }
 
 // The line of an instruction.

@@ -8,6 +8,7 @@ ghost use Rattle.terms.specs.Writing.{Wrote};
 ghost use Rattle.wording.specs.Writing.{Itemed, Written, DataWritten};
 
 use crate::words::put_dot_word;
+use digits::hex_digit;
 use terms::{digits, put, put_name, term};
 
 // So many items of data, `by` before the first and a comma before each other.
@@ -85,13 +86,6 @@ pub fn pad_line(frame: &[u8], out: &mut [u8; 1024]) -> usize
     let c = digits(out, b, add);
     let d = put(out, c, b',');
     digits(out, d, m)
-}
-
-fn hex_digit(d: u8) -> u8
-    requires { d < 16 }
-    ensures { result ≡ hex_digit d }
-{
-    if d < 10 { b'0' + d } else { b'A' + (d - 10) }
 }
 
 // Bytes as upper-case digit pairs.

@@ -29,9 +29,9 @@ judge_linked-requires c =
           (contexts_read c.args.frames.now (starts_in z) c.args.count) c.requires.0.context,
     )
 
-pub returns-in-Refused : goal.returns-in-Refused
-returns-in-Refused c =
-    not_refused _ _ _ c.in-Refused.is c.judge_linked.ensures c.requires.1
+pub returns-in_err-judge_linked : goal.returns-in_err-judge_linked
+returns-in_err-judge_linked c =
+    not_refused _ _ _ c.in_err-judge_linked.was c.judge_linked.ensures c.requires.1
 
 pub overflow_mul-count_stems : goal.overflow_mul-count_stems
 overflow_mul-count_stems c =
@@ -43,7 +43,7 @@ returns-then-out-listing_size c =
     let a = c.args in
     let z = a.state.now in
     let t : Tables = tables_of a.frames.now z a.count a.links.now c.judge_linked.new.values c.judge_linked.new.positions in
-    let good : Assembled t = assembled_by _ _ c.in-Good.is c.judge_linked.ensures in
+    let good : Assembled t = assembled_by _ _ c.in_ok-judge_linked.was c.judge_linked.ensures in
     let beside = beside_in a.wanted.marked a.lines.now a.count in
     let o = result_of beside (program t) a.rewrites in
     let text = c.text_length-listing_size.ensures beside.lines (offsets_in z) good.ready.sound ∙ ap length (listing_result beside t.slots a.rewrites) in
@@ -64,7 +64,7 @@ write_image-requires c =
     let a = c.args in
     let z = a.state.now in
     let t : Tables = tables_of a.frames.now z a.count a.links.now c.judge_linked.new.values c.judge_linked.new.positions in
-    let good : Assembled t = assembled_by _ _ c.in-Good.is c.judge_linked.ensures in
+    let good : Assembled t = assembled_by _ _ c.in_ok-judge_linked.was c.judge_linked.ensures in
     let beside = beside_in a.wanted.marked a.lines.now a.count in
     let counted = c.image_length-image_size.ensures (carry_in z) (owners_in z) (offsets_in z) _ _ good.ready (assembled_encodes t good)
     ∙ ap length (image_result t good beside a.rewrites) in (
@@ -78,7 +78,7 @@ returns c =
     let a = c.args in
     let z = a.state.now in
     let t : Tables = tables_of a.frames.now z a.count a.links.now c.judge_linked.new.values c.judge_linked.new.positions in
-    let good : Assembled t = assembled_by _ _ c.in-Good.is c.judge_linked.ensures in
+    let good : Assembled t = assembled_by _ _ c.in_ok-judge_linked.was c.judge_linked.ensures in
     let beside = beside_in a.wanted.marked a.lines.now a.count in
     let text = c.text_length-listing_size.ensures beside.lines (offsets_in z) good.ready.sound ∙ ap length (listing_result beside t.slots a.rewrites) in
     let counted = c.image_length-image_size.ensures (carry_in z) (owners_in z) (offsets_in z) _ _ good.ready (assembled_encodes t good)

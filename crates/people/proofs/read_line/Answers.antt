@@ -1,5 +1,5 @@
 use mathlib.Core.Path.{subst}
-use Rattle.laying.specs.declared.Told.TheVariants.{Wrong}
+use Rattle.std.specs.Prelude.{Err}
 use Rattle.openings.specs.Fronting.{Begins}
 use Rattle.people.proofs.Rows.{global_spoken, local_spoken, none_spoken}
 use Rattle.people.proofs.Answers.{answers}
@@ -36,4 +36,4 @@ returns-in-Nothing c =
     let a = c.args in
     let s = a.s.now in
     let y = subst (λ r. Begins s r) c.in-Nothing.is c.begin.ensures in
-    answers s a.out.now (Wrong c.in-Nothing.c) (none_spoken s a.out.now c.in-Nothing.c y)
+    answers s a.out.now (Err c.in-Nothing.c) (none_spoken s a.out.now c.in-Nothing.c y)

@@ -31,7 +31,7 @@ module _ (e : goal.After-anchor) where
   tables = tables_of e.args.frames.now state e.args.count e.judge.new.links e.judge.new.values e.judge.new.positions
 
   good : Assembled tables
-  good = assembled_by _ _ e.in-Good.is e.judge.ensures.judged_as
+  good = assembled_by _ _ e.in_ok-judge.was e.judge.ensures.judged_as
 
   placed : Any e.args.frames.now (starts_in state) e.args.count (forms_in state) (λ t. InPlace t)
   placed =
@@ -57,12 +57,12 @@ module _ (a : goal.After-anchor) where
   beside : Beside a.args.frames.now (starts_in anchored) a.args.count a.judge.new.links
   beside =
       subst (λ (z : List ℕ). Beside a.args.frames.now z a.args.count a.judge.new.links)
-      (sym a.anchor.ensures.1.starts) (a.judge.ensures.beside a.in-Good.is)
+      (sym a.anchor.ensures.1.starts) (a.judge.ensures.beside a.in_ok-judge.was)
 
 pub returns : goal.returns
 returns a = (
   record {
-    answer = sym a.in-Good.is ∙ a.judge.ensures.judged_as.answer;
+    answer = sym a.in_ok-judge.was ∙ a.judge.ensures.judged_as.answer;
     starts = λ z. record { anchored = a.anchor.ensures.0.program; stands = (stands a).0; good = (stands a).1; beside = beside a };
   },
   a.anchor.ensures.1.starts,

@@ -4,8 +4,9 @@ use mathlib.Core.List.{List}
 use Prim.Native.Nat.{ℕ, ◌<◌}
 use native.Mathlib.Omega.{arith}
 use lib.ListN.{get_or}
+use Rattle.rules.specs.declared.Unvalued.{Unvalued}
+use Rattle.std.specs.Prelude.{ℤ, Result}
 use Rattle.laws.proofs.Tests.{cond_true, cond_false}
-use Rattle.rules.specs.declared.Outcome.{Outcome}
 use Rattle.rules.specs.Expressions.{Expr, read_expr, got}
 use Rattle.rules.specs.Programs.{Operand, value, args_of, last_of}
 use Rattle.rules.specs.Names.{Key, Entry, key_of, lookup}
@@ -42,7 +43,7 @@ module _ (s : goal.Then-holds_label) where
   context = get_or s.args.contexts.now s.args.at.0 0
 
   -- what the contract says of an operand
-  abbrev answer : List Entry → Operand → Outcome
+  abbrev answer : List Entry → Operand → Result ℤ Unvalued
   answer names = constant_value names moving context
 
 module _ (s : goal.After-linked_worth) where
@@ -53,7 +54,7 @@ module _ (s : goal.After-linked_worth) where
   context_2 = get_or s.args.contexts.now s.args.at.0 0
 
   -- what the contract says of an operand
-  abbrev answer_2 : List Entry → Operand → Outcome
+  abbrev answer_2 : List Entry → Operand → Result ℤ Unvalued
   answer_2 names = constant_value names moving_2 context_2
 
 inside : (s : goal.After-target_links-beside) → s.args.at.0 < 1024

@@ -1,13 +1,18 @@
 -- `asm::candidates::encodes_all` meets its contract: where the hint does not encode, the whole does not.
-use mathlib.Core.Path.{sym, ◌∙◌}
-use Rattle.image.proofs.Passes.{slot_fails, passes_is, refused_is}
+use mathlib.Core.Path.{◌≡◌, refl, sym, ap, ◌∙◌}
+use Rattle.std.specs.Prelude.{is_ok as is_Ok}
+use Rattle.rules.specs.Answers.{Judged, ok, no, is_ok}
+use Rattle.image.specs.Encoding.{checked_as}
+use Rattle.image.proofs.Passes.{slot_fails}
 use Rattle.asm.proofs.candidates.encodes_all.Goals as goal
 
-pub returns-in-Passes : goal.returns-in-Passes
-returns-in-Passes c = passes_is _ (cc)
+passes : {A : Type 0} (x : Judged A) → is_Ok (checked_as x) ≡ is_ok x
+unfolding is_ok
+passes (ok a) = refl
+passes (no r) = refl
 
-pub returns-in_default : goal.returns-in_default
-returns-in_default c = refused_is _ c.in_default.field-0 (sym c.in_default.is ∙ c.encode_all.ensures)
+pub returns-then-encodes_at : goal.returns-then-encodes_at
+returns-then-encodes_at c = c.is_ok.ensures.value ∙ ap is_Ok c.encode_all.ensures ∙ passes _
 
 pub returns-else-encodes_at : goal.returns-else-encodes_at
 returns-else-encodes_at c =

@@ -19,13 +19,13 @@ module _ (s : goal.After-attempt_inverted) where
 -- the pattern that is found
 module _ (c : goal.After-attempt_inverted) where
   abbrev jump : ℕ
-  jump = c.in-At.jump.0
+  jump = c.in-Some.jump.0
 
   abbrev label : ℕ
-  label = c.in-At.field-1.0
+  label = c.in-Some.field-0-1.0
 
   found : InvertedFound (old c) c.args.from (i c) jump label
-  found = inverted_found (old c) c.args.from (i c) c.in-At.is c.inverted_at.ensures
+  found = inverted_found (old c) c.args.from (i c) c.in-Some.is c.inverted_at.ensures
 
 pub returns : goal.returns
 returns c =

@@ -19,19 +19,19 @@ module _ (s : goal.After-attempt_trampoline) where
 -- the pattern that is found
 module _ (c : goal.After-attempt_trampoline) where
   abbrev skip : ℕ
-  skip = c.in-At.skip.0
+  skip = c.in-Some.skip.0
 
   abbrev target : ℕ
-  target = c.in-At.target.0
+  target = c.in-Some.target.0
 
   abbrev last : ℕ
-  last = c.in-At.last.0
+  last = c.in-Some.last.0
 
   abbrev label : ℕ
-  label = c.in-At.field-3.0
+  label = c.in-Some.field-0-3.0
 
   found : TrampolineFound (old c) c.args.form (i c) skip target last label
-  found = trampoline_found (old c) c.args.form (i c) c.in-At.is c.trampoline_at.ensures
+  found = trampoline_found (old c) c.args.form (i c) c.in-Some.is c.trampoline_at.ensures
 
 pub returns : goal.returns
 returns c =

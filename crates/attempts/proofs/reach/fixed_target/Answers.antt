@@ -3,7 +3,8 @@ use mathlib.Core.Path.{◌≡◌, sym, ap, ◌∙◌}
 use mathlib.Core.List.{List, []}
 use Prim.Native.Nat.{ℕ}
 use native.Mathlib.Omega.{arith}
-use Rattle.rules.specs.declared.Outcome.TheVariants.{Is, Unknown}
+use Rattle.std.specs.Prelude.{Err, Ok}
+use Rattle.rules.specs.declared.Unvalued.TheVariants.{Unknown}
 use Rattle.rules.specs.Expressions.{read_expr, eval_tree}
 use Rattle.rules.specs.Names.{key_of, lookup}
 use Rattle.rules.specs.Judging.{worth_of}
@@ -64,8 +65,8 @@ linked_worth-requires c =
 pub returns : goal.returns
 returns c z e forms carry offsets names p k =
     let r = target_reads _ _ _ c.requires.0 c.args.c.0 (aims_3 c) in
-    let known : eval_tree (λ n. Unknown) r.0 ≡ Is z =
-    sym (c.linked_worth.ensures (λ n. Unknown) (none_linked _ _ _) r.0 r.1.width (ap read_expr c.target_in.ensures ∙ r.1.reads)) ∙ e in
+    let known : eval_tree (λ n. (Err Unknown)) r.0 ≡ Ok z =
+    sym (c.linked_worth.ensures (λ n. (Err Unknown)) (none_linked _ _ _) r.0 r.1.width (ap read_expr c.target_in.ensures ∙ r.1.reads)) ∙ e in
     ap (worth_of names p k) (target_written (over_3 c forms carry offsets) c.args.c.0
     (omega (arith, c.owner_at.ensures, c.if-owner_at-lt-NO_OWNER.false)) ∙ r.2)
     ∙ tree_fixed (λ n. lookup names (key_of k n)) r.0 z known

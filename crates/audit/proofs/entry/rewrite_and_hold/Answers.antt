@@ -1,5 +1,6 @@
 -- `audit::entry::rewrite_and_hold` meets its contract.
 use mathlib.Core.Path.{ap, ◌∙◌}
+use Rattle.std.specs.Prelude.{Ok}
 use Rattle.slots.specs.Slots.{Slots}
 use Rattle.slots.specs.State.{table_of}
 use Rattle.audit.specs.Held.{finding_as}
@@ -11,4 +12,4 @@ here c = table_of c.args.frames.now c.args.state.now c.args.count
 
 pub returns : goal.returns
 returns c =
-    c.hold_end.ensures ∙ ap finding_as (end_finding_lem c.args.asked (here c) _ _ c.args.shipped.now c.optimize.ensures)
+    c.hold_end.ensures ∙ ap (λ f. Ok (finding_as f)) (end_finding_lem c.args.asked (here c) _ _ c.args.shipped.now c.optimize.ensures)

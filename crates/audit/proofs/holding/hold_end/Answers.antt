@@ -3,6 +3,7 @@ use mathlib.Core.Path.{ap, ◌∙◌}
 use mathlib.Core.List.{List}
 use Prim.Native.Nat.{ℕ}
 use borrow.Author.Rules.{rules}
+use Rattle.std.specs.Prelude.{Ok}
 use Rattle.rules.specs.Layout.{origin_from}
 use Rattle.slots.specs.Slots.{program_of}
 use Rattle.slots.specs.State.{starts_in, forms_in, carry_in, owners_in, offsets_in, table_of}
@@ -27,12 +28,12 @@ judge_linked-requires c = (
       (contexts_read c.args.frames.now (starts_in c.args.state.now) c.args.count) c.requires.0.context,
 )
 
-pub returns-in-Refused : goal.returns-in-Refused
-returns-in-Refused c = not_refused _ _ _ c.in-Refused.is c.judge_linked.ensures c.requires.1
+pub returns-in_err-judge_linked : goal.returns-in_err-judge_linked
+returns-in_err-judge_linked c = not_refused _ _ _ c.in_err-judge_linked.was c.judge_linked.ensures c.requires.1
 
-pub returns-in-Good : goal.returns-in-Good
-returns-in-Good c =
+pub returns : goal.returns
+returns c =
     let p = program_of (table_of c.args.frames.now c.args.state.now c.args.count) in
-    c.hold_judged.ensures
-    ∙ ap (λ (l : List ℕ). finding_as (held (origin_from 0 0 p) l c.args.shipped.now))
-    (end_image_lem _ (assembled_by _ _ c.in-Good.is c.judge_linked.ensures))
+    ap Ok c.hold_judged.ensures
+    ∙ ap (λ (l : List ℕ). Ok (finding_as (held (origin_from 0 0 p) l c.args.shipped.now)))
+    (end_image_lem _ (assembled_by _ _ c.in_ok-judge_linked.was c.judge_linked.ensures))

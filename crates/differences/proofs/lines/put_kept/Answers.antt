@@ -12,6 +12,6 @@ use Rattle.differences.proofs.lines.put_kept.Goals as goal
 pub returns : goal.returns
 returns c =
     let a = c.args in
-    let h = two_head 0x70 c.high.result c.low.result c.high-2.result c.low-2.result a.i a.j (unhex a.line.now) c.high.ensures c.low.ensures
-    c.high-2.ensures c.low-2.ensures in
+    let h = two_head 0x70 c.high.result c.low_byte.result c.high-2.result c.low_byte-2.result a.i a.j (unhex a.line.now) c.high.ensures c.low_byte.ensures
+    c.high-2.ensures c.low_byte-2.ensures in
     (c.put_headed.ensures.0 ∙ ap (λ (f : List ℕ). laid a.out.now a.at (line_of f)) h, omega (arith, c.put_headed.ensures.1))

@@ -12,5 +12,5 @@ use Rattle.differences.proofs.lines.put_one.Goals as goal
 pub returns : goal.returns
 returns c =
     let a = c.args in
-    let h = one_head a.kind c.high.result c.low.result a.i (unhex a.line.now) c.high.ensures c.low.ensures in
+    let h = one_head a.kind c.high.result c.low_byte.result a.i (unhex a.line.now) c.high.ensures c.low_byte.ensures in
     (c.put_headed.ensures.0 ∙ ap (λ (f : List ℕ). laid a.out.now a.at (line_of f)) h, omega (arith, c.put_headed.ensures.1))

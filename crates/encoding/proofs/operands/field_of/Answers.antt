@@ -3,23 +3,23 @@ use mathlib.Core.Path.{◌≡◌, ◌∙◌, sym, ap}
 use Prim.Native.Nat.{ℕ}
 use lib.IntN.{ℤ}
 use mir.Facts.{to_z-of_z}
+use Rattle.rules.specs.declared.Refusal.{Refusal}
+use Rattle.std.specs.Prelude.{Result, Ok}
 use Rattle.rules.specs.declared.Kind.{Kind}
 use Rattle.rules.specs.Encoding.{field}
-use Rattle.encoding.specs.declared.operands.Field.{Field}
-use Rattle.encoding.specs.declared.operands.Field.TheVariants.{Is}
 use Rattle.encoding.specs.Operands.{field_as, ranged, held}
 use Rattle.encoding.proofs.operands.field_of.Goals as goal
 
-abbrev right : ℕ → ℕ → ℕ → Kind → ℤ → Field
+abbrev right : ℕ → ℕ → ℕ → Kind → ℤ → Result ℕ Refusal
 right i j n k v = field_as (field i j n k (held k v))
 
 -- What an arm wrote for its kind and for the value as it was passed on is what the kind writes for the value.
-arm : (i j n : ℕ) {l k : Kind} {v w : ℤ} {r : Field} → l ≡ k → w ≡ v → r ≡ right i j n k w → r ≡ right i j n l v
+arm : (i j n : ℕ) {l k : Kind} {v w : ℤ} {r : Result ℕ Refusal} → l ≡ k → w ≡ v → r ≡ right i j n k w → r ≡ right i j n l v
 arm i j n {k = k} {v = v} e u h = h ∙ ap (right i j n k) u ∙ sym (ap (λ (m : Kind). right i j n m v) e)
 
 pub returns-in-Reg : goal.returns-in-Reg
 unfolding field ranged
-returns-in-Reg c = arm c.args.i.0 c.args.j c.args.n.0 c.in-Reg.is (to_z-of_z c.ranges.v) (ap Is c.register.ensures)
+returns-in-Reg c = arm c.args.i.0 c.args.j c.args.n.0 c.in-Reg.is (to_z-of_z c.ranges.v) (ap Ok c.register.ensures)
 
 pub returns-in-I8 : goal.returns-in-I8
 unfolding field ranged

@@ -26,10 +26,10 @@ advance-requires c =
       omega (arith, h.held c.loop-i.i (omega arith), h.small c.loop-i.i (omega arith)),
     )
 
-pub returns-in-Refused : goal.returns-in-Refused
-returns-in-Refused c carry owners offsets =
+pub returns-in_default : goal.returns-in_default
+returns-in_default c carry owners offsets =
     position_stops _ c.loop-i.positions c.loop-i.values c.loop-i.i (c.loop-i.invariant.2 carry owners offsets) c.loop-i-test.true _ _
-    c.in-Refused.field-0 (sym (c.advance.ensures.moved carry owners offsets) ∙ c.in-Refused.is)
+    c.in_default.field-0 (sym (c.advance.ensures.moved carry owners offsets) ∙ c.in_default.is)
 
 pub value_at-requires : goal.value_at-requires
 value_at-requires c =
@@ -43,29 +43,29 @@ value_at-requires c =
           );
     }
 
-pub returns-in-Refused-value_at : goal.returns-in-Refused-value_at
-returns-in-Refused-value_at c carry owners offsets =
+pub returns-in_default-value_at : goal.returns-in_default-value_at
+returns-in_default-value_at c carry owners offsets =
     value_stops _ c.loop-i.positions c.loop-i.values c.loop-i.i (c.loop-i.invariant.2 carry owners offsets)
     c.loop-i-test.true
     (named_now _ c.requires.held.0 (λ i. (c.type_inv.frames i).fits) _ (c.requires.any carry owners offsets))
-    _ _ c.in-Refused-value_at.field-0 (sym (c.value_at.ensures carry owners offsets).0
-    ∙ c.in-Refused-value_at.is)
+    _ _ c.in_default-value_at.field-0 (sym (c.value_at.ensures carry owners offsets).0
+    ∙ c.in_default-value_at.is)
 
 pub loop-i-preserved : goal.loop-i-preserved
 loop-i-preserved c =
-    let e : at64 c.in-Is.z ≡ c.in-Is.z = search rules in
-    let low : c.in-To.next.0 ≤ 65536 = omega (arith, ap moved_to c.in-To.is, c.advance.ensures.within) in
+    let e : at64 c.in-Ok-value_at.z ≡ c.in-Ok-value_at.z = search rules in
+    let low : c.in-Ok.next.0 ≤ 65536 = omega (arith, ap moved_to c.in-Ok.is, c.advance.ensures.within) in
     let inside : c.loop-i.i < 1024 = omega (arith, c.requires.held.0.few) in (
       simp length-set c.loop-i.invariant.0,
       simp length-set c.loop-i.invariant.1,
       λ carry owners offsets. rw e
           (settled_next _ c.loop-i.positions c.loop-i.values c.loop-i.i (c.loop-i.invariant.2 carry owners offsets) c.loop-i-test.true
-          c.requires.held.0 c.in-To.next c.in-Is.z low
+          c.requires.held.0 c.in-Ok.next c.in-Ok-value_at.z low
           (omega (arith, inside, c.loop-i.invariant.0))
           (omega (arith, inside, c.loop-i.invariant.1))
-          (sym (c.advance.ensures.moved carry owners offsets) ∙ c.in-To.is)
-          (sym (c.value_at.ensures carry owners offsets).0 ∙ c.in-Is.is)
-          (rw c.in-Is.is at (c.value_at.ensures carry owners offsets).1)),
+          (sym (c.advance.ensures.moved carry owners offsets) ∙ c.in-Ok.is)
+          (sym (c.value_at.ensures carry owners offsets).0 ∙ c.in-Ok-value_at.is)
+          (rw c.in-Ok-value_at.is at (c.value_at.ensures carry owners offsets).1)),
     )
 
 pub returns : goal.returns

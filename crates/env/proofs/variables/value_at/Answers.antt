@@ -6,8 +6,9 @@ use native.Mathlib.Omega.{arith}
 use lib.ListN.{length, drop}
 use lib.IntN.{ℤ, pos}
 use borrow.Author.Rules.{rules}
+use Rattle.rules.specs.declared.Unvalued.{Unvalued}
+use Rattle.std.specs.Prelude.{Result, Ok}
 use Rattle.laws.proofs.Stores.{rest_is}
-use Rattle.rules.specs.declared.Outcome.{Outcome}
 use Rattle.rules.specs.Expressions.{read_expr}
 use Rattle.rules.specs.Judging.{value_at}
 use Rattle.rules.specs.Layout.{position}
@@ -22,7 +23,6 @@ use Rattle.slots.specs.Slots.{Slots, slots, slot_at, program_of}
 use Rattle.slots.specs.State.{starts_in, forms_in}
 use Rattle.slots.proofs.Stands.{form_stands}
 use Rattle.slots.proofs.Linking.{spans, length_beside, part_linked, part_lengths}
-use Rattle.env.specs.declared.Valued.TheVariants.{Is}
 use Rattle.env.specs.Answers.{valued_as}
 use Rattle.env.specs.Tables.{meant_at, TellsIn}
 use Rattle.env.proofs.Programs.{at_program}
@@ -35,7 +35,7 @@ use Rattle.env.proofs.variables.value_at.Goals as goal
 -- no name is defined there
 zero : (t : Slots) (contexts : List ℕ) (values : List ℤ) (i : Placeℕ) → i < t.count → (kind_of (slot_at t i) ≡ 0 → ⊥) → (kind_of (slot_at t i) ≡ 2 → ⊥)
     → (kind_of (slot_at t i) ≡ 3 → ⊥)
-    → (Is (pos 0) ≡ valued_as (meant_at (names_now t) contexts values (program_of t) i)) × TellsIn (slot_at t i) (Is (pos 0))
+    → (Ok (pos 0) ≡ valued_as (meant_at (names_now t) contexts values (program_of t) i)) × TellsIn (slot_at t i) (Ok (pos 0))
 zero t contexts values i l none label variable =
     let k = sym (ap kind_of (at_program t i l)) in (
       sym (ap valued_as (meant_other _ i _ _ (at (program_of t) i) (λ e. none (k ∙ e)) (λ e. label (k ∙ e)) (λ e. variable (k ∙ e)))),
@@ -109,7 +109,7 @@ returns-in-Label c carry owners offsets =
     let m = meant_label _ i _ (position p i) (at p i) _ (at_program t i c.requires.held.1 ∙ f) in
     let h = (c.requires.any carry owners offsets).0 in
     let is = e ∙ c.from.ensures ∙ ap pos h.held in
-    (ap Is is ∙ sym (ap valued_as m), rw is (tells_position (slot_at t i) 1 (ap kind_of f) (position p i) h.small))
+    (ap Ok is ∙ sym (ap valued_as m), rw is (tells_position (slot_at t i) 1 (ap kind_of f) (position p i) h.small))
 
 pub returns-in-Variable : goal.returns-in-Variable
 returns-in-Variable c carry owners offsets =
@@ -122,7 +122,7 @@ returns-in-Variable c carry owners offsets =
     let a = c.in-Variable.value.0 in
     let part = rest_is a c.frame_at-frame.result.now ∙ ap (drop a) c.frame_at-frame.ensures in
     let context = (c.requires.any carry owners offsets).0.context in
-    let env : ℕ → Outcome = (λ m. lookup above (key_of (context_at p j) m)) in
+    let env : ℕ → Result ℤ Unvalued = (λ m. lookup above (key_of (context_at p j) m)) in
     let whole : Linked env c.frame_at-frame.result.now c.links_at-beside.result.now c.args.values.now j =
     simp (c.frame_at-frame.ensures, c.links_at-beside.ensures, ← context)
     (above_linked t c.args.links.now c.args.values.now j c.requires.held.1 c.requires.held.2 (c.requires.any carry owners offsets).1) in

@@ -3,7 +3,8 @@ use mathlib.Core.Path.{sym, ◌∙◌}
 use Prim.Native.Nat.{ℕ, ◌+◌}
 use native.Mathlib.Omega.{arith}
 use lib.ListN.{drop}
-use Rattle.rules.specs.declared.Outcome.TheVariants.{Nothing}
+use Rattle.std.specs.Prelude.{Err}
+use Rattle.rules.specs.declared.Unvalued.TheVariants.{Nothing}
 use Rattle.rules.specs.Expressions.{with2}
 use Rattle.expression.specs.Linked.{Evaluated}
 use Rattle.expression.proofs.Links.{rest_evaluated, empty_evaluated, bad_evaluated, number_evaluated, name_evaluated, one_evaluated, two_evaluated}
@@ -32,7 +33,7 @@ both t c =
     c.eval_linked-b.ensures)
 
 pub returns-then-s-lt1 : goal.returns-then-s-lt1
-returns-then-s-lt1 t c = rw c.none.ensures (empty_evaluated _ _ _ _ (omega arith) Nothing)
+returns-then-s-lt1 t c = rw c.none.ensures (empty_evaluated _ _ _ _ (omega arith) (Err Nothing))
 
 pub returns-in-Number : goal.returns-in-Number
 returns-in-Number t c = rw c.number.ensures (number_evaluated _ _ _ _ (sym c.tag_of.ensures ∙ c.in-Number.is))
@@ -48,4 +49,4 @@ pub returns-in-Two : goal.returns-in-Two
 returns-in-Two t c = rw c.with_two-value.ensures (both t c)
 
 pub returns-in-Bad : goal.returns-in-Bad
-returns-in-Bad t c = rw c.none-in-Bad.ensures (bad_evaluated _ _ _ _ (sym c.tag_of.ensures ∙ c.in-Bad.is) Nothing)
+returns-in-Bad t c = rw c.none-in-Bad.ensures (bad_evaluated _ _ _ _ (sym c.tag_of.ensures ∙ c.in-Bad.is) (Err Nothing))

@@ -3,10 +3,10 @@ use borrow.Enum.Refused.{opened}
 use mathlib.Core.Path.{◌≡◌, sym, ap, ◌∙◌}
 use mathlib.Core.Bool.{true}
 use Prim.Native.Nat.{ℕ}
+use Rattle.std.specs.Prelude.{Ok}
 use Rattle.rules.specs.declared.Arg.{Arg}
 use Rattle.rules.specs.declared.Statement.{Statement}
 use Rattle.rules.specs.Programs.{kind_of}
-use Rattle.slots.specs.declared.Checked.TheVariants.{Passes}
 use Rattle.slots.specs.declared.Slot.TheVariants.{Holds}
 use Rattle.slots.specs.Slots.{slot_at}
 use Rattle.slots.specs.State.{starts_in, carry_in, owners_in, offsets_in}
@@ -57,7 +57,7 @@ module _ (c : goal.In-Gone) where
   stands_3 : Stands here_3.slots place_3 c.slot_at.result
   stands_3 = c.slot_at.ensures (carry_in c.args.state.now) (owners_in c.args.state.now) (offsets_in c.args.state.now)
 
-  passes_3 : plain (kind_of (slot_at here_3.slots place_3)) ≡ true → Passes ≡ checked_as (encode_at here_3 place_3)
+  passes_3 : plain (kind_of (slot_at here_3.slots place_3)) ≡ true → (Ok tt) ≡ checked_as (encode_at here_3 place_3)
   passes_3 o = sym (ap checked_as (plain_zeros here_3 place_3 o))
 
 module _ (c : goal.After-check_items) where
@@ -96,7 +96,7 @@ module _ (c : goal.In-Instr) where
   stands_6 : Stands here_6.slots place_6 c.slot_at.result
   stands_6 = c.slot_at.ensures (carry_in c.args.state.now) (owners_in c.args.state.now) (offsets_in c.args.state.now)
 
-  passes_6 : plain (kind_of (slot_at here_6.slots place_6)) ≡ true → Passes ≡ checked_as (encode_at here_6 place_6)
+  passes_6 : plain (kind_of (slot_at here_6.slots place_6)) ≡ true → (Ok tt) ≡ checked_as (encode_at here_6 place_6)
   passes_6 o = sym (ap checked_as (plain_zeros here_6 place_6 o))
 
 -- behind the links: what the statement is

@@ -6,6 +6,8 @@ use native.Mathlib.Numerals.{add-one}
 use native.Mathlib.Omega.{arith}
 use lib.ListN.{length, get_or, set, length-set}
 use lib.Seq.{get_or-set_other}
+use Rattle.std.specs.Prelude.{Ok, Err}
+use Rattle.std.proofs.lemmas.Result.{err_from_is_err_and}
 use Rattle.rules.specs.declared.Kind.TheVariants.{Reg}
 use Rattle.rules.specs.Forms.{operands_at, size_at}
 use Rattle.rules.specs.Programs.{args_of}
@@ -14,7 +16,6 @@ use Rattle.instruction.proofs.Numbers.{size_bound, few_operands}
 use Rattle.slots.specs.Slots.{slot_at}
 use Rattle.encoding.specs.Encode.{code_at}
 use Rattle.encoding.proofs.Codes.{code_of}
-use Rattle.image.specs.declared.Encoded.TheVariants.{Is}
 use Rattle.image.specs.Tables.{Tables, tables_of, program, operand_at}
 use Rattle.image.specs.Encoding.{field_of, encode_at, encoded_as}
 use Rattle.image.proofs.Operands.{slot_is, count_args}
@@ -90,25 +91,27 @@ bounds-fields-j c =
     let s = (goal.at.bounds-fields-j c).After-operand_count-j-end in
     omega (arith, operands s, few_operands (form s))
 
-pub returns-in-Refused : goal.returns-in-Refused
-returns-in-Refused c =
+pub returns-in_err-fields : goal.returns-in_err-fields
+returns-in_err-fields c =
     let l = c.loop-j in
-    let s = (goal.at.returns-in-Refused c).After-operand_count-j-end in
+    let s = (goal.at.returns-in_err-fields c).After-operand_count-j-end in
     let d = here s in
     let x = field_of d.entries (program d) (place s) (context_at (program d) (place s)) c.after-n.result.0 l.j
     (get_or (operands_at (form s)) l.j Reg) (operand_at d.slots (place s) l.j) in
-    sym
+    let p = err_from_is_err_and c.from_residual.result c.from_residual.ensures.1 in
+    rw p.1
+    (sym
     (ap encoded_as
     (l.invariant.2
-    ∙ left_no d.entries (program d) (place s) _ c.after-n.result.0 (form s) _ (same_count s) l.j l.fields c.in-Refused.r
-    (omega (arith, operands s)) (field_no x c.field_at.ensures c.in-Refused.is)))
+    ∙ left_no d.entries (program d) (place s) _ c.after-n.result.0 (form s) _ (same_count s) l.j l.fields p.0
+    (omega (arith, operands s)) (field_no x c.field_at.ensures (c.in_err-fields.was ∙ ap Err (sym p.2))))))
 
 pub loop-j-preserved : goal.loop-j-preserved
 loop-j-preserved c =
     let l = c.loop-j in
     let s = (goal.at.loop-j-preserved c).After-operand_count-j-end in
     let d = here s in
-    let v = c.in-Is.v in
+    let v = c.in_ok-fields.field-0 in
     let x = field_of d.entries (program d) (place s) (context_at (program d) (place s)) c.after-n.result.0 l.j
     (get_or (operands_at (form s)) l.j Reg) (operand_at d.slots (place s) l.j) in
     let some : l.j < length (operands_at (form s)) = omega (arith, operands s) in
@@ -118,7 +121,7 @@ loop-j-preserved c =
       λ m h. get_or-set_other l.fields l.j m v 0 (λ e. omega arith) ∙ l.invariant.1 m (omega arith),
       l.invariant.2
           ∙ left_ok d.entries (program d) (place s) _ c.after-n.result.0 (form s) _ (same_count s) l.j l.fields v
-          some (omega (arith, few_operands (form s))) (field_ok x c.field_at.ensures c.in-Is.is)
+          some (omega (arith, few_operands (form s))) (field_ok x c.field_at.ensures c.in_ok-fields.was)
           ∙ ap (λ m. left m (set l.fields l.j v)) (sym (add-one l.j)),
     )
 
@@ -128,7 +131,7 @@ returns c =
     let s = (goal.at.returns c).After-operand_count-j-end in
     let d = here s in
     let all : length (operands_at (form s)) ≡ l.j = omega (arith, operands s) in
-    ap Is
+    ap Ok
     (c.encode.ensures
     ∙ code_of _ _ _ _
     ∙ ap (λ f. code_at f (get_or l.fields 0 0) (get_or l.fields 1 0) (get_or l.fields 2 0)) c.instr_at.ensures.form

@@ -6,6 +6,8 @@ use native.Mathlib.Numerals.{add-one}
 use native.Mathlib.Omega.{arith}
 use lib.IntN.{pos}
 use lib.ListN.{get_or, drop}
+use Rattle.std.specs.Prelude.{Err}
+use Rattle.std.proofs.lemmas.Result.{err_from_is_err_and}
 use Rattle.rules.specs.Answers.{Judged}
 use Rattle.rules.specs.Expressions.{Expr, num}
 use Rattle.rules.specs.Names.{Entry}
@@ -28,16 +30,18 @@ module _ (what : Data) (at : ℕ) (frame : List ℕ) (names : List Entry) (k : �
   abbrev left : (write : ℕ → List ℕ) (j : ℕ) → Judged (List ℕ)
   left write j = items names (bound_of what) write at k j (drop j all)
 
-pub returns-in-Refused : goal.returns-in-Refused
-returns-in-Refused c names k said write =
+pub returns-in_err-item_field : goal.returns-in_err-item_field
+returns-in_err-item_field c names k said write =
     let l = c.loop-j in
     let x = one c.args.what c.args.at.0 c.args.frame.now names k l.j in
     let items_are = (data_in c.args.at.0 c.args.frame.now c.requires.0).items in
-    sym
+    let p = err_from_is_err_and c.from_residual.result c.from_residual.ensures.1 in
+    rw p.1
+    (sym
     (l.invariant names k said write
     ∙ ap checked_as
     (items_more names _ _ k write _ l.j (omega (arith, items_are.count))
-    ∙ bind_no x _ c.in-Refused.r (field_no x (c.item_field.ensures.value names k said) c.in-Refused.is)))
+    ∙ bind_no x _ p.0 (field_no x (c.item_field.ensures.value names k said) (c.in_err-item_field.was ∙ ap Err (sym p.2))))))
 
 pub loop-j-preserved : goal.loop-j-preserved
 loop-j-preserved c names k said write =
@@ -48,8 +52,8 @@ loop-j-preserved c names k said write =
     l.invariant names k said write
     ∙ ap checked_as
     (items_more names _ _ k write _ l.j (omega (arith, items_are.count))
-    ∙ bind_ok x _ c.in-Is.field-0 (field_ok x (c.item_field.ensures.value names k said) c.in-Is.is))
-    ∙ checked_then (rest (suc l.j)) (λ bs. write c.in-Is.field-0 ++ bs)
+    ∙ bind_ok x _ c.in_ok-item_field.field-0 (field_ok x (c.item_field.ensures.value names k said) c.in_ok-item_field.was))
+    ∙ checked_then (rest (suc l.j)) (λ bs. write c.in_ok-item_field.field-0 ++ bs)
     ∙ ap (λ m. checked_as (rest m)) (sym (add-one l.j))
 
 pub returns : goal.returns

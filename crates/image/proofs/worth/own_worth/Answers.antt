@@ -5,9 +5,9 @@ use native.Mathlib.Omega.{arith}
 use lib.IntN.{pos}
 use mir.Syntax.{w32}
 use mir.Val.{to_z, of_z}
+use Rattle.std.specs.Prelude.{Ok}
 use Rattle.std.proofs.lemmas.Int.{ints}
 use lib.ListN.{length, get_or, drop}
-use Rattle.rules.specs.declared.Outcome.TheVariants.{Is}
 use Rattle.rules.specs.Expressions.{got, read_expr}
 use Rattle.rules.specs.Forms.{operands_at}
 use Rattle.rules.specs.Statements.{arg_at, argument_at, expr_at}
@@ -43,8 +43,8 @@ returns-then-is_register c names k l positions =
     let f = c.args.frame.now in
     let n = c.argument_at-a.result in
     let wide : to_z w32 (of_z w32 c.from.result) ≡ pos (get_or f n 0) = omega (arith, ints, c.type_inv.frame n) in
-    ap Is wide
-    ∙ ap (λ n. Is (pos (get_or f n 0))) (found (goal.at.returns-then-is_register c).After-argument_at-a)
+    ap Ok wide
+    ∙ ap (λ n. Ok (pos (get_or f n 0))) (found (goal.at.returns-then-is_register c).After-argument_at-a)
     ∙ sym
     (ap (worth_in names positions k)
     (own_register c.args.at.0 f c.requires.0 c.args.j c.requires.1 (sym c.is_register.ensures ∙ c.if-is_register.true)))

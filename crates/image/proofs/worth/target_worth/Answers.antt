@@ -5,7 +5,7 @@ use Prim.Native.Nat.{ℕ, ◌+◌, ◌-◌, ◌<◌}
 use native.Mathlib.Omega.{arith}
 use lib.IntN.{pos}
 use lib.ListN.{length, get_or}
-use Rattle.rules.specs.declared.Outcome.TheVariants.{Is}
+use Rattle.std.specs.Prelude.{Ok}
 use Rattle.rules.specs.Forms.{operands_at}
 use Rattle.listing.specs.Tables.{frame_at}
 use Rattle.slots.specs.Slots.{Slots, slots, worth_in, InstrIn, WroteTarget}
@@ -15,6 +15,8 @@ use Rattle.instruction.proofs.Rows.{has_target}
 use Rattle.image.specs.Tables.{operand_in}
 use Rattle.image.proofs.Operands.{target_inner, target_last, wrote_in}
 use Rattle.slots.specs.State.{starts_in, owners_in, offsets_in}
+use borrow.Author.Rules.{rules}
+use Rattle.expression.proofs.Signed.{at32}
 use Rattle.image.proofs.worth.target_worth.Goals as goal
 
 abbrev over : (s : goal.After-inner_worth) → (forms carry : List ℕ) → Slots
@@ -77,8 +79,9 @@ some_2 c = (
 pub returns-then-owner-lt-NO_OWNER : goal.returns-then-owner-lt-NO_OWNER
 returns-then-owner-lt-NO_OWNER c names k l forms carry =
     let o = get_or (owners_in c.args.state.now) c.args.c.0 0 in
-    c.inner_worth.ensures
-    ∙ ap (λ n. Is (pos (get_or c.args.positions.now n 0 + get_or (offsets_in c.args.state.now) c.args.c.0 0))) c.owner_at-owner.ensures
+    let same : at32 c.inner_worth.result ≡ c.inner_worth.result = search rules in
+    ap Ok (same ∙ c.inner_worth.ensures)
+    ∙ ap (λ n. Ok (pos (get_or c.args.positions.now n 0 + get_or (offsets_in c.args.state.now) c.args.c.0 0))) c.owner_at-owner.ensures
     ∙ sym (ap (worth_in names c.args.positions.now k) (target_inner (over c forms carry) c.args.c.0
     (omega (arith, c.owner_at-owner.ensures, c.if-owner-lt-NO_OWNER.true))))
 

@@ -195,17 +195,17 @@ one_kind_2 c =
 
 -- the code is that of the slot's bytes
 code_is : (c : goal.After-write_code-arg-1) →
-    Coded (encode_at (here c) (place c)) c.in-Is.code
+    Coded (encode_at (here c) (place c)) c.in-Ok.code
 code_is c =
     coded (encode_at (here c) (place c)) (λ b e. instr_short (here c) c.requires.0 (place c) c.requires.1 (one_kind c) b e)
-    c.encode_at.ensures c.in-Is.is
+    c.encode_at.ensures c.in-Ok.is
 
 -- the code is that of the slot's bytes
 code_is_2 : (c : goal.After-slice_known-in-Form-1) →
-    Coded (encode_at (here_5 c) (place_5 c)) c.in-Is.code
+    Coded (encode_at (here_5 c) (place_5 c)) c.in-Ok.code
 code_is_2 c =
     coded (encode_at (here_5 c) (place_5 c)) (λ b e. instr_short (here_5 c) c.requires.0 (place_5 c) c.requires.1 (one_kind_2 c) b e)
-    c.encode_at.ensures c.in-Is.is
+    c.encode_at.ensures c.in-Ok.is
 
 -- behind the links: what the statement is
 module _ (c : goal.After-write_items-arg-1) where
@@ -305,12 +305,12 @@ returns-in-Gone c b e =
     gone_is) in
     sym (ap (put (room_4 c) (where_at_4 c)) none ∙ put_none (room_4 c) (where_at_4 c))
 
-pub returns-in-Is : goal.returns-in-Is
-returns-in-Is c b e =
+pub returns-in-Ok : goal.returns-in-Ok
+returns-in-Ok c b e =
     let h = code_is_2 c in
     let same : h.bytes ≡ b = ok_same (sym h.is ∙ e) in
     c.write_code.ensures
-    ∙ ap (λ n. put (room_5 c) n (bytes_of_code c.in-Is.code)) (q_is_5 c)
+    ∙ ap (λ n. put (room_5 c) n (bytes_of_code c.in-Ok.code)) (q_is_5 c)
     ∙ ap (put (room_5 c) (where_at_5 c)) (h.holds ∙ same)
 
 pub returns-in-Bytes : goal.returns-in-Bytes

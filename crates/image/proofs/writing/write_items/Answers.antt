@@ -83,7 +83,7 @@ pub loop-j-preserved : goal.loop-j-preserved
 loop-j-preserved c =
     let s = (goal.at.loop-j-preserved c).After-item_width-width in
     let l = c.loop-j in
-    let v = c.in-Is.v in
+    let v = c.in-Ok.v in
     let w = what s in
     let old = c.args.image.now in
     let q = c.args.q.0 in
@@ -103,7 +103,7 @@ loop-j-preserved c =
     let here : (names : List Entry) (k : ℕ) → Said s names k → left s names k l.j ≡ left s names k (suc l.j)
     >>= (λ bs. ok (more ++ bs)) =
     λ names k said. more_at s names k l.j c.loop-j-test.true
-    ∙ bind_ok (one s names k l.j) _ v (field_ok (one s names k l.j) (c.item_field.ensures.value names k said) c.in-Is.is) in
+    ∙ bind_ok (one s names k l.j) _ v (field_ok (one s names k l.j) (c.item_field.ensures.value names k said) c.in-Ok.is) in
     let rest : (names : List Entry) (k : ℕ) → Said s names k → left s names k 0 ≡ left s names k (l.j + 1)
     >>= (λ bs. ok ((front ++ more) ++ bs)) =
     λ names k said. l.invariant.3 names k said

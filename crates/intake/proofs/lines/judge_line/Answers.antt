@@ -52,9 +52,9 @@ returns-then-n-text c =
     let l = c.line_length-n in
     let few : a.i < 1024 = omega (arith, c.if-i-ge1024.false) in
     let short : l.result ≤ 1024 = omega (arith, c.if-n-gt1024.false) in
-    let w = subst (λ x. Answers (take l.result t) c.read_line.new.out x) c.in-Frame.is c.read_line.ensures in
+    let w = subst (λ x. Answers (take l.result t) c.read_line.new.out x) c.in-Ok.is c.read_line.ensures in
     told t a.i a.sum l.result short
-    (unended t a.i a.sum l.result l.ensures few short c.read_line.new.out c.in-Frame.to w c.if-n-text.true)
+    (unended t a.i a.sum l.result l.ensures few short c.read_line.new.out c.in-Ok.to w c.if-n-text.true)
 
 pub returns-then-to-gt120 : goal.returns-then-to-gt120
 returns-then-to-gt120 c =
@@ -63,8 +63,8 @@ returns-then-to-gt120 c =
     let l = c.line_length-n in
     let few : a.i < 1024 = omega (arith, c.if-i-ge1024.false) in
     let short : l.result ≤ 1024 = omega (arith, c.if-n-gt1024.false) in
-    let w = subst (λ x. Answers (take l.result t) c.read_line.new.out x) c.in-Frame.is c.read_line.ensures in
-    over t a.i a.sum l.result l.ensures few short c.read_line.new.out c.in-Frame.to w c.if-n-text.false c.if-to-gt120.true
+    let w = subst (λ x. Answers (take l.result t) c.read_line.new.out x) c.in-Ok.is c.read_line.ensures in
+    over t a.i a.sum l.result l.ensures few short c.read_line.new.out c.in-Ok.to w c.if-n-text.false c.if-to-gt120.true
 
 pub returns-then-sum-to-gt49152 : goal.returns-then-sum-to-gt49152
 returns-then-sum-to-gt49152 c =
@@ -73,19 +73,19 @@ returns-then-sum-to-gt49152 c =
     let l = c.line_length-n in
     let few : a.i < 1024 = omega (arith, c.if-i-ge1024.false) in
     let short : l.result ≤ 1024 = omega (arith, c.if-n-gt1024.false) in
-    let w = subst (λ x. Answers (take l.result t) c.read_line.new.out x) c.in-Frame.is c.read_line.ensures in
-    full t a.i a.sum l.result l.ensures few short c.read_line.new.out c.in-Frame.to w c.if-n-text.false
+    let w = subst (λ x. Answers (take l.result t) c.read_line.new.out x) c.in-Ok.is c.read_line.ensures in
+    full t a.i a.sum l.result l.ensures few short c.read_line.new.out c.in-Ok.to w c.if-n-text.false
     (omega (arith, c.if-to-gt120.false)) c.if-sum-to-gt49152.true
 
-pub returns-in-Wrong : goal.returns-in-Wrong
-returns-in-Wrong c =
+pub returns-in-Err : goal.returns-in-Err
+returns-in-Err c =
     let a = c.args in
     let t = a.text.now in
     let l = c.line_length-n in
     let few : a.i < 1024 = omega (arith, c.if-i-ge1024.false) in
     let short : l.result ≤ 1024 = omega (arith, c.if-n-gt1024.false) in
-    let x = c.in-Wrong.c in
-    let w = subst (λ x. Answers (take l.result t) c.read_line.new.out x) c.in-Wrong.is c.read_line.ensures in
+    let x = c.in-Err.c in
+    let w = subst (λ x. Answers (take l.result t) c.read_line.new.out x) c.in-Err.is c.read_line.ensures in
     told t a.i a.sum x (stuck t l.result l.ensures short x w) (wrong t a.i a.sum l.result l.ensures x few short w)
 
 pub returns-else-sum-to-gt49152 : goal.returns-else-sum-to-gt49152
@@ -95,6 +95,6 @@ returns-else-sum-to-gt49152 c =
     let l = c.line_length-n in
     let few : a.i < 1024 = omega (arith, c.if-i-ge1024.false) in
     let short : l.result ≤ 1024 = omega (arith, c.if-n-gt1024.false) in
-    let w = subst (λ x. Answers (take l.result t) c.read_line.new.out x) c.in-Frame.is c.read_line.ensures in
-    framed t a.i a.sum l.result l.ensures few short c.read_line.new.out c.in-Frame.to w c.if-n-text.false
+    let w = subst (λ x. Answers (take l.result t) c.read_line.new.out x) c.in-Ok.is c.read_line.ensures in
+    framed t a.i a.sum l.result l.ensures few short c.read_line.new.out c.in-Ok.to w c.if-n-text.false
     (omega (arith, c.if-to-gt120.false)) (omega (arith, c.if-sum-to-gt49152.false))

@@ -1,34 +1,25 @@
-use mathlib.Core.Path.{◌≡◌, subst}
-use Prim.Native.Nat.{◌+◌}
+-- `operands::plain` meets its contract.
+use mathlib.Core.Path.{ap, ◌∙◌}
 use lib.IntN.{pos}
+use Rattle.std.specs.Prelude.{Err}
+use Rattle.std.proofs.lemmas.Result.{err_from_is_err_and}
 use Rattle.rules.specs.Expressions.{num, bytes_of}
-use Rattle.leaves.specs.declared.Found.TheVariants.{Ends, Stuck}
-use Rattle.grammar.specs.Going.{digits, alone}
-use Rattle.leaves.specs.Answering.{Answered}
+use Rattle.grammar.specs.Going.{digits}
 use Rattle.leaves.proofs.Leafs.{plain_starts, leaf_ends, leaf_stuck}
-use native.Mathlib.Omega.{arith}
 use Rattle.leaves.proofs.operands.plain.Goals as goal
 
-pub returns-in-Is : goal.returns-in-Is
+pub returns : goal.returns
 unfolding bytes_of
-returns-in-Is c =
+returns c =
     let a = c.args in
-    let n = c.in-Is.n in
-    let v = c.in-Is.v in
-    let s = a.s.now in
-    let k : n + 0 ≡ n = omega arith in
-    subst (λ x. Answered alone s a.out.now c.put_number-to.new.out a.at (Ends x c.put_number-to.result)) k
-    (leaf_ends s a.out.now c.put_number-to.new.out a.at 0 (λ v. num (pos v)) (digits 2147483647 0 s) 2147483647
-    (plain_starts s c.requires.2) (omega arith)
-    c.digits.result n v c.put_number-to.result c.in-Is.is c.digits.ensures c.put_number-to.ensures)
+    leaf_ends a.s.now a.out.now c.put_number.new.out a.at (λ v. num (pos v)) (digits 2147483647 0 a.s.now) 2147483647
+    (plain_starts a.s.now c.requires.2) c.digits.result c.digits.ensures c.in_ok-n.n c.in_ok-n.v c.put_number.result c.in_ok-n.was
+    c.put_number.ensures
 
-pub returns-in-Not : goal.returns-in-Not
-returns-in-Not c =
+pub returns-in_err-n : goal.returns-in_err-n
+returns-in_err-n c =
     let a = c.args in
-    let n = c.in-Not.n in
-    let s = a.s.now in
-    let k : n + 0 ≡ n = omega arith in
-    subst (λ x. Answered alone s a.out.now a.out.now a.at (Stuck x)) k
-    (leaf_stuck s a.out.now a.out.now a.at 0 (λ v. num (pos v)) (digits 2147483647 0 s) 2147483647 (plain_starts s c.requires.2)
-    (omega arith)
-    c.digits.result n c.in-Not.is c.digits.ensures)
+    let p = err_from_is_err_and c.from_residual.result c.from_residual.ensures.1 in
+    leaf_stuck a.s.now a.out.now a.out.now a.at (λ v. num (pos v)) (digits 2147483647 0 a.s.now) 2147483647
+    (plain_starts a.s.now c.requires.2) c.digits.result c.digits.ensures c.in_err-n.field-0.0 c.in_err-n.was c.from_residual.result
+    (p.1 ∙ ap Err p.2)

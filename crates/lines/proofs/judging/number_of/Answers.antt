@@ -6,8 +6,8 @@ use Rattle.lines.specs.Turns.{Numbered}
 use Rattle.lines.proofs.ByItself.{refused_number}
 use Rattle.lines.proofs.judging.number_of.Goals as goal
 
-pub returns-in-Refused : goal.returns-in-Refused
-returns-in-Refused c =
+pub returns-in-Err : goal.returns-in-Err
+returns-in-Err c =
     let text = c.args.text.now in
     subst (λ (n : ℕ). Numbered (read_listing text) n) (sym c.one_or_two.ensures)
-    (refused_number _ _ text _ c.read_listing.result c.in-Refused.is c.read_listing.ensures.listed)
+    (refused_number _ _ text _ c.read_listing.result c.in-Err.is c.read_listing.ensures.listed)

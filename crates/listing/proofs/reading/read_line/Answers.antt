@@ -5,16 +5,15 @@ use native.Mathlib.Nat.{mul-le-mul_right}
 use native.Mathlib.Omega.{arith}
 use lib.ListN.{length, set, length-set}
 use lib.Seq.{length-take-le}
-use Rattle.rules.specs.declared.Refusal.TheVariants.{Broken, Limit}
-use Rattle.rules.specs.Answers.{at_place}
+use Rattle.std.specs.Prelude.{Err, Ok}
+use Rattle.std.proofs.Common.{rules}
+use Rattle.std.proofs.lemmas.Result.{err_from_is_err_and}
 use Rattle.rules.specs.Listing.{unhex, source_line}
-use Rattle.listing.specs.declared.Framed.TheVariants.{Is, TooLong as Framed-as-TooLong, Broken as Framed-as-Broken}
 use Rattle.listing.specs.Reading.{kept_of}
 use Rattle.laws.proofs.Tests.{clash}
-use Rattle.listing.specs.declared.Lined.TheVariants.{Stands, Refused}
 use Rattle.listing.specs.Form.{form_of}
 use Rattle.listing.proofs.FirstLine.{line_within}
-use Rattle.listing.proofs.OneLine.{lined_of, as_first, line_over, line_ill, line_short, line_digits, line_few, line_long, line_room, line_judged, line_places, line_sizes, kept_size, is_one}
+use Rattle.listing.proofs.OneLine.{lined_of, passed_on, as_first, line_over, line_ill, line_short, line_digits, line_few, line_long, line_room, line_judged, line_places, line_sizes, kept_size, is_one}
 use mathlib.Core.Bool.{not}
 use Rattle.listing.proofs.reading.read_line.Goals as goal
 
@@ -88,7 +87,7 @@ keep-requires c =
     (ap not c.if-not-well_formed.false) c.if-line-b.false c.requires.1 c.requires.2 c.add_frame.ensures.stored in
     let small = line_places (form_of c.args.marked) c.args.text.now c.requires.0 c.line_length-n.ensures c.line_bytes-b.ensures.0
     c.from.ensures c.within_limits.ensures (ap not c.if-not-within_limits.false) c.well_formed-2.ensures
-    (ap not c.if-not-well_formed.false) c.if-line-b.false c.requires.1 c.requires.2 _ c.in-Is.is c.add_frame.ensures.read in (
+    (ap not c.if-not-well_formed.false) c.if-line-b.false c.requires.1 c.requires.2 _ ((passed_on c.args.i c.add_frame.result c.map_err.result _ c.map_err.ensures.cases (λ e r h. search rules)).reads _ c.in_ok-statement.was) c.add_frame.ensures.read in (
       line_few (form_of c.args.marked) c.args.text.now c.requires.0 c.line_length-n.ensures c.line_bytes-b.ensures.0 c.from.ensures
           c.within_limits.ensures (ap not c.if-not-within_limits.false) c.well_formed-2.ensures (ap not c.if-not-well_formed.false),
       sizes.1,
@@ -96,10 +95,10 @@ keep-requires c =
       small 2,
     )
 
-pub returns-in-Is : goal.returns-in-Is
-returns-in-Is c =
-    let told = c.in-Is.is in
-    let it = c.in-Is.statement in
+pub returns : goal.returns
+returns c =
+    let told = (passed_on c.args.i c.add_frame.result c.map_err.result _ c.map_err.ensures.cases (λ e r h. search rules)).reads _ c.in_ok-statement.was in
+    let it = c.in_ok-statement.statement in
     let mid = c.add_frame.new.starts in
     let sizes = line_sizes (form_of c.args.marked) c.args.text.now c.requires.0 c.line_length-n.ensures c.line_bytes-b.ensures.0
     c.from.ensures c.within_limits.ensures (ap not c.if-not-within_limits.false) c.well_formed-2.ensures
@@ -107,7 +106,7 @@ returns-in-Is c =
     let kept = c.keep.ensures in record {
       line = line_judged (form_of c.args.marked) c.args.text.now c.requires.0 c.line_length-n.ensures c.line_bytes-b.ensures.0
           c.from.ensures c.within_limits.ensures (ap not c.if-not-within_limits.false) c.well_formed-2.ensures
-          (ap not c.if-not-well_formed.false) c.if-line-b.false c.requires.1 c.requires.2 Stands (ap (lined_of c.args.i) told)
+          (ap not c.if-not-well_formed.false) c.if-line-b.false c.requires.1 c.requires.2 (Ok tt) (ap (lined_of c.args.i) told)
           c.add_frame.ensures.stored
           (λ y e. kept ∙ ap (kept_of mid c.args.i) (is_one it y (sym told ∙ e))) c.add_frame.ensures.read;
       source = as_first c.args.text.now c.line_length-n.result c.line_length-n.ensures (λ l. set c.args.lines.now c.args.i
@@ -121,32 +120,21 @@ returns-in-Is c =
       );
     }
 
-pub returns-in-TooLong : goal.returns-in-TooLong
-returns-in-TooLong c =
+pub returns-in_err-statement : goal.returns-in_err-statement
+returns-in_err-statement c =
     let sizes = line_sizes (form_of c.args.marked) c.args.text.now c.requires.0 c.line_length-n.ensures c.line_bytes-b.ensures.0
     c.from.ensures c.within_limits.ensures (ap not c.if-not-within_limits.false) c.well_formed-2.ensures
     (ap not c.if-not-well_formed.false) c.if-line-b.false c.requires.1 c.requires.2 c.add_frame.ensures.stored in
+    let p = err_from_is_err_and c.from_residual.result c.from_residual.ensures.1 in
+    let told = (passed_on c.args.i c.add_frame.result c.map_err.result _ c.map_err.ensures.cases (λ e r h. search rules)).refused p.0
+    (c.in_err-statement.was ∙ ap Err (sym p.2)) in
+    rw p.1
     record {
       line = line_judged (form_of c.args.marked) c.args.text.now c.requires.0 c.line_length-n.ensures c.line_bytes-b.ensures.0
           c.from.ensures c.within_limits.ensures (ap not c.if-not-within_limits.false) c.well_formed-2.ensures
           (ap not c.if-not-well_formed.false) c.if-line-b.false c.requires.1 c.requires.2 {starts' = c.add_frame.new.starts}
-          (Refused (Limit (at_place c.args.i))) (ap (lined_of c.args.i) c.in-TooLong.is) c.add_frame.ensures.stored
-          (λ y e. clash (let z : Framed-as-TooLong ≡ Is y = sym c.in-TooLong.is ∙ e in cc)) c.add_frame.ensures.read;
-      source = tt;
-      lengths = (sizes.0, sizes.1, length-set c.args.lines.now c.args.i c.source_line.result ∙ c.requires.3);
-    }
-
-pub returns-in-Broken : goal.returns-in-Broken
-returns-in-Broken c =
-    let sizes = line_sizes (form_of c.args.marked) c.args.text.now c.requires.0 c.line_length-n.ensures c.line_bytes-b.ensures.0
-    c.from.ensures c.within_limits.ensures (ap not c.if-not-within_limits.false) c.well_formed-2.ensures
-    (ap not c.if-not-well_formed.false) c.if-line-b.false c.requires.1 c.requires.2 c.add_frame.ensures.stored in
-    record {
-      line = line_judged (form_of c.args.marked) c.args.text.now c.requires.0 c.line_length-n.ensures c.line_bytes-b.ensures.0
-          c.from.ensures c.within_limits.ensures (ap not c.if-not-within_limits.false) c.well_formed-2.ensures
-          (ap not c.if-not-well_formed.false) c.if-line-b.false c.requires.1 c.requires.2 {starts' = c.add_frame.new.starts}
-          (Refused (Broken (at_place c.args.i))) (ap (lined_of c.args.i) c.in-Broken.is) c.add_frame.ensures.stored
-          (λ y e. clash (let z : Framed-as-Broken ≡ Is y = sym c.in-Broken.is ∙ e in cc)) c.add_frame.ensures.read;
+          (Err p.0) told c.add_frame.ensures.stored
+          (λ y e. clash (let z = sym (ap (lined_of c.args.i) e) ∙ told in cc)) c.add_frame.ensures.read;
       source = tt;
       lengths = (sizes.0, sizes.1, length-set c.args.lines.now c.args.i c.source_line.result ∙ c.requires.3);
     }

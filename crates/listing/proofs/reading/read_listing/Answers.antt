@@ -8,6 +8,7 @@ use borrow.Author.Tests.{tests}
 use Rattle.std.proofs.Common.{rules}
 use lib.ListN.{set, length-set}
 use lib.Seq.{get_or-set_same}
+use Rattle.std.proofs.lemmas.Result.{err_from_is_err_and}
 use Rattle.listing.specs.Form.{form_of}
 use Rattle.listing.proofs.FirstLine.{rest_shorter}
 use Rattle.listing.proofs.LineByLine.{at_first, at_next, at_refusal, at_end, lines_first, lines_next, lines_end}
@@ -27,12 +28,14 @@ loop-rest-init c =
       c.requires.2,
     )
 
-pub returns-in-Refused : goal.returns-in-Refused
-returns-in-Refused c =
+pub returns-in_err-read_line : goal.returns-in_err-read_line
+returns-in_err-read_line c =
+    let p = err_from_is_err_and c.from_residual.result c.from_residual.ensures.1 in
+    rw (p.1, p.2)
     record {
       listed = at_refusal (form_of c.new_form-marked.result) c.args.text.now c.loop-rest.rest.now c.loop-rest.frames c.loop-rest.starts
           c.read_line.new.frames c.read_line.new.starts c.loop-rest.i c.loop-rest.invariant.0 (search (rules, tests))
-          c.read_line.result c.in-Refused.r c.read_line.ensures.line c.in-Refused.is;
+          c.read_line.result _ c.read_line.ensures.line c.in_err-read_line.was;
       beside = tt;
       lengths = c.read_line.ensures.lengths;
     }
@@ -42,7 +45,7 @@ loop-rest-smaller c = rw c.take_line-next.ensures (rest_shorter c.loop-rest.rest
 
 pub loop-rest-preserved : goal.loop-rest-preserved
 loop-rest-preserved c =
-    let told = c.in-Stands.is in
+    let told = c.in_ok-read_line.was in
     let w = form_of c.new_form-marked.result in
     let next = at_next w c.args.text.now c.loop-rest.rest.now c.loop-rest.frames c.loop-rest.starts c.read_line.new.frames
     c.read_line.new.starts c.loop-rest.i c.loop-rest.invariant.0 (search (rules, tests)) c.read_line.result c.read_line.ensures.line told in

@@ -1,9 +1,8 @@
 -- `mapping::laying::find_positions` meets its contract: the program assembles.
 use mathlib.Core.Path.{◌≡◌, refl}
 use borrow.Author.Rules.{rules}
+use Rattle.std.specs.Prelude.{Result, Err, Ok}
 use Rattle.rules.specs.declared.Refusal.{Refusal}
-use Rattle.asm.specs.declared.Verdict.{Verdict}
-use Rattle.asm.specs.declared.Verdict.TheVariants.{Good, Refused}
 use Rattle.slots.specs.State.{starts_in, forms_in, carry_in, owners_in, offsets_in}
 use Rattle.slots.specs.Links.{contexts_read}
 use Rattle.asm.proofs.Carrying.{placed_any}
@@ -23,9 +22,9 @@ judge_linked-requires c =
           (contexts_read c.args.frames.now (starts_in z) c.args.count) c.requires.0.context,
     )
 
-is_good : (v : Verdict) → ((q : Refusal) → v ≡ Refused q → v ≡ Good) → v ≡ Good
-is_good Good h = refl
-is_good (Refused q) h = h q refl
+is_good : (v : Result (Unit {0}) Refusal) → ((q : Refusal) → v ≡ Err q → v ≡ Ok tt) → v ≡ Ok tt
+is_good (Ok tt) h = refl
+is_good (Err q) h = h q refl
 
 pub returns : goal.returns
 returns c =

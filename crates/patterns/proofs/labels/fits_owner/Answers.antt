@@ -11,14 +11,14 @@ use Rattle.patterns.specs.Labels.{of_label}
 use Rattle.patterns.proofs.Programs.{at_program}
 use Rattle.patterns.proofs.labels.fits_owner.Goals as goal
 
-pub returns-in-Of : goal.returns-in-Of
-returns-in-Of c =
+pub returns-in-Some : goal.returns-in-Some
+returns-in-Some c =
     let t : Slots = table_of c.args.frames.now c.args.state.now c.args.count in
     let p = program_of t in
-    let i = c.in-Of.owner.0 in
-    let inside : i < c.args.count = c.in-Of.ensures.1 in
+    let i = c.in-Some.owner.0 in
+    let inside : i < c.args.count = c.in-Some.ensures.1 in
     let size : c.size_at.result ≡ size_in p i =
     c.size_at.ensures (carry_in c.args.state.now) (owners_in c.args.state.now) (offsets_in c.args.state.now)
     ∙ ap (λ q. byte_count q (slot_at t i)) (c.requires.1 i (omega (arith, inside)))
     ∙ ap (byte_count (position p i)) (sym (at_program t i inside)) in
-    ap (ltb c.in-Of.offset) size ∙ ap (of_label (λ w o. ltb o (size_in p w))) c.in-Of.ensures.0
+    ap (ltb c.in-Some.offset) size ∙ ap (of_label (λ w o. ltb o (size_in p w))) c.in-Some.ensures.0

@@ -4,9 +4,9 @@ use mathlib.Core.Bool.{true}
 use Prim.Native.Nat.{ℕ, ◌<◌}
 use lib.ListN.{get_or}
 use native.Mathlib.Omega.{arith}
+use Rattle.std.specs.Prelude.{Some}
 use Rattle.rules.specs.Forms.{is_transfer}
 use Rattle.slots.specs.Slots.{Slots, no_owner}
-use Rattle.patterns.specs.declared.InnerLabel.TheVariants.{Of}
 use Rattle.patterns.specs.Targets.{stands_at, form_in, TargetIn}
 use Rattle.patterns.proofs.InnerLabels.{label_none, label_target, label_inner, label_written}
 use Rattle.slots.specs.State.{starts_in, carry_in, owners_in, offsets_in, table_of}
@@ -123,7 +123,7 @@ returns-then-owner-lt-NO_OWNER c =
     let offset = c.offset_at.ensures ∙ ap (λ (k : ℕ). get_or (offsets_in c.args.state.now) k 0) c.carry_at-written.ensures in
     let low : get_or (owners_in c.args.state.now) (get_or (carry_in c.args.state.now) c.args.at.0 0) 0 < no_owner
     = omega (arith, owner c, c.if-owner-lt-NO_OWNER.true) in (
-      ap₂ (λ (a b : ℕ). Of (record { 0 = a }) b) (owner c) offset ∙ sym (label_inner (over_4 c) c.requires.0 c.args.at.0 c.requires.1
+      ap₂ (λ (a b : ℕ). Some ((record { 0 = a }), b)) (owner c) offset ∙ sym (label_inner (over_4 c) c.requires.0 c.args.at.0 c.requires.1
           (moves_3 c) low),
       omega (arith, owner c, c.requires.0.owned _ (target_3 c).inside low),
     )

@@ -6,6 +6,7 @@ use Prim.Native.Nat.{ℕ}
 use native.Mathlib.Omega.{arith}
 use denote.Enum.Declared.{tag_of}
 use types.Run.{OneOf, miss}
+use Rattle.std.specs.Prelude.{None}
 use Rattle.rules.specs.contracts.Statement.{the_type}
 use Rattle.rules.specs.declared.Statement.{Statement}
 use Rattle.rules.specs.declared.Statement.TheVariants.{Label}
@@ -17,7 +18,6 @@ use Rattle.slots.specs.State.{starts_in, forms_in}
 use Rattle.slots.specs.declared.Slot.TheVariants.{Holds}
 use Rattle.slots.specs.Meaning.{kind_for, kind_in}
 use Rattle.slots.proofs.Stands.{none_tag, tag_kind}
-use Rattle.patterns.specs.declared.LocalLabel.TheVariants.{Nothing}
 use Rattle.patterns.specs.Targets.{label_as, stands_at}
 use Rattle.patterns.proofs.Programs.{at_program, past_program}
 use Rattle.patterns.proofs.Instructions.{no_label, low_label, high_label}
@@ -55,7 +55,7 @@ module _ (c : goal.In_default) (carry owners offsets : List ℕ) where
   stands = at_program here place c.if-count-i.false
 
   -- what is no label by its variant is none
-  none : (kind_in c.slot_at.result ≡ 2 → ⊥) → label_as (local_label (stands_at here place)) ≡ Nothing
+  none : (kind_in c.slot_at.result ≡ 2 → ⊥) → label_as (local_label (stands_at here place)) ≡ None
   none n =
       ap (λ x. label_as (local_label x)) stands
       ∙ no_label (slot_at here place) (λ e. n (sym (c.slot_at.ensures carry owners offsets).kind ∙ e))
@@ -72,7 +72,7 @@ module _ (c : goal.In_default-statement) (carry owners offsets : List ℕ) where
   stands_2 = at_program here_2 place_2 c.if-count-i.false
 
   -- what is no label by its variant is none
-  none_2 : (kind_in c.slot_at.result ≡ 2 → ⊥) → label_as (local_label (stands_at here_2 place_2)) ≡ Nothing
+  none_2 : (kind_in c.slot_at.result ≡ 2 → ⊥) → label_as (local_label (stands_at here_2 place_2)) ≡ None
   none_2 n =
       ap (λ x. label_as (local_label x)) stands_2
       ∙ no_label (slot_at here_2 place_2) (λ e. n (sym (c.slot_at.ensures carry owners offsets).kind ∙ e))

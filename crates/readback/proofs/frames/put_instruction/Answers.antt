@@ -5,8 +5,8 @@ use mathlib.Core.List.{List, ◌++◌}
 use Prim.Native.Nat.{ℕ, ◌+◌, ◌≤◌}
 use native.Mathlib.Omega.{arith}
 use lib.ListN.{length, set, take, length-set}
+use Rattle.std.specs.Prelude.{Option}
 use Rattle.instruction.proofs.Numbers.{few_operands}
-use Rattle.readback.specs.declared.frames.Written.{Written}
 use Rattle.readback.specs.Frames.{kind_at, held_at, Argument}
 use Rattle.readback.proofs.Pieces.{two_front}
 use Rattle.readback.proofs.Short.{operand_few}
@@ -42,14 +42,14 @@ put_argument-requires c =
       ),
     )
 
-pub returns-in_default : goal.returns-in_default
-returns-in_default c =
+pub returns-in_err-at : goal.returns-in_err-at
+returns-in_err-at c =
     let a = c.args in
     let k = c.operand_count-j-end.ensures in
     let x = c.put_argument.new.frame in
-    outside_here a.form a.s.now a.n.0 c.loop-j.j (omega arith) c.loop-j.invariant.2
-    (subst (λ (w : Written). Argument a.form a.s.now a.n.0 c.loop-j.j c.loop-j.frame c.loop-j.at w x)
-    c.in_default.is c.put_argument.ensures)
+    rw c.from_residual.ensures (outside_here a.form a.s.now a.n.0 c.loop-j.j (omega arith) c.loop-j.invariant.2
+    (subst (λ (w : Option ℕ). Argument a.form a.s.now a.n.0 c.loop-j.j c.loop-j.frame c.loop-j.at w x)
+    c.in_err-at.was c.put_argument.ensures))
 
 pub loop-j-preserved : goal.loop-j-preserved
 loop-j-preserved c =
@@ -58,9 +58,9 @@ loop-j-preserved c =
     let k = c.operand_count-j-end.ensures in
     let few = few_operands a.form in
     let x = c.put_argument.new.frame in
-    let g = subst (λ (w : Written). Argument a.form a.s.now a.n.0 j c.loop-j.frame c.loop-j.at w x) c.in-To.is
+    let g = subst (λ (w : Option ℕ). Argument a.form a.s.now a.n.0 j c.loop-j.frame c.loop-j.at w x) c.in_ok-at.was
     c.put_argument.ensures in
-    let end = c.in-To.end in
+    let end = c.in_ok-at.at in
     let h : c.loop-j.at ≤ length c.loop-j.frame = omega (arith, c.loop-j.invariant.1, c.loop-j.invariant.0, room c.args.frame.now c.args.form, c.requires.2) in (
       omega (arith, g.2, operand_few a.n.0 (kind_at a.form j) (held_at a.form a.s.now j), c.loop-j.invariant.0),
       c.put_argument.auto.frame ∙ c.loop-j.invariant.1,

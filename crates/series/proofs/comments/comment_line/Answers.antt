@@ -22,13 +22,13 @@ loop-i-init c =
     )
 
 -- src/comments.rt:45:13
-pub returns-then-not-is_hex : goal.returns-then-not-is_hex
-returns-then-not-is_hex c =
+pub returns-then-not-is_digit : goal.returns-then-not-is_digit
+returns-then-not-is_digit c =
     let a = c.args in
     let s = a.s.now in
     let o : a.k < length s = omega (arith, c.if-k-s.false) in
-    pair_first s a.k c.loop-i.out c.loop-i.at c.loop-i.i o c.loop-i.invariant.1.1.1 (omega arith) (sym c.is_hex.ensures
-    ∙ c.if-not-is_hex.true)
+    pair_first s a.k c.loop-i.out c.loop-i.at c.loop-i.i o c.loop-i.invariant.1.1.1 (omega arith) (sym c.is_digit.ensures
+    ∙ c.if-not-is_digit.true)
 
 -- src/comments.rt:49:13
 pub returns-then-j-s : goal.returns-then-j-s
@@ -36,17 +36,17 @@ returns-then-j-s c =
     let a = c.args in
     let s = a.s.now in
     let o : a.k < length s = omega (arith, c.if-k-s.false) in
-    pair_cut s a.k c.loop-i.out c.loop-i.at c.loop-i.i o c.loop-i.invariant.1.1.1 (omega arith) (sym c.is_hex.ensures
-    ∙ c.if-not-is_hex.false) (omega (arith, c.if-j-s.true))
+    pair_cut s a.k c.loop-i.out c.loop-i.at c.loop-i.i o c.loop-i.invariant.1.1.1 (omega arith) (sym c.is_digit.ensures
+    ∙ c.if-not-is_digit.false) (omega (arith, c.if-j-s.true))
 
 -- src/comments.rt:53:13
-pub returns-then-not-is_hex-2 : goal.returns-then-not-is_hex-2
-returns-then-not-is_hex-2 c =
+pub returns-then-not-is_digit-2 : goal.returns-then-not-is_digit-2
+returns-then-not-is_digit-2 c =
     let a = c.args in
     let s = a.s.now in
     let o : a.k < length s = omega (arith, c.if-k-s.false) in
-    pair_second s a.k c.loop-i.out c.loop-i.at c.loop-i.i o c.loop-i.invariant.1.1.1 (omega (arith, c.if-j-s.false)) (sym c.is_hex.ensures
-    ∙ c.if-not-is_hex.false) (sym c.is_hex-in-loop-i.ensures ∙ c.if-not-is_hex-2.true)
+    pair_second s a.k c.loop-i.out c.loop-i.at c.loop-i.i o c.loop-i.invariant.1.1.1 (omega (arith, c.if-j-s.false)) (sym c.is_digit.ensures
+    ∙ c.if-not-is_digit.false) (sym c.is_digit-in-loop-i.ensures ∙ c.if-not-is_digit-2.true)
 
 -- src/comments.rt:42:5
 pub loop-i-preserved : goal.loop-i-preserved
@@ -54,17 +54,17 @@ loop-i-preserved c =
     let a = c.args in
     let s = a.s.now in
     let o : a.k < length s = omega (arith, c.if-k-s.false) in
-    let v = c.hex.result * 16 + c.hex-in-loop-i.result in
-    let z = ap (λ n. n * 16 + c.hex-in-loop-i.result) c.hex.ensures.0
-    ∙ ap (λ n. digit (get_or s c.loop-i.i 0) * 16 + n) c.hex-in-loop-i.ensures.0 in (
+    let v = c.digit.result * 16 + c.digit-in-loop-i.result in
+    let z = ap (λ n. n * 16 + c.digit-in-loop-i.result) c.digit.ensures.0
+    ∙ ap (λ n. digit (get_or s c.loop-i.i 0) * 16 + n) c.digit-in-loop-i.ensures.0 in (
       c.put-at-in-loop-i.ensures.size,
       (
         c.put-at-in-loop-i.ensures.within,
         (
           omega (arith, c.if-j-s.false),
           pair_next s a.k c.loop-i.out c.loop-i.at c.loop-i.i o c.loop-i.invariant.1.1.1 c.put-at-in-loop-i.new.out
-              c.put-at-in-loop-i.result v (omega (arith, c.if-j-s.false)) (sym c.is_hex.ensures
-              ∙ c.if-not-is_hex.false) (sym c.is_hex-in-loop-i.ensures ∙ c.if-not-is_hex-2.false) z c.put-at-in-loop-i.ensures,
+              c.put-at-in-loop-i.result v (omega (arith, c.if-j-s.false)) (sym c.is_digit.ensures
+              ∙ c.if-not-is_digit.false) (sym c.is_digit-in-loop-i.ensures ∙ c.if-not-is_digit-2.false) z c.put-at-in-loop-i.ensures,
         ),
       ),
     )

@@ -1,4 +1,7 @@
-use mathlib.Core.Path.{sym, ap, ◌∙◌}
+use Rattle.std.specs.Prelude.{Err}
+use Rattle.std.proofs.lemmas.Result.{err_from_is_err_and}
+use Rattle.laying.specs.Speaking.{Listed}
+use mathlib.Core.Path.{sym, ap, ◌∙◌, subst}
 use native.Mathlib.Omega.{arith}
 use Prim.Native.Nat.{◌<◌}
 use Rattle.grammar.specs.Reading.{look}
@@ -35,7 +38,7 @@ returns-then-e-s c = λ make.
     let s = a.s.now in
     let v = c.loop-n.invariant in
     item_last make a.kind s a.k c.loop-n.out c.term.new.out c.loop-n.at c.loop-n.i c.loop-n.n (v.1.1.1.1.1 make) c.term.result
-    c.term.ensures c.in-Ends.e c.in-Ends.to c.in-Ends.is c.count.new.out c.count.result v.0 (omega (arith, v.1.0)) c.if-e-s.true
+    c.term.ensures c.in_ok-e.e c.in_ok-e.to c.in_ok-e.was c.count.new.out c.count.result v.0 (omega (arith, v.1.0)) c.if-e-s.true
     c.count.ensures
 
 -- src/items.rt:41:21
@@ -44,9 +47,9 @@ returns-then-look-ne44 c = λ make.
     let a = c.args in
     let s = a.s.now in
     let v = c.loop-n.invariant in
-    let e = c.look.ensures ∙ ap look (rest_is c.in-Ends.e s) in
+    let e = c.look.ensures ∙ ap look (rest_is c.in_ok-e.e s) in
     item_other make a.kind s a.k c.loop-n.out c.term.new.out c.loop-n.at c.loop-n.i c.loop-n.n (v.1.1.1.1.1 make) c.term.result
-    c.term.ensures c.in-Ends.e c.in-Ends.to c.in-Ends.is v.0 (omega (arith, v.1.0)) (omega (arith, c.if-e-s.false))
+    c.term.ensures c.in_ok-e.e c.in_ok-e.to c.in_ok-e.was v.0 (omega (arith, v.1.0)) (omega (arith, c.if-e-s.false))
     (λ z. c.if-look-ne44.true (e ∙ z))
 
 -- src/items.rt:44:21
@@ -56,16 +59,18 @@ returns-then-n-eq16 c = λ make.
     let s = a.s.now in
     let v = c.loop-n.invariant in
     item_full make a.kind s a.k c.loop-n.out c.term.new.out c.loop-n.at c.loop-n.i c.loop-n.n (v.1.1.1.1.1 make) c.term.result
-    c.term.ensures c.in-Ends.e c.in-Ends.to c.in-Ends.is c.if-n-eq16.true (omega (arith, c.if-e-s.false))
+    c.term.ensures c.in_ok-e.e c.in_ok-e.to c.in_ok-e.was c.if-n-eq16.true (omega (arith, c.if-e-s.false))
 
 -- src/items.rt:50:17
-pub returns-in-Stuck : goal.returns-in-Stuck
-returns-in-Stuck c = λ make.
+pub returns-in_err-e : goal.returns-in_err-e
+returns-in_err-e c = λ make.
     let a = c.args in
     let s = a.s.now in
     let v = c.loop-n.invariant in
-    item_stuck make a.kind s a.k c.loop-n.out c.term.new.out c.loop-n.at c.loop-n.i c.loop-n.n (v.1.1.1.1.1 make) c.term.result
-    c.term.ensures c.in-Stuck.e (omega (arith, v.1.0)) v.0 c.in-Stuck.is
+    let p = err_from_is_err_and c.from_residual.result c.from_residual.ensures.1 in
+    subst (λ r. Listed make a.kind s a.k c.term.new.out r) (sym (p.1 ∙ ap Err p.2))
+    (item_stuck make a.kind s a.k c.loop-n.out c.term.new.out c.loop-n.at c.loop-n.i c.loop-n.n (v.1.1.1.1.1 make) c.term.result
+    c.term.ensures c.in_err-e.field-0.0 (omega (arith, v.1.0)) v.0 c.in_err-e.was)
 
 -- src/items.rt:34:5
 pub loop-n-preserved : goal.loop-n-preserved
@@ -73,8 +78,8 @@ loop-n-preserved c =
     let a = c.args in
     let s = a.s.now in
     let v = c.loop-n.invariant in
-    let e = c.look.ensures ∙ ap look (rest_is c.in-Ends.e s) in
-    let r = term_room s c.loop-n.i c.loop-n.out c.term.new.out c.loop-n.at c.term.result c.in-Ends.e c.in-Ends.to c.in-Ends.is
+    let e = c.look.ensures ∙ ap look (rest_is c.in_ok-e.e s) in
+    let r = term_room s c.loop-n.i c.loop-n.out c.term.new.out c.loop-n.at c.term.result c.in_ok-e.e c.in_ok-e.to c.in_ok-e.was
     c.term.ensures in
     let h : c.loop-n.n < 16 = omega (arith, v.1.0, c.if-n-eq16.false) in (
       omega arith,
@@ -88,7 +93,7 @@ loop-n-preserved c =
               omega (arith, c.if-e-s.false),
               λ make.
                   item_next make a.kind s a.k c.loop-n.out c.term.new.out c.loop-n.at c.loop-n.i c.loop-n.n (v.1.1.1.1.1 make) c.term.result
-                  c.term.ensures c.in-Ends.e c.in-Ends.to c.in-Ends.is v.0 h (sym e ∙ c.if-look-ne44.false),
+                  c.term.ensures c.in_ok-e.e c.in_ok-e.to c.in_ok-e.was v.0 h (sym e ∙ c.if-look-ne44.false),
             ),
           ),
         ),

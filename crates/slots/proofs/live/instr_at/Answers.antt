@@ -4,6 +4,8 @@ use mathlib.Core.List.{List}
 use Prim.Native.Nat.{ℕ, ◌<◌}
 use native.Mathlib.Omega.{arith}
 use lib.ListN.{length, get_or}
+use borrow.Author.Tests.{lt-ltb}
+use Rattle.std.proofs.Common.{rules}
 use Rattle.rules.specs.declared.Statement.TheVariants.{Instr as OfInstr}
 use Rattle.rules.specs.Forms.{operands_at}
 use Rattle.rules.specs.Instructions.{form_of}
@@ -19,7 +21,7 @@ use Rattle.slots.proofs.Stands.{instr_means, first_is}
 use Rattle.slots.proofs.live.instr_at.Goals as goal
 
 -- behind the arguments' places
-module _ (c : goal.In-Is) where
+module _ (c : goal.After-unwrap) where
   abbrev place : ℕ
   place = c.args.at.0
 
@@ -51,9 +53,14 @@ module _ (c : goal.In-Is) where
         c.from-2.ensures ∙ sym (found_at c.args.state.now 2 place (omega arith) (omega (arith, c.requires.0)))
         ∙ (h.noted place l).place one 2 (omega arith) m
 
-pub returns-in-Is : goal.returns-in-Is
-returns-in-Is c =
-    let made = made_is (held c) (arg_at 2) (arg_at (second c)) (arg_at (third c)) c.make.ensures c.in-Is.is in record {
+pub unwrap-requires : goal.unwrap-requires
+unwrap-requires c =
+    let l : c.form_in.result < 70 = omega (arith, c.form_in.ensures, c.requires.1) in
+    rw (c.make.ensures, lt-ltb c.form_in.result 70 l) (search rules)
+
+pub returns : goal.returns
+returns c =
+    let made = made_is (held c) (arg_at 2) (arg_at (second c)) (arg_at (third c)) c.make.ensures c.unwrap.ensures in record {
       form = ap form_of made.1 ∙ number_back (held c) (arg_at 2) (arg_at (second c)) (arg_at (third c)) made.0 ∙ form_is c;
       means = λ frames count carry owners offsets h l kind agree.
           let t : Slots = slots frames (starts_in c.args.state.now) count (forms_in c.args.state.now) carry owners offsets in

@@ -1,8 +1,8 @@
 -- `store::asking::find_switches` meets its contract: no place before k holds it, so those from k on decide.
 use mathlib.Core.Path.{sym, ◌∙◌, ap}
 use native.Mathlib.Omega.{arith}
+use Rattle.std.specs.Prelude.{Some}
 use Rattle.store.specs.declared.Setting.{Setting}
-use Rattle.store.specs.declared.Held.TheVariants.{Is}
 use Rattle.store.specs.Store.{is_of, find}
 use Rattle.store.proofs.PlaceByPlace.{none_left, find_from}
 use Rattle.store.proofs.asking.find_switches.Goals as goal
@@ -13,7 +13,7 @@ returns-then-is_of c =
     let a = c.args in
     let h = find_from a.room.now l.k (omega arith) a.family a.edition in
     let t = ap (is_of a.family a.edition) (sym c.read_setting-s.ensures) ∙ sym c.is_of.ensures ∙ c.if-is_of.true in
-    rw (l.invariant, h, t) (ap (λ (x : Setting). Is x.switches) c.read_setting-s.ensures)
+    rw (l.invariant, h, t) (ap (λ (x : Setting). Some x.switches) c.read_setting-s.ensures)
 
 pub loop-k-preserved : goal.loop-k-preserved
 loop-k-preserved c =

@@ -1,17 +1,21 @@
 -- `targets::entry::targets` meets its contract, on every input.
+use Rattle.std.proofs.lemmas.Result.{err_from_is_err_and}
+use mathlib.Core.Path.{ap, ◌∙◌}
+use Rattle.std.specs.Prelude.{Err}
 use Rattle.starting.specs.Begun.{accepted}
 use Rattle.starting.proofs.Begins.{begun_read, begun_refused}
 use Rattle.targets.proofs.Answered.{fits_read, told_refused, told_fits}
 use Rattle.targets.proofs.entry.targets.Goals as goal
 
-pub returns-in-Refused : goal.returns-in-Refused
-returns-in-Refused c =
+pub returns-in_err-count : goal.returns-in_err-count
+returns-in_err-count c =
     let text = c.args.listing.now in
-    told_refused c.args.asked text c.args.out.now _ (begun_refused (accepted text) _ _ _ _ c.in-Refused.is c.begin.ensures)
+    let p = err_from_is_err_and c.from_residual.result c.from_residual.ensures.1 in
+    rw (p.1 ∙ ap Err p.2) (told_refused c.args.asked text c.args.out.now _ (begun_refused (accepted text) _ _ _ _ c.in_err-count.was c.begin.ensures))
 
-pub returns-in-Read : goal.returns-in-Read
-returns-in-Read c =
+pub returns : goal.returns
+returns c =
     let text = c.args.listing.now in
     let asked = c.args.asked in
-    let h = begun_read (accepted text) _ _ _ _ c.in-Read.is c.begin.ensures in
+    let h = begun_read (accepted text) _ _ _ _ c.in_ok-count.was c.begin.ensures in
     told_fits asked text c.args.out.now h.0 _ _ h.1 (fits_read asked _ _ h.2.read c.rewrite_and_tell.ensures)

@@ -7,7 +7,7 @@ use Rattle.asm.proofs.Carrying.{placed_any}
 use Rattle.why.proofs.Verdicts.{reason_refused, reason_counts, reason_beyond}
 use Rattle.why.proofs.candidates.reason_of.Goals as goal
 
-abbrev over : (c : goal.In-Refused) → Slots
+abbrev over : (c : goal.In-Err) → Slots
 over c = table_of c.args.frames.now c.args.state.now c.args.count
 
 abbrev over_2 : (c : goal.Then-offsets_fit) → Slots
@@ -29,16 +29,16 @@ judge_linked-requires c =
           (contexts_read c.args.frames.now (starts_in z) c.args.count) c.requires.0.context,
     )
 
-pub returns-in-Refused : goal.returns-in-Refused
-returns-in-Refused c =
-    reason_refused (program_of (over c)) c.judge_linked.result c.judge_linked.ensures.answer _ c.in-Refused.is
+pub returns-in-Err : goal.returns-in-Err
+returns-in-Err c =
+    reason_refused (program_of (over c)) c.judge_linked.result c.judge_linked.ensures.answer _ c.in-Err.is
 
 pub returns-then-offsets_fit : goal.returns-then-offsets_fit
 returns-then-offsets_fit c =
-    reason_counts (program_of (over_2 c)) c.judge_linked.result c.judge_linked.ensures.answer c.offsets_fit.result c.in-Good.is
+    reason_counts (program_of (over_2 c)) c.judge_linked.result c.judge_linked.ensures.answer c.offsets_fit.result c.in_default.is
     c.offsets_fit.ensures c.if-offsets_fit.true
 
 pub returns : goal.returns
 returns c =
-    reason_beyond (program_of (over_3 c)) c.judge_linked.result c.judge_linked.ensures.answer c.offsets_fit.result c.in-Good.is
+    reason_beyond (program_of (over_3 c)) c.judge_linked.result c.judge_linked.ensures.answer c.offsets_fit.result c.in_default.is
     c.offsets_fit.ensures c.if-offsets_fit.false

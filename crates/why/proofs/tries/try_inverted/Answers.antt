@@ -10,7 +10,7 @@ use Rattle.why.proofs.Said.{fold_untried, fold_between, fold_inside, fold_said}
 use Rattle.why.proofs.Found.{inverted_left}
 use Rattle.why.proofs.tries.try_inverted.Goals as goal
 
-module _ (s : goal.In_default) where
+module _ (s : goal.After-from_residual) where
   abbrev old : Slots
   old = table_of s.args.frames.now s.args.state.now s.args.count
 
@@ -41,40 +41,41 @@ module _ (s : goal.After-inverted_reason) where
 -- the shape that stands
 module _ (c : goal.Then-not-no_inner_label_between) where
   abbrev jump : ℕ
-  jump = c.in-At.jump.0
+  jump = c.in_ok-jump.jump.0
 
   abbrev label : ℕ
-  label = c.in-At.m.0
+  label = c.in_ok-jump.m.0
 
   found : InvertedShaped (old_2 c) c.args.from (i_2 c) jump label
-  found = subst (InvertedBegins (old_2 c) c.args.from (i_2 c)) c.in-At.is c.inverted_shape.ensures
+  found = subst (InvertedBegins (old_2 c) c.args.from (i_2 c)) c.in_ok-jump.was c.inverted_shape.ensures
 
 -- the shape that stands
 module _ (c : goal.Then-not-no_interior_label_at) where
   abbrev jump_2 : ℕ
-  jump_2 = c.in-At.jump.0
+  jump_2 = c.in_ok-jump.jump.0
 
   abbrev label_2 : ℕ
-  label_2 = c.in-At.m.0
+  label_2 = c.in_ok-jump.m.0
 
   found_2 : InvertedShaped (old_3 c) c.args.from (i_3 c) jump_2 label_2
-  found_2 = subst (InvertedBegins (old_3 c) c.args.from (i_3 c)) c.in-At.is c.inverted_shape.ensures
+  found_2 = subst (InvertedBegins (old_3 c) c.args.from (i_3 c)) c.in_ok-jump.was c.inverted_shape.ensures
 
 -- the shape that stands
 module _ (c : goal.After-inverted_reason) where
   abbrev jump_3 : ℕ
-  jump_3 = c.in-At.jump.0
+  jump_3 = c.in_ok-jump.jump.0
 
   abbrev label_3 : ℕ
-  label_3 = c.in-At.m.0
+  label_3 = c.in_ok-jump.m.0
 
   found_3 : InvertedShaped (old_4 c) c.args.from (i_4 c) jump_3 label_3
-  found_3 = subst (InvertedBegins (old_4 c) c.args.from (i_4 c)) c.in-At.is c.inverted_shape.ensures
+  found_3 = subst (InvertedBegins (old_4 c) c.args.from (i_4 c)) c.in_ok-jump.was c.inverted_shape.ensures
 
-pub returns-in_default : goal.returns-in_default
-returns-in_default c =
-    fold_untried (program_of (old c)) (inverted c.args.from c.args.to) (i c)
-    (subst (InvertedBegins (old c) c.args.from (i c)) c.in_default.is c.inverted_shape.ensures c.args.to)
+pub returns-in_err-jump : goal.returns-in_err-jump
+returns-in_err-jump c =
+    c.from_residual.ensures
+    ∙ fold_untried (program_of (old c)) (inverted c.args.from c.args.to) (i c)
+    (subst (InvertedBegins (old c) c.args.from (i c)) c.in_err-jump.was c.inverted_shape.ensures c.args.to)
 
 pub returns-then-not-no_inner_label_between : goal.returns-then-not-no_inner_label_between
 returns-then-not-no_inner_label_between c =

@@ -10,7 +10,7 @@ use Rattle.why.proofs.Said.{fold_untried, fold_between, fold_inside, fold_said}
 use Rattle.why.proofs.Found.{bounced_left}
 use Rattle.why.proofs.tries.try_trampoline.Goals as goal
 
-module _ (s : goal.In_default) where
+module _ (s : goal.After-from_residual) where
   abbrev old : Slots
   old = table_of s.args.frames.now s.args.state.now s.args.count
 
@@ -41,58 +41,59 @@ module _ (s : goal.After-bounced_reason) where
 -- the shape that stands
 module _ (c : goal.Then-not-no_inner_label_between) where
   abbrev skip : ℕ
-  skip = c.in-At.skip.0
+  skip = c.in_ok-skip.skip.0
 
   abbrev target : ℕ
-  target = c.in-At.t.0
+  target = c.in_ok-skip.t.0
 
   abbrev last : ℕ
-  last = c.in-At.last.0
+  last = c.in_ok-skip.last.0
 
   abbrev label : ℕ
-  label = c.in-At.s.0
+  label = c.in_ok-skip.s.0
 
   found : TrampolineShaped (old_2 c) c.args.form (i_2 c) skip target last label
-  found = subst (TrampolineBegins (old_2 c) c.args.form (i_2 c)) c.in-At.is c.trampoline_shape.ensures
+  found = subst (TrampolineBegins (old_2 c) c.args.form (i_2 c)) c.in_ok-skip.was c.trampoline_shape.ensures
 
 -- the shape that stands
 module _ (c : goal.Then-not-no_interior_label_at) where
   abbrev skip_2 : ℕ
-  skip_2 = c.in-At.skip.0
+  skip_2 = c.in_ok-skip.skip.0
 
   abbrev target_2 : ℕ
-  target_2 = c.in-At.t.0
+  target_2 = c.in_ok-skip.t.0
 
   abbrev last_2 : ℕ
-  last_2 = c.in-At.last.0
+  last_2 = c.in_ok-skip.last.0
 
   abbrev label_2 : ℕ
-  label_2 = c.in-At.s.0
+  label_2 = c.in_ok-skip.s.0
 
   found_2 : TrampolineShaped (old_3 c) c.args.form (i_3 c) skip_2 target_2 last_2 label_2
-  found_2 = subst (TrampolineBegins (old_3 c) c.args.form (i_3 c)) c.in-At.is c.trampoline_shape.ensures
+  found_2 = subst (TrampolineBegins (old_3 c) c.args.form (i_3 c)) c.in_ok-skip.was c.trampoline_shape.ensures
 
 -- the shape that stands
 module _ (c : goal.After-bounced_reason) where
   abbrev skip_3 : ℕ
-  skip_3 = c.in-At.skip.0
+  skip_3 = c.in_ok-skip.skip.0
 
   abbrev target_3 : ℕ
-  target_3 = c.in-At.t.0
+  target_3 = c.in_ok-skip.t.0
 
   abbrev last_3 : ℕ
-  last_3 = c.in-At.last.0
+  last_3 = c.in_ok-skip.last.0
 
   abbrev label_3 : ℕ
-  label_3 = c.in-At.s.0
+  label_3 = c.in_ok-skip.s.0
 
   found_3 : TrampolineShaped (old_4 c) c.args.form (i_4 c) skip_3 target_3 last_3 label_3
-  found_3 = subst (TrampolineBegins (old_4 c) c.args.form (i_4 c)) c.in-At.is c.trampoline_shape.ensures
+  found_3 = subst (TrampolineBegins (old_4 c) c.args.form (i_4 c)) c.in_ok-skip.was c.trampoline_shape.ensures
 
-pub returns-in_default : goal.returns-in_default
-returns-in_default c =
-    fold_untried (program_of (old c)) (trampoline c.args.form) (i c)
-    (subst (TrampolineBegins (old c) c.args.form (i c)) c.in_default.is c.trampoline_shape.ensures)
+pub returns-in_err-skip : goal.returns-in_err-skip
+returns-in_err-skip c =
+    c.from_residual.ensures
+    ∙ fold_untried (program_of (old c)) (trampoline c.args.form) (i c)
+    (subst (TrampolineBegins (old c) c.args.form (i c)) c.in_err-skip.was c.trampoline_shape.ensures)
 
 pub returns-then-not-no_inner_label_between : goal.returns-then-not-no_inner_label_between
 returns-then-not-no_inner_label_between c =
