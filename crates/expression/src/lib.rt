@@ -11,7 +11,7 @@ mod worth; // what an expression is worth
 
 pub use labels::{defines, holds_label, is_seen};
 pub use naming::{count_links, is_bare};
-pub use reading::{read_expr, tag_of};
+pub use reading::{read_expr, tag_of, width};
 use rules::Unvalued;
 pub use values::{apply_one, apply_two};
 pub use worth::linked_worth;
