@@ -23,7 +23,10 @@ fn put_text(out: &mut [u8], at: usize, s: &[u8])
     requires { at + length s.now ≤ length out.old }
     ensures { out.new ≡ laid out.old at s.now }
 {
-    out[at..at + s.len()].copy_from_slice(s);
+    // by hand: `copy_from_slice` of what is lent beside the room would ask for `memmove` from outside the archive
+    for (k, c) in s.iter().enumerate() {
+        out[at + k] = *c;
+    }
 }
 
 // The bytes of a head, and behind them a frame; where the line ends.
