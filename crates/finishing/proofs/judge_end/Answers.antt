@@ -1,5 +1,5 @@
 -- `finishing::judge_end` meets its contract: an end form assembles, and both rooms are judged before a byte is written.
-use mathlib.Core.Path.{ap, ◌∙◌}
+use mathlib.Core.Path.{◌≡◌, ap, ◌∙◌}
 use native.Mathlib.Omega.{arith}
 use lib.ListN.{length}
 use borrow.Author.Rules.{rules}
@@ -37,6 +37,20 @@ pub overflow_mul-count_stems : goal.overflow_mul-count_stems
 overflow_mul-count_stems c =
     omega (arith, c.count_stems.ensures, kept_few (forms_in c.args.state.now) c.args.count, c.requires.0.sound.held.few)
 
+-- what was counted is the length of the end form's listing
+text_counted : (c : goal.Joined-then-out-listing_size) →
+    let a = c.args in
+    let t : Tables = tables_of a.frames.now a.state.now a.count a.links.now c.judge_linked.new.values c.judge_linked.new.positions in
+    c.text_length-listing_size.result
+    ≡ length (result_of (beside_in a.wanted.marked a.lines.now a.count) (program t) a.rewrites).listing
+text_counted c =
+    let a = c.args in
+    let z = a.state.now in
+    let t : Tables = tables_of a.frames.now z a.count a.links.now c.judge_linked.new.values c.judge_linked.new.positions in
+    let good : Assembled t = assembled_by _ _ c.in_ok-judge_linked.was c.judge_linked.ensures in
+    let beside = beside_in a.wanted.marked a.lines.now a.count in
+    c.text_length-listing_size.ensures beside.lines (offsets_in z) good.ready.sound ∙ ap length (listing_result beside t.slots a.rewrites)
+
 -- one of the rooms is too short
 pub returns-then-out-listing_size : goal.returns-then-out-listing_size
 returns-then-out-listing_size c =
@@ -46,12 +60,11 @@ returns-then-out-listing_size c =
     let good : Assembled t = assembled_by _ _ c.in_ok-judge_linked.was c.judge_linked.ensures in
     let beside = beside_in a.wanted.marked a.lines.now a.count in
     let o = result_of beside (program t) a.rewrites in
-    let text = c.text_length-listing_size.ensures beside.lines (offsets_in z) good.ready.sound ∙ ap length (listing_result beside t.slots a.rewrites) in
     let counted = c.image_length-image_size.ensures (carry_in z) (owners_in z) (offsets_in z) _ _ good.ready (assembled_encodes t good)
     ∙ ap length (image_result t good beside a.rewrites) in
     elim c.then-out-listing_size.branch [
       | then-out-listing_size-via-then-out-listing_size w ↦ fitted_listing a.count a.wanted.list o a.out.now a.image.now
-          (omega (arith, w.if-out-listing_size.true, text))
+          (omega (arith, w.if-out-listing_size.true, text_counted c))
       | then-out-listing_size-via-else-out-listing_size+then-image-image_size w ↦ fitted_image a.count a.wanted.list o a.out.now a.image.now
           (omega (arith, w.if-image-image_size.true, counted))
       | then-out-listing_size-via-else-out-listing_size+else-image-image_size+then-wanted-count_stems w ↦
