@@ -8,7 +8,8 @@ pub fn count_alike(wanted: &[u8], shipped: &[u8]) -> usize
         × (result ≤ length shipped.now) }
 {
     for (i, (w, s)) in wanted.iter().zip(shipped).enumerate() {
-        if *w != *s {
+        let differs = *w != *s;
+        if differs {
             return i;
         }
     }

@@ -25,7 +25,8 @@ pub enum Whose {
 fn same_form(first: &[u8], second: &[u8]) -> bool
     ensures { result ≡ same_form (form_in (lines_of first.now)) (form_in (lines_of second.now)) }
 {
-    new_form(first) == new_form(second)
+    let lined = new_form(first);
+    lined == new_form(second)
 }
 
 // The pairs of a list, if there is one, or of what both begin and end with: how many, or 13.

@@ -101,6 +101,7 @@ fn put_instruction(s: &[u8], form: u8, n: Address, frame: &mut [u8]) -> Option<u
 }
 
 // The statement that the bytes s begin with, which lie at q.
+#[tactic(auto, using(instruction::proofs::Numbers::size_bound))]
 pub fn frame_at(s: &[u8], q: Address, frame: &mut [u8]) -> Step
     requires { (1 ≤ length s.now) × (q.0 + length s.now ≤ 65536) × (17 ≤ length frame.old) }
     ensures { FrameOf q.0 s.now result frame.new }

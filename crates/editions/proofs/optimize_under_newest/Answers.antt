@@ -1,20 +1,25 @@
 -- `editions::optimize_under_newest` meets its contract: what is asked of the store, then the run under it.
+use mathlib.Core.Path.{◌≡◌, refl}
+use Rattle.std.proofs.Common.{Ok, Err, rules}
 use Rattle.std.proofs.lemmas.Result.{err_from_is_err_and}
-use Rattle.store.specs.Rooms.{newest_in}
+use Rattle.store.specs.Rooms.{newest_in, found_as}
 use Rattle.editions.proofs.FoundFirst.{found_not, found_is, delivered}
 use Rattle.editions.proofs.optimize_under_newest.Goals as goal
 
+-- what the store answers, by the answer that the code goes on with, however it comes to it
 pub returns-in_err-newest : goal.returns-in_err-newest
 returns-in_err-newest c =
     let a = c.args in
     let x = newest_in a.store.now a.family in
+    let q : found_as x ≡ Err c.in_err-newest.field-0.0 = search rules in
     let p = err_from_is_err_and c.from_residual.result c.from_residual.ensures.1 in
-    rw (p.1, p.2) (delivered a.listing.now a.out.now a.image.now x c.get_newest.result _ _ _ c.get_newest.ensures
-    (found_not a.listing.now a.out.now a.image.now _ _ c.in_err-newest.was))
+    rw (p.1, p.2) (delivered a.listing.now a.out.now a.image.now x (found_as x) _ _ _ refl
+    (found_not a.listing.now a.out.now a.image.now _ _ q))
 
 pub returns : goal.returns
 returns c =
     let a = c.args in
     let x = newest_in a.store.now a.family in
-    delivered a.listing.now a.out.now a.image.now x c.get_newest.result _ _ _ c.get_newest.ensures
-    (found_is a.listing.now a.out.now a.image.now _ _ _ _ _ c.in_ok-newest.was c.optimize_jumps.ensures)
+    let q : found_as x ≡ Ok c.in_ok-newest.newest = search rules in
+    delivered a.listing.now a.out.now a.image.now x (found_as x) _ _ _ refl
+    (found_is a.listing.now a.out.now a.image.now _ _ _ _ _ q c.optimize_jumps.ensures)

@@ -1,4 +1,5 @@
 -- `audit::comparing::count_alike` meets its contract. The loop's invariant: what is the same in what is left is counted behind what was passed.
+use borrow.Author.Rules.{rules}
 use mathlib.Core.Path.{ap, ap₂, ◌∙◌}
 use mathlib.Core.List.{List}
 use mathlib.Core.Logic.{inl, inr}
@@ -9,18 +10,18 @@ use Rattle.audit.specs.Audit.{alike}
 use Rattle.audit.proofs.Alike.{alike_same, alike_other, alike_ended}
 use Rattle.audit.proofs.comparing.count_alike.Goals as goal
 
-pub returns-then-w-s : goal.returns-then-w-s
-returns-then-w-s c =
+pub returns-then-differs : goal.returns-then-differs
+returns-then-differs c =
     let h = c.in-Some.ensures.steps in
     let v = c.loop-i.invariant in
-    let z = ap₂ alike h.0.0 h.0.1 ∙ alike_other _ _ _ _ c.if-w-s.true in
+    let z = ap₂ alike h.0.0 h.0.1 ∙ alike_other _ _ _ _ (search rules) in
     (omega (arith, v.0, z, h.1), omega (arith, v.1, h.1), omega (arith, v.2, h.1))
 
 pub loop-i-preserved : goal.loop-i-preserved
 loop-i-preserved c =
     let h = c.in-Some.ensures.steps in
     let v = c.loop-i.invariant in
-    let z = ap₂ alike h.0.0 h.0.1 ∙ alike_same _ _ _ _ c.if-w-s.false in
+    let z = ap₂ alike h.0.0 h.0.1 ∙ alike_same _ _ _ _ (search rules) in
     let a = ap (λ (l : List ℕ). length l) h.0.0 in
     let b = ap (λ (l : List ℕ). length l) h.0.1 in
     (omega (arith, v.0, z, h.2), omega (arith, v.1, a, h.2), omega (arith, v.2, b, h.2))

@@ -16,4 +16,4 @@ pub returns : goal.returns
 returns c =
     let t = c.args.first.now in
     let u = c.args.second.now in
-    rw (mark_form t, mark_form u, ← c.new_form.ensures.0, ← c.new_form-2.ensures.0) (both c.new_form.result c.new_form-2.result)
+    rw (mark_form t, mark_form u, ← c.new_form-lined.ensures.0, ← c.new_form.ensures.0) (both c.new_form-lined.result c.new_form.result)

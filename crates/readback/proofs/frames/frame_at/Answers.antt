@@ -3,7 +3,10 @@ use mathlib.Core.Path.{◌≡◌, refl, subst, sym}
 use mathlib.Core.List.{List}
 use Prim.Native.Nat.{ℕ, ◌+◌, ◌<◌, ◌≤◌}
 use native.Mathlib.Omega.{arith}
-use lib.ListN.{length, get_or}
+use lib.ListN.{length, get_or, take}
+use lib.Seq.{take-length}
+use Rattle.rules.specs.Output.{frame_of}
+use Rattle.readback.specs.ReadBack.{data_of}
 use Rattle.std.specs.Prelude.{Option}
 use Rattle.rules.specs.Forms.{size_at}
 use Rattle.instruction.proofs.Numbers.{size_bound}
@@ -25,16 +28,13 @@ instruction s q f n room x w e g h i =
     let b = subst (λ (g : ℕ). Instruction g s (q + n) w room) g a in
     subst (λ (m : ℕ). Instruction (form s) s (q + m) w room) h b
 
-pub put_data-requires : goal.put_data-requires
-put_data-requires c =
-    (omega (arith, c.if-n-size.true, c.decode-opcode.ensures.1, size_bound (form c.args.s.now)), c.requires.2)
-
 pub returns-then-n-size : goal.returns-then-n-size
 returns-then-n-size c =
     let s = c.args.s.now in
     let d = c.put_data in
     let l : length s < size_at (form s) = omega (arith, c.if-n-size.true, c.decode-opcode.ensures.1) in
-    cut_frame c.args.q.0 s (form s) refl d.result d.new.frame d.ensures.1 l c.requires.0 d.ensures.0
+    let all : take d.result d.new.frame ≡ frame_of (data_of s) = cc (d.ensures.0, take-length s) in
+    cut_frame c.args.q.0 s (form s) refl d.result d.new.frame d.ensures.1 l c.requires.0 all
 
 pub put_instruction-requires : goal.put_instruction-requires
 put_instruction-requires c =

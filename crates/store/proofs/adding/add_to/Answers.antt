@@ -1,5 +1,6 @@
 -- `store::adding::add_to` meets its contract: no free place, no number left, or the new edition in the first free place.
 use mathlib.Core.Path.{sym, ◌∙◌, ap}
+use mathlib.Core.Logic.{inl, inr}
 use Prim.Native.Nat.{ℕ, ◌+◌}
 use native.Mathlib.Omega.{arith}
 use borrow.Author.Rules.{rules}
@@ -10,15 +11,14 @@ use Rattle.store.specs.Store.{added, add}
 use Rattle.store.specs.Rooms.{store_in, with_place}
 use Rattle.store.proofs.Answered.{leaves_no, leaves_ok, no_place, no_number, next_number, added_room}
 use Rattle.store.proofs.adding.add_to.Goals as goal
-use Rattle.store.proofs.adding.add_to.Goals.{then-k-ge32-via-then-k-ge32, then-k-ge32-via-else-k-ge32+then-top-ge65535}
 
 pub returns-then-k-ge32 : goal.returns-then-k-ge32
 returns-then-k-ge32 c =
     let a = c.args in
     let ss = store_in a.room.now in
-    leaves_no a.room.now (add a.family ss) (added a.family a.switches ss) Full (elim c.then-k-ge32.branch [
-      | then-k-ge32-via-then-k-ge32 w ↦ no_place a.family ss (c.first_free-k.ensures.some ∙ le-ltb c.first_free-k.result 32 w.if-k-ge32.true)
-      | then-k-ge32-via-else-k-ge32+then-top-ge65535 w ↦ no_number a.family ss (omega (arith, c.newest_of-top.ensures, w.if-top-ge65535.true))
+    leaves_no a.room.now (add a.family ss) (added a.family a.switches ss) Full (elim c.then-k-ge32.either [
+      | inl w ↦ no_place a.family ss (c.first_free-k.ensures.some ∙ le-ltb c.first_free-k.result 32 w)
+      | inr w ↦ no_number a.family ss (omega (arith, c.newest_of-top.ensures, w.1))
     ])
 
 pub returns : goal.returns
