@@ -19,8 +19,8 @@ use rules::Tag;
 pub fn defines(n: u32, k: u16, name: u16, context: u16) -> bool
     ensures { result ≡ is_here n k name context }
 {
-    // By branches, and the name first: by `&&` and `||` the loops over all names look at each place's context too, and take up to 2.7
-    // times as long.
+    // By branches, and the name first: by `&&` and `||` the loops over all names look at each place's context too, and a run has up to 2.7
+    // times the instructions.
     if n != u32::from(name) {
         false
     } else if name < 0x8000 {
